@@ -1,0 +1,4 @@
+pub mod Decimals
+pub mod Published
+pub mod Quantities
+pub mod Rounding

@@ -1,0 +1,140 @@
+//! The numbers that every layer above speaks of: amounts in millionths, instants, days and sites.
+
+ghost use Rattle.std.specs.Prelude.{◌≡◌, ◌^◌, ◌<◌, ◌≤◌, ◌↔◌, ℤ, pos, neg_ℤ, ◌≤ℤ◌, IsSome, IfSome, if◌then◌else◌};
+ghost use Rattle.fixed_units.specs.Quantities.{IsMicro, IsSecond, IsDay};
+
+use std::marker::Model;
+
+/// A whole number of millionths of a foot or of a cubic foot per second, from -10^17 to 10^17.
+#[derive(Clone, Copy, Debug, PartialEq, Eq, PartialOrd, Ord)]
+pub struct Micro {
+    millionths: i64,
+}
+
+impl Model for Micro {
+    ghost use Rattle.std.specs.Prelude.{ℤ};
+    ghost use Rattle.fixed_units.specs.Quantities.{IsMicro};
+
+    ghost Value = { ℤ };
+
+    ghost view = { λ m. m.millionths };
+
+    ghost invariant = { λ m. IsMicro m.millionths };
+
+    ghost inverse = { λ n. record { millionths = n } };
+}
+
+impl Micro {
+    /// The quantity of that many millionths, or `None` exactly where it is out of range.
+    pub fn new(value: i64) -> Option<Micro>
+        ensures range { IsSome result ↔ IsMicro value }
+        ensures value { IfSome result (λ m. m ≡ value) }
+    {
+        if (-100_000_000_000_000_000..=100_000_000_000_000_000).contains(&value) {
+            Some(Micro { millionths: value })
+        } else {
+            None
+        }
+    }
+
+    /// The quantity of a sign and a magnitude of at most 10^13 millionths.
+    pub(crate) fn of_magnitude(negative: bool, magnitude: u64) -> Micro
+        requires { magnitude ≤ 10 ^ 13 }
+        ensures { result ≡ (if negative then neg_ℤ (pos magnitude) else pos magnitude) }
+    {
+        let value = magnitude as i64;
+        Micro {
+            millionths: if negative { -value } else { value },
+        }
+    }
+
+    /// The number of millionths.
+    pub fn get(self) -> i64
+        ensures value { result ≡ self }
+        ensures range { IsMicro self }
+    {
+        self.millionths
+    }
+}
+
+/// An instant: seconds from 1970-01-01T00:00:00Z, without leap seconds, from -10^10 to 10^10.
+#[derive(Clone, Copy, Debug, PartialEq, Eq, PartialOrd, Ord)]
+pub struct Second {
+    seconds: i64,
+}
+
+impl Model for Second {
+    ghost use Rattle.std.specs.Prelude.{ℤ};
+    ghost use Rattle.fixed_units.specs.Quantities.{IsSecond};
+
+    ghost Value = { ℤ };
+
+    ghost view = { λ s. s.seconds };
+
+    ghost invariant = { λ s. IsSecond s.seconds };
+
+    ghost inverse = { λ n. record { seconds = n } };
+}
+
+impl Second {
+    /// The instant of that many seconds, or `None` exactly where it is out of range.
+    pub fn new(value: i64) -> Option<Second>
+        ensures range { IsSome result ↔ IsSecond value }
+        ensures value { IfSome result (λ s. s ≡ value) }
+    {
+        if (-10_000_000_000..=10_000_000_000).contains(&value) {
+            Some(Second { seconds: value })
+        } else {
+            None
+        }
+    }
+
+    /// The number of seconds.
+    pub fn get(self) -> i64
+        ensures value { result ≡ self }
+        ensures range { IsSecond self }
+    {
+        self.seconds
+    }
+}
+
+/// A day of the calendar, counted from 1970-01-01: from -25,567 (1900-01-01) to 47,481 (2099-12-31).
+#[derive(Clone, Copy, Debug, PartialEq, Eq, PartialOrd, Ord)]
+pub struct Day {
+    number: i32,
+}
+
+impl Model for Day {
+    ghost use Rattle.std.specs.Prelude.{ℤ};
+    ghost use Rattle.fixed_units.specs.Quantities.{IsDay};
+
+    ghost Value = { ℤ };
+
+    ghost view = { λ d. d.number };
+
+    ghost invariant = { λ d. IsDay d.number };
+
+    ghost inverse = { λ n. record { number = n } };
+}
+
+impl Day {
+    /// The day of that number, or `None` exactly where it is out of range.
+    pub fn new(value: i32) -> Option<Day>
+        ensures range { IsSome result ↔ IsDay value }
+        ensures value { IfSome result (λ d. d ≡ value) }
+    {
+        if (-25_567..=47_481).contains(&value) {
+            Some(Day { number: value })
+        } else {
+            None
+        }
+    }
+
+    /// The number of the day.
+    pub fn get(self) -> i32
+        ensures value { result ≡ self }
+        ensures range { IsDay self }
+    {
+        self.number
+    }
+}

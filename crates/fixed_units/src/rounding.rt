@@ -1,0 +1,41 @@
+//! Division that rounds to the nearest whole number.
+
+ghost use Rattle.std.specs.Prelude.{◌≡◌, ◌+◌, ◌*◌, ◌/◌, ◌^◌, ◌<◌, ◌≤◌, ℤ, pos, neg_ℤ, ◌≤ℤ◌, ◌<ℤ◌};
+ghost use Rattle.fixed_units.specs.Rounding.{IsRounded, round};
+
+/// The whole number nearest to `num / den`, of two equally near the one farther from zero. `num` is
+/// at most 10^37 either way, and `den` is above 0.
+pub fn div_half_away(num: i128, den: i128) -> i128
+    requires positive { pos 0 <ℤ den }
+    requires low { neg_ℤ (pos (10 ^ 37)) ≤ℤ num }
+    requires high { num ≤ℤ pos (10 ^ 37) }
+    ensures nearest { IsRounded num den result }
+    ensures value { result ≡ round num den }
+{
+    let magnitude = round_up(num.unsigned_abs(), den.unsigned_abs());
+    if num < 0 {
+        -(magnitude as i128)
+    } else {
+        magnitude as i128
+    }
+}
+
+/// The whole number nearest to `num / den`, of two equally near the greater one.
+fn round_up(num: u128, den: u128) -> u128
+    requires positive { 0 < den }
+    requires small { num ≤ 10 ^ 37 }
+    requires narrow { den < 2 ^ 127 }
+    ensures { result ≡ (2 * num + den) / (2 * den) }
+{
+    (2 * num + den) / (2 * den)
+}
+
+/// No two numbers are nearest to one quotient.
+pub fn rounding_is_unique()
+    ensures { (n d q p : ℤ) → pos 0 <ℤ d → IsRounded n d q → IsRounded n d p → q ≡ p }
+{}
+
+/// Each quotient has a nearest whole number, which is what `round` computes.
+pub fn round_is_rounded()
+    ensures { (n d : ℤ) → pos 0 <ℤ d → IsRounded n d (round n d) }
+{}

@@ -1,0 +1,62 @@
+-- Whether a reading that is put alters a window, by what its neighbours in the list say.
+use Rattle.std.specs.Prelude.{◌≡◌, ◌≢◌, true, false, List, ℤ, ◌<ℤ◌, ◌≤ℤ◌, ◌-ℤ◌, int_le, find, reverse, Option, Contains, All}
+use Rattle.std.proofs.Common.{ap, sym, ◌∙◌, subst}
+use Rattle.fixed_units.specs.declared.readings.Reading.{Reading}
+use Rattle.readings.specs.Readings.{IsRising, before_instant, after_instant, at_instant, put, is_used}
+use Rattle.readings.specs.Window.{window, is_found_in_day}
+use Rattle.readings.proofs.Instants.{yes_le, no_le}
+use Rattle.readings.proofs.FarReadings.{early_far_put, late_far_put}
+use Rattle.readings.proofs.HiddenReadings.{early_hidden_put, late_hidden_put}
+use Rattle.readings.proofs.ShownReadings.{early_changed, late_changed, none_same, put_same}
+
+-- what is the same about each return: the list, its parts, and the parts' used readings
+pub record IsEarly (a b gap : ℤ) (r : Reading) (rs : List Reading) (found : Option Reading) : Type 0 where
+  pub rising : IsRising rs
+  pub ordered : a ≤ℤ b
+  pub early : r.at <ℤ a
+  pub next : found ≡ find is_used (after_instant r.at rs)
+
+pub record IsLate (a b gap : ℤ) (r : Reading) (rs : List Reading) (found : Option Reading) : Type 0 where
+  pub rising : IsRising rs
+  pub ordered : a ≤ℤ b
+  pub late : b ≤ℤ r.at
+  pub last : found ≡ find is_used (reverse (before_instant r.at rs))
+
+pub early_alters : (a b gap : ℤ) (r : Reading) (rs : List Reading) (found : Option Reading) → IsEarly a b gap r rs found
+    → All (λ s. s ≢ r) rs → is_used r ≡ true → is_found_in_day a b found ≡ true → int_le (a -ℤ r.at) gap ≡ true
+    → window a b gap (put r rs) ≢ window a b gap rs
+early_alters a b gap r rs found h o u d n =
+    early_changed a b gap r rs h.rising o u h.early (yes_le (a -ℤ r.at) gap n) (ap (is_found_in_day a b) (sym h.next) ∙ d)
+
+pub late_alters : (a b gap : ℤ) (r : Reading) (rs : List Reading) (found : Option Reading) → IsLate a b gap r rs found
+    → All (λ s. s ≢ r) rs → is_used r ≡ true → is_found_in_day a b found ≡ true → int_le (r.at -ℤ b) gap ≡ true
+    → window a b gap (put r rs) ≢ window a b gap rs
+late_alters a b gap r rs found h o u d n =
+    late_changed a b gap r rs h.rising o u h.late (yes_le (r.at -ℤ b) gap n) (ap (is_found_in_day a b) (sym h.last) ∙ d)
+
+pub early_leaves : (a b gap : ℤ) (r : Reading) (rs : List Reading) (found : Option Reading) → IsEarly a b gap r rs found
+    → is_found_in_day a b found ≡ false → window a b gap (put r rs) ≡ window a b gap rs
+early_leaves a b gap r rs found h d =
+    early_hidden_put a b gap r rs h.rising h.ordered h.early (ap (is_found_in_day a b) (sym h.next) ∙ d)
+
+pub late_leaves : (a b gap : ℤ) (r : Reading) (rs : List Reading) (found : Option Reading) → IsLate a b gap r rs found
+    → is_found_in_day a b found ≡ false → window a b gap (put r rs) ≡ window a b gap rs
+late_leaves a b gap r rs found h d =
+    late_hidden_put a b gap r rs h.rising h.ordered h.late (ap (is_found_in_day a b) (sym h.last) ∙ d)
+
+pub early_too_far : (a b gap : ℤ) (r : Reading) (rs : List Reading) (found : Option Reading) → IsEarly a b gap r rs found
+    → int_le (a -ℤ r.at) gap ≡ false → window a b gap (put r rs) ≡ window a b gap rs
+early_too_far a b gap r rs found h n = early_far_put a b gap r rs h.rising h.ordered h.early (no_le (a -ℤ r.at) gap n)
+
+pub late_too_far : (a b gap : ℤ) (r : Reading) (rs : List Reading) (found : Option Reading) → IsLate a b gap r rs found
+    → int_le (r.at -ℤ b) gap ≡ false → window a b gap (put r rs) ≡ window a b gap rs
+late_too_far a b gap r rs found h n = late_far_put a b gap r rs h.rising h.ordered h.late (no_le (r.at -ℤ b) gap n)
+
+-- a list of which the readings at an instant are these
+pub there_leaves : (a b gap : ℤ) (r : Reading) (rs here : List Reading) → IsRising rs → here ≡ at_instant r.at rs → Contains here r
+    → window a b gap (put r rs) ≡ window a b gap rs
+there_leaves a b gap r rs here h e k = ap (window a b gap) (put_same r rs h (subst (λ (l : List Reading). Contains l r) e k))
+
+pub not_there : (r : Reading) (rs here : List Reading) → IsRising rs → here ≡ at_instant r.at rs → All (λ s. s ≢ r) here
+    → All (λ s. s ≢ r) rs
+not_there r rs here h e k = none_same r rs h (subst (λ (l : List Reading). All (λ s. s ≢ r) l) e k)

@@ -1,0 +1,131 @@
+-- What `filter` and `find` give where all or none of a list passes, and across joins and reversals.
+use Rattle.std.specs.Prelude.{◌≡◌, Bool, true, false, cond, ◌&&◌, List, [], ◌∷◌, ◌++◌, suc, filter, find, reverse, Option, Some, None, All, AllPairs, MatchOption}
+use Rattle.std.proofs.Common.{arith, refl, ap, sym, ◌∙◌}
+use Rattle.std.proofs.lemmas.Grind.{reverse_onto}
+use Rattle.std.proofs.lemmas.List.{append-nil}
+use Rattle.std.proofs.lemmas.List.Elements.{All-head, All-tail, All-cons, All-nil, All-append, filter-append}
+use Rattle.std.proofs.lemmas.List.Kept.{AllPairs-cons}
+
+pub filter_all : {X : Type 0} (p : X → Bool) (xs : List X) → All (λ x. p x ≡ true) xs → filter p xs ≡ xs
+filter_all p [] h = refl
+filter_all p (x ∷ xs) h =
+    let e = All-head (λ x. p x ≡ true) x xs h in
+    let f = filter_all p xs (All-tail (λ x. p x ≡ true) x xs h) in
+    rw (e, f)
+
+pub filter_none : {X : Type 0} (p : X → Bool) (xs : List X) → All (λ x. p x ≡ false) xs → filter p xs ≡ []
+filter_none p [] h = refl
+filter_none p (x ∷ xs) h =
+    let e = All-head (λ x. p x ≡ false) x xs h in
+    rw e (filter_none p xs (All-tail (λ x. p x ≡ false) x xs h))
+
+pub find_none : {X : Type 0} (p : X → Bool) (xs : List X) → All (λ x. p x ≡ false) xs → find p xs ≡ None
+find_none p [] h = refl
+find_none p (x ∷ xs) h =
+    let e = All-head (λ x. p x ≡ false) x xs h in
+    rw e (find_none p xs (All-tail (λ x. p x ≡ false) x xs h))
+
+none_found_step : {X : Type 0} (p : X → Bool) (x : X) (xs : List X) (b : Bool) → p x ≡ b → cond b (Some x) (find p xs) ≡ None
+    → (find p xs ≡ None → All (λ x. p x ≡ false) xs) → All (λ x. p x ≡ false) (x ∷ xs)
+none_found_step p x xs true e h k = absurd (cc)
+none_found_step p x xs false e h k = All-cons (λ x. p x ≡ false) x xs e (k h)
+
+pub none_found : {X : Type 0} (p : X → Bool) (xs : List X) → find p xs ≡ None → All (λ x. p x ≡ false) xs
+none_found p [] h = All-nil (λ x. p x ≡ false)
+none_found p (x ∷ xs) h = none_found_step p x xs (p x) refl h (none_found p xs)
+
+both_step : {X : Type 0} (p : X → Bool) (x : X) (b c : Bool) → p x ≡ b → (o : Option X) (zs : List X) → o ≡ find p zs
+    → cond (b && c) (Some x) o ≡ find p (cond c (x ∷ zs) zs)
+both_step p x true true e o zs h = rw e refl
+both_step p x true false e o zs h = h
+both_step p x false true e o zs h = rw e h
+both_step p x false false e o zs h = h
+
+-- the elements that pass two tests are those that pass one of those that pass the other
+pub find_both : {X : Type 0} (p q : X → Bool) (xs : List X) → find (λ x. p x && q x) xs ≡ find p (filter q xs)
+find_both p q [] = refl
+find_both p q (x ∷ xs) = both_step p x (p x) (q x) refl (find (λ x. p x && q x) xs) (filter q xs) (find_both p q xs)
+
+filter_both_step : {X : Type 0} (p : X → Bool) (x : X) (b c : Bool) → p x ≡ b → (ys zs : List X) → ys ≡ filter p zs
+    → cond (b && c) (x ∷ ys) ys ≡ filter p (cond c (x ∷ zs) zs)
+filter_both_step p x true true e ys zs h = rw (e, h)
+filter_both_step p x true false e ys zs h = h
+filter_both_step p x false true e ys zs h = rw e h
+filter_both_step p x false false e ys zs h = h
+
+pub filter_both : {X : Type 0} (p q : X → Bool) (xs : List X) → filter (λ x. p x && q x) xs ≡ filter p (filter q xs)
+filter_both p q [] = refl
+filter_both p q (x ∷ xs) = filter_both_step p x (p x) (q x) refl (filter (λ x. p x && q x) xs) (filter q xs) (filter_both p q xs)
+
+pub reverse-cons : {X : Type 0} (x : X) (xs : List X) → reverse (x ∷ xs) ≡ reverse xs ++ x ∷ []
+reverse-cons x xs = reverse_onto xs x []
+
+reverse_step : {X : Type 0} (x : X) (b : Bool) (ys zs : List X) → reverse ys ≡ zs
+    → reverse (cond b (x ∷ ys) ys) ≡ zs ++ cond b (x ∷ []) []
+reverse_step x true ys zs h = reverse-cons x ys ∙ ap (λ l. l ++ x ∷ []) h
+reverse_step x false ys zs h = h ∙ sym (append-nil zs)
+
+pub reverse-filter : {X : Type 0} (p : X → Bool) (xs : List X) → reverse (filter p xs) ≡ filter p (reverse xs)
+reverse-filter p [] = refl
+reverse-filter p (x ∷ xs) =
+    let e = reverse-cons x xs in
+    let f = filter-append p (reverse xs) (x ∷ []) in
+    rw (e, f) (reverse_step x (p x) (filter p xs) (filter p (reverse xs)) (reverse-filter p xs))
+
+pub All-reverse : {X : Type 0} (P : X → Type 0) (xs : List X) → All P xs → All P (reverse xs)
+All-reverse P [] h = h
+All-reverse P (x ∷ xs) h =
+    rw reverse-cons (All-append P (reverse xs) (x ∷ []) (All-reverse P xs (All-tail P x xs h)) (All-cons P x [] (All-head P x xs h) (All-nil P)))
+
+kept_step : {X : Type 0} (P : X → Type 0) (b : Bool) (x : X) (o : Option X) → P x → MatchOption o (Unit {0}) P
+    → MatchOption (cond b (Some x) o) (Unit {0}) P
+kept_step P true x o h k = h
+kept_step P false x o h k = k
+
+-- what is found is of the list, and passes
+pub find_kept : {X : Type 0} (P : X → Type 0) (p : X → Bool) (xs : List X) → All P xs → MatchOption (find p xs) (Unit {0}) P
+find_kept P p [] h = tt
+find_kept P p (x ∷ xs) h = kept_step P (p x) x (find p xs) (All-head P x xs h) (find_kept P p xs (All-tail P x xs h))
+
+pub All-front : {X : Type 0} (P : X → Type 0) (xs ys : List X) → All P (xs ++ ys) → All P xs
+All-front P [] ys h = All-nil P
+All-front P (x ∷ xs) ys h = All-cons P x xs (All-head P x (xs ++ ys) h) (All-front P xs ys (All-tail P x (xs ++ ys) h))
+
+pub All-back : {X : Type 0} (P : X → Type 0) (xs ys : List X) → All P (xs ++ ys) → All P ys
+All-back P [] ys h = h
+All-back P (x ∷ xs) ys h = All-back P xs ys (All-tail P x (xs ++ ys) h)
+
+-- pairs of a list
+pub AllPairs-head : {X : Type 0} (R : X → X → Type 0) (x : X) (xs : List X) → AllPairs R (x ∷ xs) → All (R x) xs
+AllPairs-head R x xs h = λ k d l. h 0 (suc k) d (omega arith) (omega arith)
+
+pub AllPairs-tail : {X : Type 0} (R : X → X → Type 0) (x : X) (xs : List X) → AllPairs R (x ∷ xs) → AllPairs R xs
+AllPairs-tail R x xs h = λ i j d l m. h (suc i) (suc j) d (omega arith) (omega arith)
+
+pub AllPairs-append : {X : Type 0} (R : X → X → Type 0) (xs ys : List X) → AllPairs R xs → AllPairs R ys
+    → All (λ x. All (R x) ys) xs → AllPairs R (xs ++ ys)
+AllPairs-append R [] ys h k l = k
+AllPairs-append R (x ∷ xs) ys h k l =
+    AllPairs-cons R x (xs ++ ys)
+    (All-append (R x) xs ys (AllPairs-head R x xs h) (All-head (λ x. All (R x) ys) x xs l))
+    (AllPairs-append R xs ys (AllPairs-tail R x xs h) k (All-tail (λ x. All (R x) ys) x xs l))
+
+passes_step : {X : Type 0} (P : X → Type 0) (b : Bool) (x : X) (o : Option X) → (b ≡ true → P x) → MatchOption o (Unit {0}) P
+    → MatchOption (cond b (Some x) o) (Unit {0}) P
+passes_step P true x o h k = h refl
+passes_step P false x o h k = k
+
+-- what is found passes
+pub find_passes : {X : Type 0} (p : X → Bool) (xs : List X) → MatchOption (find p xs) (Unit {0}) (λ x. p x ≡ true)
+find_passes p [] = tt
+find_passes p (x ∷ xs) = passes_step (λ x. p x ≡ true) (p x) x (find p xs) (λ e. e) (find_passes p xs)
+
+-- where a filter keeps nothing, nothing passes
+none_kept_step : {X : Type 0} (p : X → Bool) (x : X) (xs : List X) (b : Bool) → p x ≡ b → cond b (x ∷ filter p xs) (filter p xs) ≡ []
+    → (filter p xs ≡ [] → All (λ x. p x ≡ false) xs) → All (λ x. p x ≡ false) (x ∷ xs)
+none_kept_step p x xs true e h k = absurd (cc)
+none_kept_step p x xs false e h k = All-cons (λ x. p x ≡ false) x xs e (k h)
+
+pub none_kept : {X : Type 0} (p : X → Bool) (xs : List X) → filter p xs ≡ [] → All (λ x. p x ≡ false) xs
+none_kept p [] h = All-nil (λ x. p x ≡ false)
+none_kept p (x ∷ xs) h = none_kept_step p x xs (p x) refl h (none_kept p xs)

@@ -1,0 +1,49 @@
+-- The window of a day: the used readings of the day, and the nearest used reading on either side where it is
+-- near enough. A filter over the whole list (this project's choice of which neighbours count).
+use Rattle.std.specs.Prelude.{Bool, false, ◌&&◌, List, [], ◌∷◌, ◌++◌, filter, find, reverse, Option, Some, None, option_and_then, option_to_list, ℤ, int_lt, int_le, ◌-ℤ◌, if◌then◌else◌}
+use Rattle.fixed_units.specs.declared.readings.Reading.{Reading}
+use Rattle.readings.specs.Readings.{is_used}
+
+-- from a on and before b
+abbrev pub is_of_day : ℤ → ℤ → Reading → Bool
+is_of_day a b reading = int_le a reading.at && int_lt reading.at b
+
+-- the used readings of the day
+abbrev pub inner : ℤ → ℤ → List Reading → List Reading
+inner a b readings = filter (λ r. is_used r && is_of_day a b r) readings
+
+-- the reading, if it stands at most so many seconds from an instant
+abbrev pub near : ℤ → ℤ → Reading → Option Reading
+near seconds distance reading = if int_le distance seconds then Some reading else None
+
+-- a reading that was found, if it is at most so many seconds before a, or after b
+abbrev pub lead : ℤ → ℤ → Option Reading → Option Reading
+lead a gap found = option_and_then (λ r. near gap (a -ℤ r.at) r) found
+
+abbrev pub follow : ℤ → ℤ → Option Reading → Option Reading
+follow b gap found = option_and_then (λ r. near gap (r.at -ℤ b) r) found
+
+-- the last used reading before a, if it is at most gap seconds before a
+abbrev pub neighbour_before : ℤ → ℤ → List Reading → Option Reading
+neighbour_before a gap readings =
+    lead a gap (find (λ r. is_used r && int_lt r.at a) (reverse readings))
+
+-- the first used reading at or after b, if it is at most gap seconds after b
+abbrev pub neighbour_after : ℤ → ℤ → List Reading → Option Reading
+neighbour_after b gap readings =
+    follow b gap (find (λ r. is_used r && int_le b r.at) readings)
+
+-- the readings of a day with these neighbours; without a reading of its own a day has no window
+abbrev pub with_neighbours : Option Reading → List Reading → Option Reading → List Reading
+with_neighbours before [] after = []
+with_neighbours before (r ∷ rs) after = option_to_list before ++ (r ∷ rs) ++ option_to_list after
+
+-- the window of the day [a, b)
+abbrev pub window : ℤ → ℤ → ℤ → List Reading → List Reading
+window a b gap readings =
+    with_neighbours (neighbour_before a gap readings) (inner a b readings) (neighbour_after b gap readings)
+
+-- whether a reading was found, and it is of the day
+abbrev pub is_found_in_day : ℤ → ℤ → Option Reading → Bool
+is_found_in_day a b None = false
+is_found_in_day a b (Some reading) = is_of_day a b reading

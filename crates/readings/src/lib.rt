@@ -1,0 +1,9 @@
+//! A station's readings as a list that rises by instant, and the window of a day.
+#![tactic(auto)]
+
+pub mod lists;
+#[cfg(test)]
+mod tests;
+
+pub use fixed_units::{Flag, Reading};
+pub use lists::{Place, Readings, Window};

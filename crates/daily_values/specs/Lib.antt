@@ -1,0 +1,3 @@
+pub mod DayInputs
+pub mod DayValue
+pub mod Figures

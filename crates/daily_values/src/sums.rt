@@ -1,0 +1,149 @@
+//! Sums over trapezoids between neighbouring readings.
+
+ghost use Rattle.std.specs.Prelude.{◌≡◌, ◌+◌, ◌*◌, ◌^◌, ◌≤◌, pos, neg_ℤ, ◌-ℤ◌, ◌*ℤ◌, ◌≤ℤ◌, ◌<ℤ◌};
+ghost use Rattle.std.specs.Int.{int_max, int_min};
+ghost use Rattle.fixed_units.specs.Quantities.{IsStage};
+ghost use Rattle.fixed_units.specs.Rounding.{round};
+ghost use Rattle.daily_values.specs.DayInputs.{AreParts};
+ghost use Rattle.daily_values.specs.DayValue as values;
+ghost use Rattle.daily_values.specs.DayValue.{stage_sum, stage_between};
+
+use crate::day_inputs::DayParts;
+use fixed_units::{Reading, Second, div_half_away};
+
+/// Twice an area in millionths of a foot times seconds, and the seconds that it covers. Half the one over the other is
+/// a mean.
+#[derive(Clone, Copy, Debug, PartialEq, Eq)]
+pub struct Sum {
+    /// Twice the area: for each second that is covered at most 2 * 10^11 either way.
+    pub twice: i128,
+    /// How many seconds are covered, at most the 72,000 to 100,800 of the day.
+    pub covered: u32,
+}
+
+/// The sum for the stage of a day.
+pub(crate) fn sum_stages(parts: &DayParts) -> Sum
+    requires { AreParts parts.now }
+    ensures sum { result ≡ stage_sum parts.now }
+    ensures covered { result.covered ≤ values.day_length parts.now }
+    ensures low { neg_ℤ (pos (2 * 10 ^ 11 * result.covered)) ≤ℤ result.twice }
+    ensures high { result.twice ≤ℤ pos (2 * 10 ^ 11 * result.covered) }
+{
+    let mut sum = Sum {
+        twice: 0,
+        covered: 0,
+    };
+    let mut rest = parts.window.as_slice();
+    while let [left, right, ..] = rest {
+        let seconds = seconds_between(parts, left, right);
+        sum.twice += twice_area(parts, left, right, seconds);
+        sum.covered += seconds;
+        rest = &rest[1..];
+    }
+    sum
+}
+
+/// How many seconds a day has.
+pub(crate) fn day_length(parts: &DayParts) -> u32
+    requires { AreParts parts.now }
+    ensures { result ≡ values.day_length parts.now }
+{
+    positive_part(elapsed(parts.from, parts.until))
+}
+
+/// The first instant of the day between two readings.
+fn left_end(parts: &DayParts, left: &Reading) -> Second
+    ensures { result ≡ int_max parts.now.from left.now.at }
+{
+    parts.from.max(left.at)
+}
+
+/// The last instant of the day between two readings.
+fn right_end(parts: &DayParts, right: &Reading) -> Second
+    ensures { result ≡ int_min parts.now.until right.now.at }
+{
+    parts.until.min(right.at)
+}
+
+/// How many seconds it is from one instant to another.
+fn elapsed(from: Second, until: Second) -> i64
+    ensures value { result ≡ until -ℤ from }
+    ensures low { neg_ℤ (pos (2 * 10 ^ 10)) ≤ℤ result }
+    ensures high { result ≤ℤ pos (2 * 10 ^ 10) }
+{
+    until.get() - from.get()
+}
+
+/// How many seconds of the day lie between two readings that are near enough to each other.
+pub(crate) fn seconds_between(parts: &DayParts, left: &Reading, right: &Reading) -> u32
+    requires { AreParts parts.now }
+    ensures { result ≡ values.seconds_between parts.now (left.now, right.now) }
+{
+    if elapsed(left.at, right.at) > 60 * i64::from(parts.gap) {
+        return 0;
+    }
+    positive_part(elapsed(left_end(parts, left), right_end(parts, right)))
+}
+
+/// The number, or 0 where it is below 0.
+fn positive_part(number: i64) -> u32
+    requires { number ≤ℤ pos 100_800 }
+    ensures { result ≡ values.positive_part number }
+{
+    number.max(0) as u32
+}
+
+/// Twice the area under the line between two readings that is cut to the day.
+pub(crate) fn twice_area(parts: &DayParts, left: &Reading, right: &Reading, seconds: u32) -> i128
+    requires parts { AreParts parts.now }
+    requires rising { left.now.at <ℤ right.now.at }
+    requires left { IsStage left.now.raw }
+    requires right { IsStage right.now.raw }
+    requires seconds { seconds ≡ values.seconds_between parts.now (left.now, right.now) }
+    ensures area { result ≡ values.twice_area parts.now (left.now, right.now) }
+    ensures low { neg_ℤ (pos (2 * 10 ^ 11 * seconds)) ≤ℤ result }
+    ensures high { result ≤ℤ pos (2 * 10 ^ 11 * seconds) }
+{
+    if seconds == 0 {
+        return 0;
+    }
+    let first = stage_at(left, right, left_end(parts, left));
+    let last = stage_at(left, right, right_end(parts, right));
+    (first + last) * i128::from(seconds)
+}
+
+/// How far the stage rises from one reading to another, in millionths of a foot.
+fn rise(left: &Reading, right: &Reading) -> i128
+    requires left { IsStage left.now.raw }
+    requires right { IsStage right.now.raw }
+    ensures value { result ≡ right.now.raw -ℤ left.now.raw }
+    ensures low { neg_ℤ (pos (2 * 10 ^ 11)) ≤ℤ result }
+    ensures high { result ≤ℤ pos (2 * 10 ^ 11) }
+{
+    i128::from(right.raw.get()) - i128::from(left.raw.get())
+}
+
+/// How far the stage has risen at an instant on the line between two readings, rounded.
+fn rise_at(left: &Reading, right: &Reading, at: Second) -> i128
+    requires rising { left.now.at <ℤ right.now.at }
+    requires left { IsStage left.now.raw }
+    requires right { IsStage right.now.raw }
+    ensures { result ≡ round ((right.now.raw -ℤ left.now.raw) *ℤ (at -ℤ left.now.at)) (right.now.at -ℤ left.now.at) }
+{
+    let gone = i128::from(elapsed(left.at, at));
+    let run = i128::from(elapsed(left.at, right.at));
+    div_half_away(rise(left, right) * gone, run)
+}
+
+/// The stage at an instant on the line between two readings.
+fn stage_at(left: &Reading, right: &Reading, at: Second) -> i128
+    requires rising { left.now.at <ℤ right.now.at }
+    requires left { IsStage left.now.raw }
+    requires right { IsStage right.now.raw }
+    requires from { left.now.at ≤ℤ at }
+    requires until { at ≤ℤ right.now.at }
+    ensures value { result ≡ stage_between left.now right.now at }
+    ensures stage { IsStage result }
+{
+    i128::from(left.raw.get()) + rise_at(left, right, at)
+}

@@ -1,0 +1,5 @@
+pub mod Failures
+pub mod Faults
+pub mod Memory
+pub mod Sinks
+pub mod Sources

@@ -1,0 +1,200 @@
+-- What a look at the bytes at hand tells of the rest of a stream, and what becomes of the bytes in a block.
+use Rattle.std.proofs.Common.{◌≡◌, ℕ, ◌+◌, ◌-◌, ◌<◌, ◌≤◌, Bool, true, false, ◌&&◌, List, [], ◌++◌, length, take, drop, slice_range, Option, Some, None, IfSome, refl, sym, ap, ◌∙◌, subst, arith, append_assoc, length-append, length-drop, if◌then◌else◌}
+use Rattle.std.specs.Prelude.{IsSomeAnd}
+use Rattle.std.specs.Option.{is_some}
+use Rattle.std.proofs.lemmas.Bool.{true≢false, and_right}
+use Rattle.std.proofs.lemmas.List.Folds.{list_all-append}
+use Rattle.memchr.specs.Find.{IsFirstByte, is_byte}
+use Rattle.std.proofs.Math.Seq.{take-add, take-append_seam}
+use Rattle.std.proofs.lemmas.List.{length-take, take-take, take-append-le, take-append-drop, drop-append-le, drop-take, drop-drop}
+use Rattle.httparse.specs.Grammar.{RequestHead, print_request}
+use Rattle.wire.specs.declared.framing.Head.{Head}
+use Rattle.wire.specs.declared.incoming.Front.TheVariants as fronts
+use Rattle.wire.specs.Found.{IsHeadAt}
+use Rattle.wire.specs.Messages.{is_blank, HasNoHead, IsRequest, IsMalformed}
+use Rattle.wire.specs.Incoming.{Held, Passes, IsUnread}
+use Rattle.wire.specs.Looking.{IsRequestAt, IsBlankWindow, Looks, HasGrown}
+use Rattle.wire.proofs.HeadLemmas.{has_head, found_splits, head_has_length, malformed_head, malformed_no_head, not_blank_more, blank_no_head, blank_full_no_head}
+
+-- ---- a head that was found
+
+-- a slice of the front is that of the whole
+slice-append : (xs ys : List ℕ) (i j : ℕ) → i ≤ j → j ≤ length xs → slice_range (xs ++ ys) i j ≡ slice_range xs i j
+slice-append xs ys i j le within =
+    let low : i ≤ length xs = omega arith in
+    let rest : j - i ≤ length (drop i xs) = omega (arith, length-drop i xs) in
+    ap (take (j - i)) (drop-append-le i xs ys low) ∙ take-append-le (j - i) (drop i xs) ys rest
+
+-- a slice of the window is that of the whole
+slice-take : (n : ℕ) (xs : List ℕ) (i j : ℕ) → i ≤ j → j ≤ n → slice_range (take n xs) i j ≡ slice_range xs i j
+slice-take n xs i j le within =
+    let e : i + (n - i) ≡ n = omega arith in
+    let short : j - i ≤ n - i = omega arith in
+    let front : drop i (take n xs) ≡ take (n - i) (drop i xs) =
+    subst (λ (k : ℕ). drop i (take k xs) ≡ take (n - i) (drop i xs)) e (drop-take i (n - i) xs) in
+    ap (take (j - i)) front ∙ take-take (j - i) (n - i) (drop i xs) short
+
+-- a well framed head of the window is the request at the front
+request_at : (held : List ℕ) (found : Head) (head : RequestHead)
+    → IsHeadAt (take 8192 held) found head → found.framed ≡ true → IsRequestAt held found head
+request_at held found head at framed =
+    let within : found.len ≤ length held = omega (arith, at.within, length-take 8192 held) in
+    let small : found.len ≤ 8192 = omega (arith, at.within, length-take 8192 held) in record {
+      positive = omega (arith, at.len, head_has_length head);
+      within = within;
+      len = at.len;
+      target_within = at.target_within;
+      target =
+          sym (slice-take 8192 held found.target.start found.target.end at.target_within.0 (omega (arith, at.target_within.1)))
+          ∙ at.target;
+      verb = at.verb;
+      request = λ more. record {
+        begins = has_head held more found head at;
+        framed = sym at.framed ∙ framed;
+        splits = found_splits held more found head at
+            ∙ ap (λ (xs : List ℕ). print_request head ++ xs) (drop-append-le found.len held more within);
+      };
+    }
+
+-- what a head of the window means
+pub front_of_head : (held : List ℕ) (found : Head) (head : RequestHead) → IsHeadAt (take 8192 held) found head
+    → (framed : Bool) → found.framed ≡ framed → Looks held (if framed then fronts.Request found else fronts.Malformed)
+front_of_head held found head at true framed = (head, request_at held found head at framed)
+front_of_head held found head at false framed =
+    λ more. malformed_head (held ++ more) head (has_head held more found head at) (sym at.framed ∙ framed)
+
+-- ---- a request that is given
+
+-- the bytes behind a head in a block
+pub behind_head : (block : List ℕ) (start end len : ℕ) → start + len ≤ end
+    → drop len (slice_range block start end) ≡ slice_range block (start + len) end
+behind_head block start end len within =
+    let e : len + (end - (start + len)) ≡ end - start = omega arith in
+    let parts : drop len (take (end - start) (drop start block)) ≡ take (end - (start + len)) (drop len (drop start block)) =
+    subst (λ (k : ℕ). drop len (take k (drop start block)) ≡ take (end - (start + len)) (drop len (drop start block))) e
+    (drop-take len (end - (start + len)) (drop start block)) in
+    parts ∙ ap (take (end - (start + len))) (drop-drop len start block)
+
+-- the request is passed, and the bytes behind it are at hand
+pub passes : (ahead after left : List ℕ) (offset offset' : ℕ) (found : Head) (head : RequestHead)
+    → IsRequestAt ahead found head → after ≡ drop found.len ahead → offset' ≡ offset + found.len
+    → Passes (ahead ++ left) offset head (after ++ left) offset'
+passes ahead after left offset offset' found head at behind moved = (
+  subst (λ (xs : List ℕ). IsRequest (ahead ++ left) head (xs ++ left)) (sym behind) (at.request left),
+  moved ∙ ap (λ (n : ℕ). offset + n) at.len,
+)
+
+-- ---- bytes that are read into a block
+
+-- what stands in a block below a place stays there
+pub same_below : (before after : List ℕ) (start end : ℕ) → start ≤ end → take end after ≡ take end before
+    → slice_range after start end ≡ slice_range before start end
+same_below before after start end le same =
+    sym (slice-take end after start end le (omega arith))
+    ∙ ap (λ (xs : List ℕ). slice_range xs start end) same
+    ∙ slice-take end before start end le (omega arith)
+
+-- the bytes behind it are added to it
+pub read_behind : (before after : List ℕ) (start end count : ℕ) → start ≤ end → take end after ≡ take end before
+    → slice_range after start (end + count) ≡ slice_range before start end ++ take count (drop end after)
+read_behind before after start end count le same =
+    let e : (end - start) + count ≡ (end + count) - start = omega arith in
+    let back : drop (end - start) (drop start after) ≡ drop end after =
+    drop-drop (end - start) start after ∙ ap (λ (n : ℕ). drop n after) {x = start + (end - start)} {y = end} (omega arith) in
+    subst (λ (n : ℕ). take n (drop start after) ≡ slice_range before start end ++ take count (drop end after)) e
+    (take-add (end - start) count (drop start after)
+    ∙ ap (λ (xs : List ℕ). slice_range after start end ++ take count xs) back
+    ∙ ap (λ (xs : List ℕ). xs ++ take count (drop end after)) (same_below before after start end le same))
+
+-- bytes that stand behind those at hand
+pub grown : (old new : Held) (more : List ℕ) → new.offset ≡ old.offset → new.ahead ≡ old.ahead ++ more
+    → 0 < length more → HasGrown old new
+grown old new more offset ahead some = record {
+  offset = offset;
+  front = ap (take (length old.ahead)) ahead ∙ take-append_seam old.ahead more;
+  more = omega (arith, ap length ahead, length-append old.ahead more);
+}
+
+-- ---- what a source tells
+
+-- both tell, and a relation holds of what they tell
+abbrev pub Told : Option (List ℕ) → Option (List ℕ) → (List ℕ → List ℕ → Type 0) → Type 0
+Told before after P = IfSome before (λ b. IsSomeAnd after (λ a. P b a))
+
+pub told_maps : (before after : Option (List ℕ)) (P Q : List ℕ → List ℕ → Type 0)
+    → ((b a : List ℕ) → P b a → Q b a) → Told before after P → Told before after Q
+told_maps None after P Q step told = tt
+told_maps (Some b) None P Q step told = told
+told_maps (Some b) (Some a) P Q step told = step b a told
+
+pub told_self : (before : Option (List ℕ)) (P : List ℕ → List ℕ → Type 0) → ((b : List ℕ) → P b b) → Told before before P
+told_self None P same = tt
+told_self (Some b) P same = same b
+
+pub told_joins : (before between after : Option (List ℕ)) (P Q R : List ℕ → List ℕ → Type 0)
+    → ((b m a : List ℕ) → P b m → Q m a → R b a) → Told before between P → Told between after Q → Told before after R
+told_joins None between after P Q R step told next = tt
+told_joins (Some b) None after P Q R step told next = absurd told
+told_joins (Some b) (Some m) None P Q R step told next = next
+told_joins (Some b) (Some m) (Some a) P Q R step told next = step b m a told next
+
+-- ---- a line feed
+
+-- a search that found none
+pub found_none : (bytes : List ℕ) (place : Option ℕ) → is_some place ≡ false
+    → IsFirstByte (is_byte 10) bytes place → IsFirstByte (is_byte 10) bytes None
+found_none bytes None none search = search
+found_none bytes (Some place) none search = absurd (true≢false none)
+
+-- ---- blank bytes that are skipped
+
+pub blank-append : (front back : List ℕ) → is_blank front ≡ true → is_blank back ≡ true → is_blank (front ++ back) ≡ true
+blank-append front back x y = list_all-append _ front back ∙ ap (λ (b : Bool). b && is_blank back) x ∙ y
+
+-- a window of blank bytes stays one, whatever follows
+pub blank_window_more : (seen more : List ℕ) → IsBlankWindow seen → IsBlankWindow (seen ++ more)
+blank_window_more seen more window = (
+  omega (arith, window.0, length-append seen more),
+  ap is_blank (take-append-le 8192 seen more window.0) ∙ window.1,
+)
+
+-- bytes that are no longer blank behind a window of blank bytes
+pub malformed_behind : (skipped ahead left : List ℕ) → is_blank ahead ≡ false → IsBlankWindow (skipped ++ ahead)
+    → IsMalformed (skipped ++ (ahead ++ left))
+malformed_behind skipped ahead left visible window =
+    subst IsMalformed (append_assoc skipped ahead left)
+    (malformed_no_head ((skipped ++ ahead) ++ left)
+    (not_blank_more (skipped ++ ahead) left (list_all-append _ skipped ahead ∙ and_right _ _ visible))
+    (blank_full_no_head (skipped ++ ahead) left window.1 window.0))
+
+-- bytes whose window is not blank are not
+pub not_blank_window : (seen more : List ℕ) → is_blank (take 8192 seen) ≡ false → is_blank (seen ++ more) ≡ false
+not_blank_window seen more visible =
+    not_blank_more seen more
+    (ap is_blank (sym (take-append-drop 8192 seen)) ∙ not_blank_more (take 8192 seen) (drop 8192 seen) visible)
+
+-- ---- bytes that stay unread
+
+-- no head stands in the bytes at hand, and all of them stay
+pub unread_ahead : (rest ahead after left between : List ℕ) (offset offset' : ℕ) → rest ≡ ahead ++ between → left ≡ between
+    → HasNoHead ahead → length ahead < 8192 → after ≡ ahead ++ left → offset' ≡ offset
+    → IsUnread rest offset ahead after left offset'
+unread_ahead rest ahead after left between offset offset' splits same none short stays moved =
+    let whole : rest ≡ ahead ++ left = splits ∙ ap (λ (xs : List ℕ). ahead ++ xs) (sym same) in record {
+      taken = whole;
+      none = none;
+      short = λ _. short;
+      stays = ([], refl, whole ∙ sym stays, omega (arith, moved));
+    }
+
+-- blank bytes were skipped, and nothing is at hand
+pub unread_blank : (rest blank after left between : List ℕ) (offset offset' : ℕ) → rest ≡ blank ++ between → left ≡ between
+    → is_blank blank ≡ true → after ≡ left → offset' ≡ offset + length blank
+    → IsUnread rest offset blank after left offset'
+unread_blank rest blank after left between offset offset' splits same skipped stays moved =
+    let whole : rest ≡ blank ++ left = splits ∙ ap (λ (xs : List ℕ). blank ++ xs) (sym same) in record {
+      taken = whole;
+      none = blank_no_head blank skipped;
+      short = λ visible. absurd (true≢false (sym skipped ∙ visible));
+      stays = (blank, skipped, whole ∙ ap (λ (xs : List ℕ). blank ++ xs) (sym stays), moved);
+    }

@@ -1,0 +1,4 @@
+pub mod FramingLemmas
+pub mod HeadLemmas
+pub mod IncomingLemmas
+pub mod ReplyLemmas

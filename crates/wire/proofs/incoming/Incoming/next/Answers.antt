@@ -1,0 +1,101 @@
+use Rattle.std.proofs.Common.{◌≡◌, ℕ, ◌+◌, ◌^◌, ◌<◌, List, [], ◌++◌, length, take, refl, sym, ap, ◌∙◌, subst, arith}
+use Rattle.wire.specs.Incoming.{Held, IsNext, IsUnread}
+use Rattle.wire.specs.Messages.{HasNoHead}
+use Rattle.wire.proofs.HeadLemmas.{blank_no_head}
+use Rattle.wire.proofs.IncomingLemmas.{told_self, told_joins, unread_ahead}
+use Rattle.wire.proofs.incoming.Incoming.next.Goals as goal
+
+pub loop-head-init : goal.loop-head-init
+loop-head-init g c = record {
+  offset = refl;
+  rest =
+      told_self (g.S.Source.left c.args.source.now)
+      (λ b a. c.args.self.now.ahead ++ b ≡ c.args.self.now.ahead ++ a) (λ b. refl);
+  looked = omega arith;
+  none = blank_no_head [] refl;
+  counted = omega arith;
+}
+
+pub look-requires-clause-none : goal.look-requires-clause-none
+look-requires-clause-none g c =
+    subst (λ xs. HasNoHead (take c.loop-head.looked xs)) (sym c.held.ensures.held) c.loop-head.invariant.none
+
+pub returns-in-Request-clause-cause : goal.returns-in-Request-clause-cause
+returns-in-Request-clause-cause g c = c.give.ensures.cause _ _
+
+pub returns-in-Blank-clause-answer : goal.returns-in-Blank-clause-answer
+returns-in-Blank-clause-answer g c =
+    let old = c.args.self.now in
+    let now = c.loop-head.self in
+    let new = c.skip_blank.new.self in
+    told_joins (g.S.Source.left c.args.source.now) (g.S.Source.left c.loop-head.source) (g.S.Source.left c.skip_blank.new.source)
+    (λ b m. old.ahead ++ b ≡ now.ahead ++ m)
+    (λ m a. IsNext (now.ahead ++ m) now.offset c.skip_blank.result (new.ahead ++ a) a new.offset)
+    (λ b a. IsNext (old.ahead ++ b) old.offset c.skip_blank.result (new.ahead ++ a) a new.offset)
+    (λ b m a p q.
+    subst (λ (xs : List ℕ). IsNext xs old.offset c.skip_blank.result (new.ahead ++ a) a new.offset) (sym p)
+    (subst (λ (n : ℕ). IsNext (now.ahead ++ m) n c.skip_blank.result (new.ahead ++ a) a new.offset)
+    c.loop-head.invariant.offset q))
+    c.loop-head.invariant.rest c.skip_blank.ensures.answer
+
+pub loop-head-preserved : goal.loop-head-preserved
+loop-head-preserved g c =
+    let old = c.args.self.now in
+    let now = c.loop-head.self in
+    let new = c.fill.new.self in
+    let grown = c.in-More.ensures.filled in
+    let none : HasNoHead now.ahead = subst HasNoHead c.held.ensures.held c.in-Unfinished.ensures.1 in
+    let front : take (length c.held-looked.result.now) new.ahead ≡ now.ahead =
+    ap (λ (xs : List ℕ). take (length xs) new.ahead) c.held-looked.ensures.held ∙ grown.front in record {
+      offset = grown.offset ∙ c.loop-head.invariant.offset;
+      rest =
+          told_joins (g.S.Source.left c.args.source.now) (g.S.Source.left c.loop-head.source) (g.S.Source.left c.fill.new.source)
+          (λ b m. old.ahead ++ b ≡ now.ahead ++ m) (λ m a. now.ahead ++ m ≡ new.ahead ++ a)
+          (λ b a. old.ahead ++ b ≡ new.ahead ++ a) (λ b m a p q. p ∙ q)
+          c.loop-head.invariant.rest c.in-More.ensures.kept;
+      looked = omega (arith, ap length c.held-looked.ensures.held, grown.more);
+      none = subst HasNoHead (sym front) none;
+      counted = omega (arith, c.loop-head.invariant.counted, c.fill.ensures.counted);
+    }
+
+pub last-requires : goal.last-requires
+last-requires g c =
+    let none : HasNoHead c.loop-head.self.ahead = subst HasNoHead c.held.ensures.held c.in-Unfinished.ensures.1 in
+    subst (λ (h : Held). HasNoHead h.ahead) (sym c.in-End.ensures.filled) none
+
+pub returns-in-End-clause-cause : goal.returns-in-End-clause-cause
+returns-in-End-clause-cause g c = c.last.ensures.cause _ _
+
+pub returns-in-Long-clause-answer : goal.returns-in-Long-clause-answer
+returns-in-Long-clause-answer g c =
+    let old = c.args.self.now in
+    let now = c.loop-head.self in
+    let new = c.fill.new.self in
+    let none : HasNoHead now.ahead = subst HasNoHead c.held.ensures.held c.in-Unfinished.ensures.1 in
+    let count : old.offset + length now.ahead ≡ 2 ^ 36 =
+    sym (ap (λ (n : ℕ). n + length now.ahead) c.loop-head.invariant.offset) ∙ c.in-Long.ensures.filled.1 in
+    let short : length now.ahead < 8192 = omega (arith, c.in-Unfinished.ensures.0, ap length c.held.ensures.held) in
+    let stays = λ (a : List ℕ). ap (λ (h : Held). h.ahead ++ a) c.in-Long.ensures.filled.0 in
+    let moved : new.offset ≡ old.offset = ap (λ (h : Held). h.offset) c.in-Long.ensures.filled.0 ∙ c.loop-head.invariant.offset in
+    told_joins (g.S.Source.left c.args.source.now) (g.S.Source.left c.loop-head.source) (g.S.Source.left c.fill.new.source)
+    (λ b m. old.ahead ++ b ≡ now.ahead ++ m) (λ m a. a ≡ m)
+    (λ b a.
+    (seen : List ℕ) × IsUnread (old.ahead ++ b) old.offset seen (new.ahead ++ a) a new.offset
+    × (old.offset + length seen ≡ 2 ^ 36))
+    (λ b m a p q. (now.ahead, unread_ahead (old.ahead ++ b) now.ahead (new.ahead ++ a) a m old.offset new.offset p q none short (stays a) moved, count))
+    c.loop-head.invariant.rest c.in-Long.ensures.kept
+
+pub returns-in-Failed-clause-answer : goal.returns-in-Failed-clause-answer
+returns-in-Failed-clause-answer g c =
+    let old = c.args.self.now in
+    let now = c.loop-head.self in
+    let new = c.fill.new.self in
+    let none : HasNoHead now.ahead = subst HasNoHead c.held.ensures.held c.in-Unfinished.ensures.1 in
+    let short : length now.ahead < 8192 = omega (arith, c.in-Unfinished.ensures.0, ap length c.held.ensures.held) in
+    let stays = λ (a : List ℕ). ap (λ (h : Held). h.ahead ++ a) c.in-Failed.ensures.filled in
+    let moved : new.offset ≡ old.offset = ap (λ (h : Held). h.offset) c.in-Failed.ensures.filled ∙ c.loop-head.invariant.offset in
+    told_joins (g.S.Source.left c.args.source.now) (g.S.Source.left c.loop-head.source) (g.S.Source.left c.fill.new.source)
+    (λ b m. old.ahead ++ b ≡ now.ahead ++ m) (λ m a. a ≡ m)
+    (λ b a. (seen : List ℕ) × IsUnread (old.ahead ++ b) old.offset seen (new.ahead ++ a) a new.offset)
+    (λ b m a p q. (now.ahead, unread_ahead (old.ahead ++ b) now.ahead (new.ahead ++ a) a m old.offset new.offset p q none short (stays a) moved))
+    c.loop-head.invariant.rest c.in-Failed.ensures.kept

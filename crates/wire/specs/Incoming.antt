@@ -1,0 +1,77 @@
+-- What a reader of messages holds, and what it answers for the rest of a stream.
+use Rattle.std.specs.Prelude.{◌≡◌, ℕ, ◌+◌, ◌-◌, ◌^◌, ◌<◌, ◌≤◌, true, false, List, [], ◌++◌, length, Option, IfSome, IsSomeAnd, ⊤}
+use Rattle.httparse.specs.Grammar.{RequestHead, print_request}
+use Rattle.devices.specs.Faults.{Rose}
+use Rattle.wire.specs.Messages.{is_blank, request_of, IsRequest, IsMalformed, HasNoHead}
+use Rattle.wire.specs.declared.messages.Message.{Message}
+use Rattle.wire.specs.declared.messages.Message.TheVariants as messages
+
+-- the bytes that were taken and not given yet, and how many bytes of the stream stand before them
+pub record Held : Type 0 where
+  pub ahead : List ℕ
+  pub offset : ℕ
+
+-- how many bytes were taken
+abbrev pub taken : Held → ℕ
+taken held = held.offset + length held.ahead
+
+-- the head of the rest is given, or skipped, and the offset is behind it
+abbrev pub Passes : List ℕ → ℕ → RequestHead → List ℕ → ℕ → Type 0
+Passes rest offset head after offset' =
+    IsRequest rest head after × (offset' ≡ offset + length (print_request head))
+
+-- Of the rest these bytes were taken. No head stands in them, and they are not as many as a head may have
+-- unless they are CR and LF. They stay at hand for the next call, but for CR and LF at their front.
+pub record IsUnread (rest : List ℕ) (offset : ℕ) (seen after left : List ℕ) (offset' : ℕ) : Type 0 where
+  pub taken : rest ≡ seen ++ left
+  pub none : HasNoHead seen
+  pub short : is_blank seen ≡ false → length seen < 8192
+  pub stays : (blank : List ℕ) × (is_blank blank ≡ true) × (rest ≡ blank ++ after) × (offset' ≡ offset + length blank)
+
+-- The message for the rest of a stream that begins at the offset; then what is left of the rest, what of
+-- it the source still has, and the new offset. Want of memory skips a request; a source that fails and the
+-- limit on a stream leave bytes in which no head stands.
+abbrev pub IsNext : List ℕ → ℕ → Message → List ℕ → List ℕ → ℕ → Type 0
+IsNext rest offset (messages.Request verb target body) after left offset' =
+    (head : RequestHead) × Passes rest offset head after offset'
+    × (request_of head ≡ record { verb = verb; target = target; body = body })
+IsNext rest offset messages.NoMemory after left offset' =
+    (head : RequestHead) × Passes rest offset head after offset'
+IsNext rest offset messages.End after left offset' = (is_blank rest ≡ true) × (left ≡ [])
+IsNext rest offset (messages.Malformed at) after left offset' = IsMalformed rest × (at ≡ offset)
+IsNext rest offset messages.Long after left offset' =
+    (seen : List ℕ) × IsUnread rest offset seen after left offset' × (offset + length seen ≡ 2 ^ 36)
+IsNext rest offset messages.Failed after left offset' =
+    (seen : List ℕ) × IsUnread rest offset seen after left offset'
+
+-- what a reader answers where the source tells the bytes that are left
+abbrev pub Answers : Held → Option (List ℕ) → Message → Held → Option (List ℕ) → Type 0
+Answers old before message new after =
+    IfSome before (λ b. IsSomeAnd after (λ a.
+    IsNext (old.ahead ++ b) old.offset message (new.ahead ++ a) a new.offset))
+
+-- a message that another can follow moves the offset on
+abbrev pub Proceeds : Held → Message → Held → Type 0
+Proceeds old (messages.Request verb target body) new = old.offset < new.offset
+Proceeds old messages.NoMemory new = old.offset < new.offset
+Proceeds old messages.End new = ⊤
+Proceeds old (messages.Malformed at) new = ⊤
+Proceeds old messages.Long new = ⊤
+Proceeds old messages.Failed new = ⊤
+
+-- the source failed only where its count of faults rose
+abbrev pub HasCause : ℕ → ℕ → Message → Type 0
+HasCause before now (messages.Request verb target body) = ⊤
+HasCause before now messages.NoMemory = ⊤
+HasCause before now messages.End = ⊤
+HasCause before now (messages.Malformed at) = ⊤
+HasCause before now messages.Long = ⊤
+HasCause before now messages.Failed = Rose before now
+
+-- a block is so long that a head has room behind what is held; what is held lies in it, and no more than
+-- 2^36 bytes are ever taken
+pub record IsBlock (len start end offset : ℕ) : Type 0 where
+  pub full : len ≡ 65_536
+  pub ordered : start ≤ end
+  pub within : end ≤ len
+  pub limit : offset + (end - start) ≤ 2 ^ 36

@@ -1,0 +1,119 @@
+-- What the definitions of the office say together.
+use Rattle.std.specs.Prelude.{◌≡◌, ◌↔◌, ℕ, ◌+◌, Bool, true, false, if◌then◌else◌, List, [], ◌∷◌, ◌++◌, length, reverse, Some, None, ℤ}
+use Rattle.std.proofs.Common.{arith, refl, ap, sym, ◌∙◌, append_assoc}
+use Rattle.std.proofs.lemmas.List.{reverse-append, reverse-reverse}
+use Rattle.daily_values.specs.DayValue.{day_value}
+use Rattle.office.specs.Changes.{changes, same_number}
+use Rattle.office.specs.History.{Event, Accepted, Published, Computed, accepted, inputs_at, awaited, awaited_back, value_at, answer_at, after_edit}
+use Rattle.office.specs.Inputs.{Inputs, inputs_of_day, inputs_after}
+use Rattle.office.specs.Laws.{IsNamed}
+use Rattle.office.specs.declared.edits.Edit.{Edit}
+use Rattle.office.proofs.ChangesLemmas.{Decides-same_number, unchanged_inputs, same_unchanged}
+use Rattle.office.proofs.HistoryLemmas.{inputs-edit, inputs-published, awaited-edit, awaited-published, count-back}
+
+pub unchanged_exactly : (inputs : Inputs) (edit : Edit) (day : ℤ)
+    → (changes inputs edit day ≡ false) ↔ (inputs_of_day inputs day ≡ inputs_of_day (inputs_after inputs edit) day)
+unchanged_exactly inputs edit day =
+    (λ h. sym (unchanged_inputs inputs edit day h), λ e. same_unchanged inputs edit day (sym e))
+
+-- the value of a day that an edit does not change
+value_unchanged : (events : List Event) (edit : Edit) (day : ℤ) → changes (inputs_at events) edit day ≡ false
+    → value_at (after_edit events edit) day ≡ value_at events day
+value_unchanged events edit day h =
+    ap (λ (i : Inputs). day_value (inputs_of_day i day)) (inputs-edit events edit)
+    ∙ ap day_value (unchanged_inputs (inputs_at events) edit day h)
+
+pub unchanged_answer : (events : List Event) (edit : Edit) (day : ℤ) → changes (inputs_at events) edit day ≡ false
+    → answer_at (after_edit events edit) day ≡ answer_at events day
+unchanged_answer events edit day h =
+    let awaits : awaited (after_edit events edit) day ≡ awaited events day = awaited-edit events edit day ∙ rw h refl in
+    let value = value_unchanged events edit day h in
+    rw (awaits, value) refl
+
+pub changed_awaits : (events : List Event) (edit : Edit) (day : ℤ) → changes (inputs_at events) edit day ≡ true
+    → awaited (after_edit events edit) day ≡ Some (length (accepted events) + 1)
+changed_awaits events edit day h = awaited-edit events edit day ∙ rw h refl
+
+-- a publication
+value_published : (events : List Event) (published day : ℤ) → value_at (events ++ Published published ∷ []) day ≡ value_at events day
+value_published events published day = ap (λ (i : Inputs). day_value (inputs_of_day i day)) (inputs-published events published)
+
+pub published_answer : (events : List Event) (day : ℤ) → answer_at (events ++ Published day ∷ []) day ≡ Computed (value_at events day)
+published_answer events day =
+    let same : same_number day day ≡ true = (Decides-same_number day day).1 refl in
+    let awaits : awaited (events ++ Published day ∷ []) day ≡ None = awaited-published events day day ∙ rw same refl in
+    let value = value_published events day day in
+    rw (awaits, value) refl
+
+pub other_answer : (events : List Event) (published day : ℤ) → same_number published day ≡ false
+    → answer_at (events ++ Published published ∷ []) day ≡ answer_at events day
+other_answer events published day h =
+    let awaits : awaited (events ++ Published published ∷ []) day ≡ awaited events day = awaited-published events published day ∙ rw h refl in
+    let value = value_published events published day in
+    rw (awaits, value) refl
+
+-- read from the newest event back
+record IsNamedBack (events : List Event) (day : ℤ) (number : ℕ) : Type 0 where
+  newer : List Event
+  edit : Edit
+  older : List Event
+  events_are : events ≡ newer ++ Accepted edit ∷ older
+  number_is : number ≡ length (accepted older) + 1
+  changed : changes (inputs_at (reverse older)) edit day ≡ true
+
+further : (event : Event) (events : List Event) (day : ℤ) (number : ℕ) → IsNamedBack events day number → IsNamedBack (event ∷ events) day number
+further event events day number h = record {
+  newer = event ∷ h.newer;
+  edit = h.edit;
+  older = h.older;
+  events_are = ap (λ (l : List Event). event ∷ l) h.events_are;
+  number_is = h.number_is;
+  changed = h.changed;
+}
+
+accepted_step : (edit : Edit) (older : List Event) (day : ℤ) (number : ℕ) (b : Bool) → changes (inputs_at (reverse older)) edit day ≡ b
+    → (if b then Some (length (accepted older) + 1) else awaited_back older day) ≡ Some number
+    → (awaited_back older day ≡ Some number → IsNamedBack older day number) → IsNamedBack (Accepted edit ∷ older) day number
+accepted_step edit older day number true e h k = record {
+  newer = [];
+  edit = edit;
+  older = older;
+  events_are = refl;
+  number_is = cc;
+  changed = e;
+}
+accepted_step edit older day number false e h k = further (Accepted edit) older day number (k h)
+
+published_step : (published : ℤ) (older : List Event) (day : ℤ) (number : ℕ) (b : Bool)
+    → (if b then None else awaited_back older day) ≡ Some number
+    → (awaited_back older day ≡ Some number → IsNamedBack older day number) → IsNamedBack (Published published ∷ older) day number
+published_step published older day number true h k = absurd (cc)
+published_step published older day number false h k = further (Published published) older day number (k h)
+
+named_back : (events : List Event) (day : ℤ) (number : ℕ) → awaited_back events day ≡ Some number → IsNamedBack events day number
+named_back [] day number h = absurd (cc)
+named_back (Accepted edit ∷ older) day number h =
+    accepted_step edit older day number (changes (inputs_at (reverse older)) edit day) refl h (named_back older day number)
+named_back (Published published ∷ older) day number h =
+    published_step published older day number (same_number published day) h (named_back older day number)
+
+-- and from the first event on
+turned : (events newer older : List Event) (edit : Edit) → reverse events ≡ newer ++ Accepted edit ∷ older
+    → events ≡ reverse older ++ Accepted edit ∷ reverse newer
+turned events newer older edit e =
+    sym (reverse-reverse events) ∙ ap reverse e ∙ reverse-append newer (Accepted edit ∷ older)
+    ∙ ap (λ (l : List Event). l ++ reverse newer) (reverse-append (Accepted edit ∷ []) older)
+    ∙ append_assoc (reverse older) (Accepted edit ∷ []) (reverse newer)
+
+pub named : (events : List Event) (day : ℤ) (number : ℕ) → awaited events day ≡ Some number → IsNamed events day number
+unfolding awaited
+named events day number h =
+    let back = named_back (reverse events) day number h in
+    record {
+      before = reverse back.older;
+      edit = back.edit;
+      after = reverse back.newer;
+      events_are = turned events back.newer back.older back.edit back.events_are;
+      number_is = let n = back.number_is in let count = count-back back.older in omega arith;
+      changed = back.changed;
+    }

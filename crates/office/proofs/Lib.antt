@@ -1,0 +1,13 @@
+pub mod CalendarLemmas
+pub mod CellsLemmas
+pub mod CellsPlaceLemmas
+pub mod ChangesLemmas
+pub mod DrainLemmas
+pub mod FarLemmas
+pub mod HistoryLemmas
+pub mod InputsLemmas
+pub mod KeptLemmas
+pub mod LawLemmas
+pub mod PendingLemmas
+pub mod StationLemmas
+pub mod TurnLemmas

@@ -1,0 +1,14 @@
+-- What an awaited number says of the history.
+use Rattle.std.specs.Prelude.{◌≡◌, ℕ, ◌+◌, true, List, ◌∷◌, ◌++◌, length, ℤ}
+use Rattle.office.specs.Changes.{changes}
+use Rattle.office.specs.History.{Event, Accepted, accepted, inputs_at}
+use Rattle.office.specs.declared.edits.Edit.{Edit}
+
+-- the number is that of an accepted edit, which changed the day when it was accepted
+pub record IsNamed (events : List Event) (day : ℤ) (number : ℕ) : Type 0 where
+  pub before : List Event
+  pub edit : Edit
+  pub after : List Event
+  pub events_are : events ≡ before ++ Accepted edit ∷ after
+  pub number_is : number ≡ length (accepted before) + 1
+  pub changed : changes (inputs_at before) edit day ≡ true

@@ -1,0 +1,9 @@
+pub mod Answers
+pub mod Calendar
+pub mod Cells
+pub mod Changes
+pub mod History
+pub mod Inputs
+pub mod Kept
+pub mod Laws
+pub mod Marks

@@ -1,0 +1,23 @@
+use Rattle.std.proofs.Common.{◌≡◌, ◌+◌, ◌-◌, ◌^◌, ◌≤◌, ℕ, List}
+use Rattle.office.specs.History.{Event}
+use Rattle.office.specs.Kept.{Keeps}
+use Rattle.wire.specs.Incoming.{taken}
+use Rattle.streamoffice.specs.Session.{IsUnderWay}
+use Rattle.streamoffice.proofs.sessions.session.Given as goal
+
+-- the session is under way, and counts have not fallen
+abbrev pub invariant-loop-end : goal.invariant-loop-end
+invariant-loop-end g l =
+    let left = g.S.Source.left in
+    let written = g.K.Sink.written in
+    record {
+      under_way : (events : List Event) → Keeps l.fn.office events
+          → IsUnderWay events l.office l.incoming (left l.fn.source) (left l.source) (written l.fn.sink) (written l.sink);
+      room : l.office.edits ≤ 2 ^ 63 + l.incoming.offset;
+      limit : taken l.incoming ≤ 2 ^ 36;
+      input_counted : g.S.Source.faults l.fn.source ≤ g.S.Source.faults l.source;
+      output_counted : g.K.Sink.faults l.fn.sink ≤ g.K.Sink.faults l.sink;
+    }
+
+abbrev pub decreases-loop-end : goal.decreases-loop-end
+decreases-loop-end g l = 2 ^ 36 - l.incoming.offset

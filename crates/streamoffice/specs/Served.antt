@@ -1,0 +1,59 @@
+-- What a session has read and written when it ends.
+use Rattle.std.specs.Prelude.{◌≡◌, ◌≢◌, ◌⊎◌, ℕ, ◌+◌, ◌^◌, ◌<◌, Bool, true, false, Option, IfSome, IsSomeAnd, List, [], ◌∷◌, ◌++◌, length}
+use Rattle.std.specs.List.{concat}
+use Rattle.office.specs.History.{Event}
+use Rattle.wire.specs.Messages.{Request, AreRequests, IsMalformed, HasNoHead, is_blank}
+use Rattle.wire.specs.declared.replies.TheConstants.{MALFORMED_REPLY}
+use Rattle.streamoffice.specs.Output.{AreReplies}
+use Rattle.streamoffice.specs.declared.sessions.SessionEnd.{SessionEnd}
+use Rattle.streamoffice.specs.declared.sessions.SessionEnd.TheVariants.{End, Malformed, Long, InputFault, OutputFault, NoMemory}
+
+-- the bytes that were written are a front of these, and not all
+abbrev pub IsCutShort : List ℕ → List ℕ → Type 0
+IsCutShort written whole = (more : List ℕ) × (more ≢ []) × (whole ≡ written ++ more)
+
+-- after what was written so far came a front of a reply, and not all of it
+abbrev pub StopsWithin : List ℕ → List ℕ → List ℕ → Type 0
+StopsWithin so_far reply written = (part : List ℕ) × (written ≡ so_far ++ part) × IsCutShort part reply
+
+-- Of the rest these bytes were taken. No head stands in them, and they are not as many as a head may have unless
+-- they are CR and LF.
+pub record IsUnread (rest left : List ℕ) : Type 0 where
+  pub seen : List ℕ
+  pub taken : rest ≡ seen ++ left
+  pub none : HasNoHead seen
+  pub short : is_blank seen ≡ false → length seen < 8192
+
+-- How a session over an input ends: `rest` is what no request that was replied to took of the input, of which the
+-- source still has `left`, and `written` is all that the session wrote.
+abbrev pub EndsBy : SessionEnd → List ℕ → List (List ℕ) → List ℕ → List ℕ → List ℕ → Type 0
+EndsBy End input replies rest left written = (is_blank rest ≡ true) × (left ≡ []) × (written ≡ concat replies)
+EndsBy (Malformed at) input replies rest left written =
+    IsMalformed rest × (length input ≡ at + length rest) × (written ≡ concat replies ++ MALFORMED_REPLY.now)
+EndsBy Long input replies rest left written =
+    IsUnread rest left × (length input ≡ 2 ^ 36 + length left) × (written ≡ concat replies)
+EndsBy InputFault input replies rest left written =
+    IsUnread rest left × (written ≡ concat replies)
+EndsBy OutputFault input replies rest left written =
+    ((front : List (List ℕ)) × (last : List ℕ) × (replies ≡ front ++ last ∷ []) × StopsWithin (concat front) last written)
+    ⊎ (IsMalformed rest × StopsWithin (concat replies) MALFORMED_REPLY.now written)
+EndsBy NoMemory input replies rest left written = (left ≡ input) × (replies ≡ []) × (written ≡ [])
+
+-- A session over this input, begun when these events had happened: the requests that it read, one behind another, a
+-- reply to each, and how it ended.
+pub record Serves (events : List Event) (end : SessionEnd) (input left written : List ℕ) : Type 0 where
+  pub requests : List Request
+  pub replies : List (List ℕ)
+  pub rest : List ℕ
+  pub after : List Event
+  pub reads : AreRequests input requests rest
+  pub answers : AreReplies events requests replies after
+  pub ends : EndsBy end input replies rest left written
+
+-- the sink has all bytes at its end, or where it failed a front of them that is not all
+abbrev pub IsWritten : Bool → List ℕ → List ℕ → List ℕ → Type 0
+IsWritten true before bytes after = after ≡ before ++ bytes
+IsWritten false before bytes after = (part : List ℕ) × (after ≡ before ++ part) × IsCutShort part bytes
+
+abbrev pub AreWritten : Option (List ℕ) → List ℕ → Option (List ℕ) → Bool → Type 0
+AreWritten before bytes after done = IfSome before (λ b. IsSomeAnd after (λ a. IsWritten done b bytes a))

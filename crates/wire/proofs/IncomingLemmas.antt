@@ -1,5 +1,5 @@
 -- What a look at the bytes at hand tells of the rest of a stream, and what becomes of the bytes in a block.
-use Rattle.std.proofs.Common.{◌≡◌, ℕ, ◌+◌, ◌-◌, ◌<◌, ◌≤◌, Bool, true, false, ◌&&◌, List, [], ◌++◌, length, take, drop, slice_range, Option, Some, None, IfSome, refl, sym, ap, ◌∙◌, subst, arith, append_assoc, length-append, length-drop, if◌then◌else◌}
+use Rattle.std.proofs.Common.{◌≡◌, ℕ, ◌+◌, ◌-◌, ◌^◌, ◌<◌, ◌≤◌, Bool, true, false, ◌&&◌, List, [], ◌++◌, length, take, drop, slice_range, Option, Some, None, IfSome, refl, sym, ap, ◌∙◌, subst, arith, append_assoc, length-append, length-drop, if◌then◌else◌}
 use Rattle.std.specs.Prelude.{IsSomeAnd}
 use Rattle.std.specs.Option.{is_some}
 use Rattle.std.proofs.lemmas.Bool.{true≢false, and_right}
@@ -198,3 +198,21 @@ unread_blank rest blank after left between offset offset' splits same skipped st
       short = λ visible. absurd (true≢false (sym skipped ∙ visible));
       stays = (blank, skipped, whole ∙ ap (λ (xs : List ℕ). blank ++ xs) (sym stays), moved);
     }
+
+-- ---- the limit
+
+-- what is behind the bytes at hand is left
+pub within_rest : (offset : ℕ) (rest ahead left : List ℕ) → rest ≡ ahead ++ left → offset + length ahead ≤ 2 ^ 36
+    → offset + length rest ≤ 2 ^ 36 + length left
+within_rest offset rest ahead left splits limit =
+    let e : length rest ≡ length ahead + length left = ap length splits ∙ length-append ahead left in
+    omega arith
+
+-- and behind skipped bytes
+pub within_skipped : (offset now : ℕ) (rest skipped ahead left : List ℕ) → rest ≡ skipped ++ (ahead ++ left)
+    → length skipped ≡ now - offset → offset ≤ now → now + length ahead ≤ 2 ^ 36
+    → offset + length rest ≤ 2 ^ 36 + length left
+within_skipped offset now rest skipped ahead left splits count forward limit =
+    let e : length rest ≡ length skipped + length (ahead ++ left) = ap length splits ∙ length-append skipped (ahead ++ left) in
+    let f : length (ahead ++ left) ≡ length ahead + length left = length-append ahead left in
+    omega arith

@@ -50,6 +50,12 @@ Answers old before message new after =
     IfSome before (λ b. IsSomeAnd after (λ a.
     IsNext (old.ahead ++ b) old.offset message (new.ahead ++ a) a new.offset))
 
+-- no more than 2^36 bytes of a stream are ever taken: where the source tells what is left, the stream from its start
+-- is no longer than that and what is left
+abbrev pub IsWithinLimit : Held → Option (List ℕ) → Option (List ℕ) → Type 0
+IsWithinLimit old before after =
+    IfSome before (λ b. IsSomeAnd after (λ a. old.offset + length (old.ahead ++ b) ≤ 2 ^ 36 + length a))
+
 -- a message that another can follow moves the offset on
 abbrev pub Proceeds : Held → Message → Held → Type 0
 Proceeds old (messages.Request verb target body) new = old.offset < new.offset

@@ -6,7 +6,7 @@ ghost use Rattle.httparse.specs.Grammar.{RequestHead};
 ghost use Rattle.devices.specs.Sources as sources;
 ghost use Rattle.devices.specs.Sources.{IsTakenWithin, Takes};
 ghost use Rattle.wire.specs.Messages.{HasNoHead};
-ghost use Rattle.wire.specs.Incoming.{Held, taken, IsNext, Answers, Proceeds, HasCause};
+ghost use Rattle.wire.specs.Incoming.{Held, taken, IsNext, Answers, IsWithinLimit, Proceeds, HasCause};
 ghost use Rattle.wire.specs.Looking.{IsRequestAt, IsBlankWindow, Looks, IsFilled, Keeps, HasFault};
 
 use crate::framing::{Found, Head, find_head};
@@ -69,6 +69,7 @@ impl Incoming {
         ensures answer { Answers self.old (S.left source.old) result self.new (S.left source.new) }
         ensures proceeds { Proceeds self.old result self.new }
         ensures limit { taken self.new ≤ 2 ^ 36 }
+        ensures within { IsWithinLimit self.old (S.left source.old) (S.left source.new) }
         ensures counted { S.faults source.old ≤ S.faults source.new }
         ensures cause { HasCause (S.faults source.old) (S.faults source.new) result }
     {
@@ -140,6 +141,7 @@ impl Incoming {
         ensures answer { Answers self.old (S.left source.old) result self.new (S.left source.new) }
         ensures proceeds { Proceeds self.old result self.new }
         ensures limit { taken self.new ≤ 2 ^ 36 }
+        ensures within { IsWithinLimit self.old (S.left source.old) (S.left source.new) }
         ensures counted { S.faults source.old ≤ S.faults source.new }
         ensures cause { HasCause (S.faults source.old) (S.faults source.new) result }
     {

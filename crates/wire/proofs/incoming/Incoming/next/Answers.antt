@@ -1,8 +1,8 @@
-use Rattle.std.proofs.Common.{◌≡◌, ℕ, ◌+◌, ◌^◌, ◌<◌, List, [], ◌++◌, length, take, refl, sym, ap, ◌∙◌, subst, arith}
+use Rattle.std.proofs.Common.{◌≡◌, ℕ, ◌+◌, ◌^◌, ◌<◌, ◌≤◌, List, [], ◌++◌, length, take, refl, sym, ap, ◌∙◌, subst, arith}
 use Rattle.wire.specs.Incoming.{Held, IsNext, IsUnread}
 use Rattle.wire.specs.Messages.{HasNoHead}
 use Rattle.wire.proofs.HeadLemmas.{blank_no_head}
-use Rattle.wire.proofs.IncomingLemmas.{told_self, told_joins, unread_ahead}
+use Rattle.wire.proofs.IncomingLemmas.{told_self, told_maps, told_joins, unread_ahead, within_rest}
 use Rattle.wire.proofs.incoming.Incoming.next.Goals as goal
 
 pub loop-head-init : goal.loop-head-init
@@ -98,4 +98,68 @@ returns-in-Failed-clause-answer g c =
     (λ b m. old.ahead ++ b ≡ now.ahead ++ m) (λ m a. a ≡ m)
     (λ b a. (seen : List ℕ) × IsUnread (old.ahead ++ b) old.offset seen (new.ahead ++ a) a new.offset)
     (λ b m a p q. (now.ahead, unread_ahead (old.ahead ++ b) now.ahead (new.ahead ++ a) a m old.offset new.offset p q none short (stays a) moved))
+    c.loop-head.invariant.rest c.in-Failed.ensures.kept
+
+pub returns-in-Request-clause-within : goal.returns-in-Request-clause-within
+returns-in-Request-clause-within g c =
+    let old = c.args.self.now in
+    let now = c.loop-head.self in
+    let limit : old.offset + length now.ahead ≤ 2 ^ 36 = omega (arith, c.held.ensures.limit, c.loop-head.invariant.offset) in
+    told_maps (g.S.Source.left c.args.source.now) (g.S.Source.left c.loop-head.source)
+    (λ b m. old.ahead ++ b ≡ now.ahead ++ m) (λ b a. old.offset + length (old.ahead ++ b) ≤ 2 ^ 36 + length a)
+    (λ b a p. within_rest old.offset (old.ahead ++ b) now.ahead a p limit)
+    c.loop-head.invariant.rest
+
+pub returns-in-Malformed-clause-within : goal.returns-in-Malformed-clause-within
+returns-in-Malformed-clause-within g c =
+    let old = c.args.self.now in
+    let now = c.loop-head.self in
+    let limit : old.offset + length now.ahead ≤ 2 ^ 36 = omega (arith, c.held.ensures.limit, c.loop-head.invariant.offset) in
+    told_maps (g.S.Source.left c.args.source.now) (g.S.Source.left c.loop-head.source)
+    (λ b m. old.ahead ++ b ≡ now.ahead ++ m) (λ b a. old.offset + length (old.ahead ++ b) ≤ 2 ^ 36 + length a)
+    (λ b a p. within_rest old.offset (old.ahead ++ b) now.ahead a p limit)
+    c.loop-head.invariant.rest
+
+pub returns-in-Blank-clause-within : goal.returns-in-Blank-clause-within
+returns-in-Blank-clause-within g c =
+    let old = c.args.self.now in
+    let now = c.loop-head.self in
+    told_joins (g.S.Source.left c.args.source.now) (g.S.Source.left c.loop-head.source) (g.S.Source.left c.skip_blank.new.source)
+    (λ b m. old.ahead ++ b ≡ now.ahead ++ m) (λ m a. now.offset + length (now.ahead ++ m) ≤ 2 ^ 36 + length a)
+    (λ b a. old.offset + length (old.ahead ++ b) ≤ 2 ^ 36 + length a)
+    (λ b m a p q. let same : length (old.ahead ++ b) ≡ length (now.ahead ++ m) = ap length p in
+    omega (arith, q, same, c.loop-head.invariant.offset))
+    c.loop-head.invariant.rest c.skip_blank.ensures.within
+
+pub returns-in-End-clause-within : goal.returns-in-End-clause-within
+returns-in-End-clause-within g c =
+    let old = c.args.self.now in
+    let now = c.loop-head.self in
+    let limit : old.offset + length now.ahead ≤ 2 ^ 36 = omega (arith, c.held.ensures.limit, c.loop-head.invariant.offset) in
+    told_joins (g.S.Source.left c.args.source.now) (g.S.Source.left c.loop-head.source) (g.S.Source.left c.fill.new.source)
+    (λ b m. old.ahead ++ b ≡ now.ahead ++ m) (λ m a. (m ≡ []) × (a ≡ []))
+    (λ b a. old.offset + length (old.ahead ++ b) ≤ 2 ^ 36 + length a)
+    (λ b m a p q. within_rest old.offset (old.ahead ++ b) now.ahead a (p ∙ ap (λ (xs : List ℕ). now.ahead ++ xs) (q.0 ∙ sym q.1)) limit)
+    c.loop-head.invariant.rest c.in-End.ensures.kept
+
+pub returns-in-Long-clause-within : goal.returns-in-Long-clause-within
+returns-in-Long-clause-within g c =
+    let old = c.args.self.now in
+    let now = c.loop-head.self in
+    let limit : old.offset + length now.ahead ≤ 2 ^ 36 = omega (arith, c.held.ensures.limit, c.loop-head.invariant.offset) in
+    told_joins (g.S.Source.left c.args.source.now) (g.S.Source.left c.loop-head.source) (g.S.Source.left c.fill.new.source)
+    (λ b m. old.ahead ++ b ≡ now.ahead ++ m) (λ m a. a ≡ m)
+    (λ b a. old.offset + length (old.ahead ++ b) ≤ 2 ^ 36 + length a)
+    (λ b m a p q. within_rest old.offset (old.ahead ++ b) now.ahead a (p ∙ ap (λ (xs : List ℕ). now.ahead ++ xs) (sym q)) limit)
+    c.loop-head.invariant.rest c.in-Long.ensures.kept
+
+pub returns-in-Failed-clause-within : goal.returns-in-Failed-clause-within
+returns-in-Failed-clause-within g c =
+    let old = c.args.self.now in
+    let now = c.loop-head.self in
+    let limit : old.offset + length now.ahead ≤ 2 ^ 36 = omega (arith, c.held.ensures.limit, c.loop-head.invariant.offset) in
+    told_joins (g.S.Source.left c.args.source.now) (g.S.Source.left c.loop-head.source) (g.S.Source.left c.fill.new.source)
+    (λ b m. old.ahead ++ b ≡ now.ahead ++ m) (λ m a. a ≡ m)
+    (λ b a. old.offset + length (old.ahead ++ b) ≤ 2 ^ 36 + length a)
+    (λ b m a p q. within_rest old.offset (old.ahead ++ b) now.ahead a (p ∙ ap (λ (xs : List ℕ). now.ahead ++ xs) (sym q)) limit)
     c.loop-head.invariant.rest c.in-Failed.ensures.kept

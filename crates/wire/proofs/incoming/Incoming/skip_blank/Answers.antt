@@ -1,8 +1,8 @@
-use Rattle.std.proofs.Common.{◌≡◌, ℕ, ◌+◌, ◌-◌, ◌^◌, true, false, List, [], ◌++◌, length, drop, refl, sym, ap, ◌∙◌, subst, arith, append_assoc, length-append}
+use Rattle.std.proofs.Common.{◌≡◌, ℕ, ◌+◌, ◌-◌, ◌^◌, ◌≤◌, true, false, List, [], ◌++◌, length, drop, refl, sym, ap, ◌∙◌, subst, arith, append_assoc, length-append}
 use Rattle.std.proofs.lemmas.List.{length-take}
 use Rattle.wire.specs.Incoming.{Held, taken, IsUnread}
 use Rattle.wire.specs.Messages.{is_blank, IsMalformed}
-use Rattle.wire.proofs.IncomingLemmas.{told_self, told_maps, told_joins, blank-append, blank_window_more, malformed_behind, unread_blank}
+use Rattle.wire.proofs.IncomingLemmas.{told_self, told_maps, told_joins, blank-append, blank_window_more, malformed_behind, unread_blank, within_skipped}
 use Rattle.wire.proofs.incoming.Incoming.skip_blank.Goals as goal
 
 pub loop-self-init : goal.loop-self-init
@@ -137,4 +137,51 @@ returns-clause-answer g c =
     told_maps (g.S.Source.left c.args.source.now) (g.S.Source.left c.loop-self.source)
     (λ b a. old.ahead ++ b ≡ skipped ++ (now.ahead ++ a)) (λ b a. IsMalformed (old.ahead ++ b) × (c.self.inside.offset ≡ old.offset))
     (λ b a h. (subst IsMalformed (sym h) (malformed_behind skipped now.ahead a visible so_far.3), c.loop-self.invariant.begun))
+    so_far.4
+
+pub returns-in-End-clause-within : goal.returns-in-End-clause-within
+returns-in-End-clause-within g c =
+    let old = c.args.self.now in
+    let now = c.loop-self.self in
+    let so_far = c.loop-self.invariant.skipped in
+    told_joins (g.S.Source.left c.args.source.now) (g.S.Source.left c.loop-self.source) (g.S.Source.left c.fill.new.source)
+    (λ b m. old.ahead ++ b ≡ so_far.0 ++ (now.ahead ++ m)) (λ m a. (m ≡ []) × (a ≡ []))
+    (λ b a. old.offset + length (old.ahead ++ b) ≤ 2 ^ 36 + length a)
+    (λ b m a p q. within_skipped old.offset now.offset (old.ahead ++ b) so_far.0 now.ahead a
+    (p ∙ ap (λ (xs : List ℕ). so_far.0 ++ (now.ahead ++ xs)) (q.0 ∙ sym q.1)) so_far.1 c.loop-self.invariant.forward c.loop-self.invariant.limit)
+    so_far.4 c.in-End.ensures.kept
+
+pub returns-in-Long-clause-within : goal.returns-in-Long-clause-within
+returns-in-Long-clause-within g c =
+    let old = c.args.self.now in
+    let now = c.loop-self.self in
+    let so_far = c.loop-self.invariant.skipped in
+    told_joins (g.S.Source.left c.args.source.now) (g.S.Source.left c.loop-self.source) (g.S.Source.left c.fill.new.source)
+    (λ b m. old.ahead ++ b ≡ so_far.0 ++ (now.ahead ++ m)) (λ m a. a ≡ m)
+    (λ b a. old.offset + length (old.ahead ++ b) ≤ 2 ^ 36 + length a)
+    (λ b m a p q. within_skipped old.offset now.offset (old.ahead ++ b) so_far.0 now.ahead a
+    (p ∙ ap (λ (xs : List ℕ). so_far.0 ++ (now.ahead ++ xs)) (sym q)) so_far.1 c.loop-self.invariant.forward c.loop-self.invariant.limit)
+    so_far.4 c.in-Long.ensures.kept
+
+pub returns-in-Failed-clause-within : goal.returns-in-Failed-clause-within
+returns-in-Failed-clause-within g c =
+    let old = c.args.self.now in
+    let now = c.loop-self.self in
+    let so_far = c.loop-self.invariant.skipped in
+    told_joins (g.S.Source.left c.args.source.now) (g.S.Source.left c.loop-self.source) (g.S.Source.left c.fill.new.source)
+    (λ b m. old.ahead ++ b ≡ so_far.0 ++ (now.ahead ++ m)) (λ m a. a ≡ m)
+    (λ b a. old.offset + length (old.ahead ++ b) ≤ 2 ^ 36 + length a)
+    (λ b m a p q. within_skipped old.offset now.offset (old.ahead ++ b) so_far.0 now.ahead a
+    (p ∙ ap (λ (xs : List ℕ). so_far.0 ++ (now.ahead ++ xs)) (sym q)) so_far.1 c.loop-self.invariant.forward c.loop-self.invariant.limit)
+    so_far.4 c.in-Failed.ensures.kept
+
+pub returns-clause-within : goal.returns-clause-within
+returns-clause-within g c =
+    let old = c.args.self.now in
+    let now = c.loop-self.self in
+    let so_far = c.loop-self.invariant.skipped in
+    told_maps (g.S.Source.left c.args.source.now) (g.S.Source.left c.loop-self.source)
+    (λ b a. old.ahead ++ b ≡ so_far.0 ++ (now.ahead ++ a)) (λ b a. old.offset + length (old.ahead ++ b) ≤ 2 ^ 36 + length a)
+    (λ b a p. within_skipped old.offset now.offset (old.ahead ++ b) so_far.0 now.ahead a p so_far.1
+    c.loop-self.invariant.forward c.loop-self.invariant.limit)
     so_far.4

@@ -1,9 +1,9 @@
 -- The days of the calendar that await an edit are those of the waiting cells.
-use Rattle.std.specs.Prelude.{◌≡◌, Bool, true, false, cond, List, [], ◌∷◌, ℕ, zero, suc, ◌⊎◌, ℤ, pos, negsuc, ◌+ℤ◌, ◌<ℤ◌, ◌≤ℤ◌, filter, map, length, slice_get, is_some, All, AllPairs, option_and_then}
-use Rattle.std.proofs.Common.{arith, refl, ap, ◌∙◌, get_or, inl, inr}
+use Rattle.std.specs.Prelude.{◌≡◌, Bool, true, false, cond, List, [], ◌∷◌, ℕ, zero, suc, ◌⊎◌, ℤ, pos, negsuc, ◌+ℤ◌, ◌<ℤ◌, ◌≤ℤ◌, filter, map, length, slice_get, is_some, All, AllPairs, option_and_then, ◌↔◌, Contains}
+use Rattle.std.proofs.Common.{arith, refl, ap, sym, subst, ◌∙◌, get_or, inl, inr}
 use Rattle.std.proofs.lemmas.Int.{ints, by_lt_z}
 use Rattle.std.proofs.lemmas.List.{length-map}
-use Rattle.std.proofs.lemmas.List.Elements.{All-head, All-cons, All-weaker}
+use Rattle.std.proofs.lemmas.List.Elements.{All-head, All-cons, All-weaker, All-contains, Contains-get_or, Contains-append_right, filter_passes}
 use Rattle.fixed_units.specs.Quantities.{IsDay}
 use Rattle.office.specs.declared.cells.Cell.{Cell}
 use Rattle.office.specs.Calendar.{days_from, calendar}
@@ -147,6 +147,31 @@ is_day d h =
 pub filter_calendar_same : (p q : ℤ → Bool) → ((d : ℤ) → IsDay d → p d ≡ q d) → filter p calendar ≡ filter q calendar
 unfolding calendar
 filter_calendar_same p q h = filter_days_same p q (negsuc 25_566) 73_049 (λ d k. h d (is_day d k))
+
+-- a day that passes a test is one of those that a filter by it keeps, and only such a day is
+kept_first : (b : Bool) (day d : ℤ) (ds : List ℤ) → b ≡ true → d ≡ day → Contains (cond b (day ∷ ds) ds) d
+kept_first true day d ds b e = subst (λ (x : ℤ). Contains (day ∷ ds) x) (sym e) (Contains-get_or (day ∷ ds) 0 day (omega arith))
+kept_first false day d ds b e = absurd (cc)
+
+kept_later : (b : Bool) (day d : ℤ) (ds : List ℤ) → Contains ds d → Contains (cond b (day ∷ ds) ds) d
+kept_later true day d ds h = Contains-append_right (day ∷ []) ds d h
+kept_later false day d ds h = h
+
+filter_has : (p : ℤ → Bool) (day : ℤ) (n : ℕ) (d : ℤ) → IsWithin day n d → p d ≡ true → Contains (filter p (days_from day n)) d
+unfolding days_from
+filter_has p day zero d w h = none_within day d w
+filter_has p day (suc n) d w h =
+    elim (first_or_later day n d w) [
+      | inl e ↦ kept_first (p day) day d (filter p (days_from (day +ℤ pos 1) n)) (ap p (sym e) ∙ h) e
+      | inr l ↦ kept_later (p day) day d (filter p (days_from (day +ℤ pos 1) n)) (filter_has p (day +ℤ pos 1) n d (later_within day n d w l) h)
+    ]
+
+pub filter_calendar_has : (p : ℤ → Bool) (d : ℤ) → IsDay d → (p d ≡ true) ↔ Contains (filter p calendar) d
+unfolding calendar
+filter_calendar_has p d h = (
+  filter_has p (negsuc 25_566) 73_049 d (is_within d h),
+  All-contains (λ (x : ℤ). p x ≡ true) (filter p (days_from (negsuc 25_566) 73_049)) d (filter_passes p (days_from (negsuc 25_566) 73_049)),
+)
 
 -- the days of the calendar that await an edit, how many they are, and the first
 pub pending_in_calendar : (cells : List Cell) → AreCells cells

@@ -144,7 +144,7 @@ unfolding window_of
 with_window-window gap array from until [] = refl
 with_window-window gap array from until (r ∷ rs) = refl
 
-window_told : (gap : ℕ) (array : RoundingArray) (from until : ℤ) (rs ss : List Reading)
+pub window_told : (gap : ℕ) (array : RoundingArray) (from until : ℤ) (rs ss : List Reading)
     → with_window gap array from until rs ≡ with_window gap array from until ss → rs ≡ ss
 window_told gap array from until rs ss e =
     sym (with_window-window gap array from until rs) ∙ ap window_of e ∙ with_window-window gap array from until ss

@@ -4,6 +4,7 @@ pub mod CellsPlaceLemmas
 pub mod ChangesLemmas
 pub mod DrainLemmas
 pub mod FarLemmas
+pub mod FromScratchLemmas
 pub mod HistoryLemmas
 pub mod InputsLemmas
 pub mod KeptLemmas

@@ -1,7 +1,8 @@
 //! What the definitions of the office say together, as laws.
 
-ghost use Rattle.std.specs.Prelude.{◌≡◌, ◌↔◌, ◌+◌, ◌++◌, ◌∷◌, ℕ, ℤ, List, [], false, true, length, drop, Some};
-ghost use Rattle.office.specs.Changes.{changes, same_number};
+ghost use Rattle.std.specs.Prelude.{◌≡◌, ◌↔◌, ◌+◌, ◌++◌, ◌∷◌, ℕ, ℤ, List, [], false, true, length, drop, Some, Contains};
+ghost use Rattle.fixed_units.specs.Quantities.{IsDay};
+ghost use Rattle.office.specs.Changes.{changes, changed_days, same_number};
 ghost use Rattle.office.specs.History.{Event, Accepted, Published, DayAnswer, Computed, accepted, inputs_at, awaited, value_at, answer_at, pending_days, after_edit, after_turn};
 ghost use Rattle.office.specs.Inputs.{Inputs, inputs_of_day, inputs_after};
 ghost use Rattle.office.specs.Laws.{IsNamed};
@@ -10,6 +11,11 @@ ghost use Rattle.office.specs.declared.edits.Edit.{Edit};
 /// An edit leaves a day exactly where the inputs of the day are equal before the edit and after it.
 pub fn unchanged_days_have_equal_inputs()
     ensures { (inputs : Inputs) (edit : Edit) (day : ℤ) → (changes inputs edit day ≡ false) ↔ (inputs_of_day inputs day ≡ inputs_of_day (inputs_after inputs edit) day) }
+{}
+
+/// The changed days are those days of the calendar that the edit changes.
+pub fn changed_days_are_those_that_change()
+    ensures { (inputs : Inputs) (edit : Edit) (day : ℤ) → IsDay day → (changes inputs edit day ≡ true) ↔ Contains (changed_days inputs edit) day }
 {}
 
 /// A day that an edit does not change is answered as before.

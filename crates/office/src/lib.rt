@@ -4,6 +4,7 @@
 
 pub mod cells;
 pub mod edits;
+pub mod from_scratch;
 pub mod laws;
 mod marks;
 pub mod records_office;

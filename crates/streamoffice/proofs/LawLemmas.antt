@@ -1,13 +1,13 @@
 -- The proofs of the laws.
-use Rattle.std.proofs.Common.{◌≡◌, ◌≢◌, ◌⊎◌, ℕ, true, List, [], ◌∷◌, ◌++◌, refl, sym, ◌∙◌, ap, subst, inl, inr}
+use Rattle.std.proofs.Common.{◌≡◌, ◌≢◌, ℕ, List, [], ◌∷◌, ◌++◌, refl, sym, ◌∙◌, ap, subst, inl, inr}
 use Rattle.std.specs.List.{concat}
 use Rattle.office.specs.History.{Event}
-use Rattle.wire.specs.Messages.{Request, request_of, IsRequest, AreRequests, IsMalformed, is_blank}
+use Rattle.wire.specs.Messages.{Request, request_of, IsRequest, AreRequests}
 use Rattle.wire.proofs.HeadLemmas.{request_unique_in, blank_no_request, malformed_no_request}
 use Rattle.wire.specs.declared.replies.TheConstants.{NO_MEMORY_REPLY}
 use Rattle.httparse.specs.Grammar.{RequestHead}
-use Rattle.streamoffice.specs.Laws.{HadMemory, RepliesAreOutput, IsLast, ReadingIsUnique}
-use Rattle.streamoffice.specs.Output.{asked, reply_to, history_after, IsReply, AreReplies, output}
+use Rattle.streamoffice.specs.Laws.{RepliesAreOutput, IsLast, ReadingIsUnique}
+use Rattle.streamoffice.specs.Output.{asked, reply_to, history_after, IsReply, output}
 
 -- one reply is the office's, and the history goes on as it says
 one_reply : (events next : List Event) (request : Request) (reply : List ℕ) (requests : List Request) (replies : List (List ℕ))

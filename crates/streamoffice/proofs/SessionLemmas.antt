@@ -1,5 +1,5 @@
 -- How a session goes on and ends, message by message.
-use Rattle.std.proofs.Common.{◌≡◌, ◌≢◌, ◌⊎◌, ℕ, ◌+◌, ◌^◌, ◌<◌, Bool, if◌then◌else◌, true, false, List, [], ◌∷◌, ◌++◌, length, Option, Some, None, IfSome, IsSomeAnd, refl, sym, ◌∙◌, ap, subst, inl, inr, append_assoc, append-nil, length-append, arith}
+use Rattle.std.proofs.Common.{◌≡◌, ℕ, ◌+◌, ◌^◌, ◌≤◌, Bool, if◌then◌else◌, true, false, List, [], ◌∷◌, ◌++◌, length, Option, Some, None, IfSome, IsSomeAnd, refl, sym, ◌∙◌, ap, subst, inl, inr, append_assoc, append-nil, length-append, arith}
 use Rattle.std.specs.List.{concat}
 use Rattle.office.specs.History.{Event}
 use Rattle.office.specs.Kept.{State, Keeps}
@@ -10,9 +10,9 @@ use Rattle.wire.specs.declared.messages.Verb.{Verb}
 use Rattle.wire.specs.declared.messages.Verb.TheVariants.{Other}
 use Rattle.wire.specs.declared.messages.Message.TheVariants as messages
 use Rattle.wire.specs.declared.replies.TheConstants.{NO_MEMORY_REPLY, MALFORMED_REPLY}
-use Rattle.wire.specs.Incoming.{Held, IsNext, Answers}
+use Rattle.wire.specs.Incoming.{Held, taken, IsNext, Answers, IsWithinLimit}
 use Rattle.wire.specs.Incoming as incoming
-use Rattle.wire.specs.Messages.{Request, request_of, AreRequests}
+use Rattle.wire.specs.Messages.{Request, request_of}
 use Rattle.streamoffice.specs.Output.{asked, IsReply, AreReplies}
 use Rattle.streamoffice.specs.Served.{IsCutShort, StopsWithin, AreWritten, IsUnread, Serves}
 use Rattle.streamoffice.specs.Session.{IsServed, IsReadTo, IsUnderWay, GoesOn, Answered}
@@ -57,6 +57,18 @@ tell N R W events end (Some input) (Some b) (Some a) None w' reads next wrote se
 tell N R W events end (Some input) (Some b) (Some a) (Some before) w' reads next wrote serves =
     (wrote.0, wrote.1, serves input b a wrote.0 reads next wrote.2)
 
+-- two facts of what a source had and has
+both : (P Q : List ℕ → List ℕ → Type 0) (l l' : Option (List ℕ))
+    → IfSome l (λ b. IsSomeAnd l' (λ a. P b a)) → IfSome l (λ b. IsSomeAnd l' (λ a. Q b a))
+    → IfSome l (λ b. IsSomeAnd l' (λ a. P b a × Q b a))
+both P Q None l' p q = tt
+both P Q (Some b) None p q = p
+both P Q (Some b) (Some a) p q = (p, q)
+
+-- an input of which so much was taken
+taken_of : (input : List ℕ) (whole left : ℕ) → length input ≡ whole → whole ≤ 2 ^ 36 + left → length input ≤ 2 ^ 36 + left
+taken_of input whole left e h = omega arith
+
 -- nothing more was written
 wrote_nothing : (w0 w : Option (List ℕ)) (so_far : List ℕ)
     → IfSome w0 (λ before. w ≡ Some (before ++ so_far))
@@ -66,12 +78,13 @@ wrote_nothing (Some before) w so_far wrote = (so_far, wrote, refl)
 
 -- the end of the input
 pub ends_at_end : (events : List Event) (office : State) (held held' : Held) (l0 l l' w0 w : Option (List ℕ))
-    → IsUnderWay events office held l0 l w0 w → Answers held l messages.End held' l'
+    → IsUnderWay events office held l0 l w0 w → Answers held l messages.End held' l' → IsWithinLimit held l l'
     → IsServed events ends.End l0 l' w0 w
-ends_at_end events office held held' l0 l l' w0 w u answers =
-    tell (λ b a. IsNext (held.ahead ++ b) held.offset messages.End (held'.ahead ++ a) a held'.offset)
+ends_at_end events office held held' l0 l l' w0 w u answers within =
+    tell (λ b a. IsNext (held.ahead ++ b) held.offset messages.End (held'.ahead ++ a) a held'.offset × (held.offset + length (held.ahead ++ b) ≤ 2 ^ 36 + length a))
     (λ input b. IsReadTo input u.requests (held.ahead ++ b) held.offset) (λ written. written ≡ concat u.replies)
-    events ends.End l0 l l' w0 w u.reads answers (wrote_nothing w0 w (concat u.replies) u.wrote)
+    events ends.End l0 l l' w0 w u.reads
+    (both (λ b a. IsNext (held.ahead ++ b) held.offset messages.End (held'.ahead ++ a) a held'.offset) (λ b a. held.offset + length (held.ahead ++ b) ≤ 2 ^ 36 + length a) l l' answers within) (wrote_nothing w0 w (concat u.replies) u.wrote)
     (λ input b a written reads next wrote. record {
       requests = u.requests;
       replies = u.replies;
@@ -79,7 +92,8 @@ ends_at_end events office held held' l0 l l' w0 w u answers =
       after = u.after;
       reads = reads.reads;
       answers = u.answers;
-      ends = (next.0, next.1, wrote);
+      ends = (next.0.0, next.0.1, wrote);
+      limit = taken_of input (held.offset + length (held.ahead ++ b)) (length a) reads.offset next.1;
     })
 
 -- what a source that failed leaves
@@ -90,12 +104,13 @@ unread rest offset seen after left offset' h =
 
 -- the source failed
 pub ends_at_fault : (events : List Event) (office : State) (held held' : Held) (l0 l l' w0 w : Option (List ℕ))
-    → IsUnderWay events office held l0 l w0 w → Answers held l messages.Failed held' l'
+    → IsUnderWay events office held l0 l w0 w → Answers held l messages.Failed held' l' → IsWithinLimit held l l'
     → IsServed events ends.InputFault l0 l' w0 w
-ends_at_fault events office held held' l0 l l' w0 w u answers =
-    tell (λ b a. IsNext (held.ahead ++ b) held.offset messages.Failed (held'.ahead ++ a) a held'.offset)
+ends_at_fault events office held held' l0 l l' w0 w u answers within =
+    tell (λ b a. IsNext (held.ahead ++ b) held.offset messages.Failed (held'.ahead ++ a) a held'.offset × (held.offset + length (held.ahead ++ b) ≤ 2 ^ 36 + length a))
     (λ input b. IsReadTo input u.requests (held.ahead ++ b) held.offset) (λ written. written ≡ concat u.replies)
-    events ends.InputFault l0 l l' w0 w u.reads answers (wrote_nothing w0 w (concat u.replies) u.wrote)
+    events ends.InputFault l0 l l' w0 w u.reads
+    (both (λ b a. IsNext (held.ahead ++ b) held.offset messages.Failed (held'.ahead ++ a) a held'.offset) (λ b a. held.offset + length (held.ahead ++ b) ≤ 2 ^ 36 + length a) l l' answers within) (wrote_nothing w0 w (concat u.replies) u.wrote)
     (λ input b a written reads next wrote. record {
       requests = u.requests;
       replies = u.replies;
@@ -103,7 +118,8 @@ ends_at_fault events office held held' l0 l l' w0 w u answers =
       after = u.after;
       reads = reads.reads;
       answers = u.answers;
-      ends = (unread (held.ahead ++ b) held.offset next.0 (held'.ahead ++ a) a held'.offset next.1, wrote);
+      ends = (unread (held.ahead ++ b) held.offset next.0.0 (held'.ahead ++ a) a held'.offset next.0.1, wrote);
+      limit = taken_of input (held.offset + length (held.ahead ++ b)) (length a) reads.offset next.1;
     })
 
 -- so many bytes were taken as a stream may have
@@ -114,12 +130,13 @@ longest input rest seen left offset whole splits limit =
 
 -- the stream is too long
 pub ends_at_limit : (events : List Event) (office : State) (held held' : Held) (l0 l l' w0 w : Option (List ℕ))
-    → IsUnderWay events office held l0 l w0 w → Answers held l messages.Long held' l'
+    → IsUnderWay events office held l0 l w0 w → Answers held l messages.Long held' l' → IsWithinLimit held l l'
     → IsServed events ends.Long l0 l' w0 w
-ends_at_limit events office held held' l0 l l' w0 w u answers =
-    tell (λ b a. IsNext (held.ahead ++ b) held.offset messages.Long (held'.ahead ++ a) a held'.offset)
+ends_at_limit events office held held' l0 l l' w0 w u answers within =
+    tell (λ b a. IsNext (held.ahead ++ b) held.offset messages.Long (held'.ahead ++ a) a held'.offset × (held.offset + length (held.ahead ++ b) ≤ 2 ^ 36 + length a))
     (λ input b. IsReadTo input u.requests (held.ahead ++ b) held.offset) (λ written. written ≡ concat u.replies)
-    events ends.Long l0 l l' w0 w u.reads answers (wrote_nothing w0 w (concat u.replies) u.wrote)
+    events ends.Long l0 l l' w0 w u.reads
+    (both (λ b a. IsNext (held.ahead ++ b) held.offset messages.Long (held'.ahead ++ a) a held'.offset) (λ b a. held.offset + length (held.ahead ++ b) ≤ 2 ^ 36 + length a) l l' answers within) (wrote_nothing w0 w (concat u.replies) u.wrote)
     (λ input b a written reads next wrote. record {
       requests = u.requests;
       replies = u.replies;
@@ -128,10 +145,11 @@ ends_at_limit events office held held' l0 l l' w0 w u answers =
       reads = reads.reads;
       answers = u.answers;
       ends = (
-        unread (held.ahead ++ b) held.offset next.0 (held'.ahead ++ a) a held'.offset next.1,
-        longest input (held.ahead ++ b) next.0 a held.offset reads.offset next.1.taken next.2,
+        unread (held.ahead ++ b) held.offset next.0.0 (held'.ahead ++ a) a held'.offset next.0.1,
+        longest input (held.ahead ++ b) next.0.0 a held.offset reads.offset next.0.1.taken next.0.2,
         wrote,
       );
+      limit = taken_of input (held.offset + length (held.ahead ++ b)) (length a) reads.offset next.1;
     })
 
 -- the reply to what is malformed was written whole
@@ -142,13 +160,14 @@ whole_malformed w0 w w' so_far wrote put = wrote_nothing w0 w' (so_far ++ MALFOR
 
 pub ends_malformed : (events : List Event) (office : State) (held held' : Held) (at : ℕ) (l0 l l' w0 w w' : Option (List ℕ))
     → IsUnderWay events office held l0 l w0 w → Answers held l (messages.Malformed at) held' l'
-    → AreWritten w MALFORMED_REPLY.now w' true
+    → IsWithinLimit held l l' → AreWritten w MALFORMED_REPLY.now w' true
     → IsServed events (ends.Malformed at) l0 l' w0 w'
-ends_malformed events office held held' at l0 l l' w0 w w' u answers put =
-    tell (λ b a. IsNext (held.ahead ++ b) held.offset (messages.Malformed at) (held'.ahead ++ a) a held'.offset)
+ends_malformed events office held held' at l0 l l' w0 w w' u answers within put =
+    tell (λ b a. IsNext (held.ahead ++ b) held.offset (messages.Malformed at) (held'.ahead ++ a) a held'.offset × (held.offset + length (held.ahead ++ b) ≤ 2 ^ 36 + length a))
     (λ input b. IsReadTo input u.requests (held.ahead ++ b) held.offset)
     (λ written. written ≡ concat u.replies ++ MALFORMED_REPLY.now)
-    events (ends.Malformed at) l0 l l' w0 w' u.reads answers (whole_malformed w0 w w' (concat u.replies) u.wrote put)
+    events (ends.Malformed at) l0 l l' w0 w' u.reads
+    (both (λ b a. IsNext (held.ahead ++ b) held.offset (messages.Malformed at) (held'.ahead ++ a) a held'.offset) (λ b a. held.offset + length (held.ahead ++ b) ≤ 2 ^ 36 + length a) l l' answers within) (whole_malformed w0 w w' (concat u.replies) u.wrote put)
     (λ input b a written reads next wrote. record {
       requests = u.requests;
       replies = u.replies;
@@ -156,7 +175,8 @@ ends_malformed events office held held' at l0 l l' w0 w w' u answers put =
       after = u.after;
       reads = reads.reads;
       answers = u.answers;
-      ends = (next.0, reads.offset ∙ ap (λ (n : ℕ). n + length (held.ahead ++ b)) (sym next.1), wrote);
+      ends = (next.0.0, reads.offset ∙ ap (λ (n : ℕ). n + length (held.ahead ++ b)) (sym next.0.1), wrote);
+      limit = taken_of input (held.offset + length (held.ahead ++ b)) (length a) reads.offset next.1;
     })
 
 -- and here only in part
@@ -170,13 +190,14 @@ part_malformed (Some before) w w' so_far wrote put =
 
 pub fails_malformed : (events : List Event) (office : State) (held held' : Held) (at : ℕ) (l0 l l' w0 w w' : Option (List ℕ))
     → IsUnderWay events office held l0 l w0 w → Answers held l (messages.Malformed at) held' l'
-    → AreWritten w MALFORMED_REPLY.now w' false
+    → IsWithinLimit held l l' → AreWritten w MALFORMED_REPLY.now w' false
     → IsServed events ends.OutputFault l0 l' w0 w'
-fails_malformed events office held held' at l0 l l' w0 w w' u answers put =
-    tell (λ b a. IsNext (held.ahead ++ b) held.offset (messages.Malformed at) (held'.ahead ++ a) a held'.offset)
+fails_malformed events office held held' at l0 l l' w0 w w' u answers within put =
+    tell (λ b a. IsNext (held.ahead ++ b) held.offset (messages.Malformed at) (held'.ahead ++ a) a held'.offset × (held.offset + length (held.ahead ++ b) ≤ 2 ^ 36 + length a))
     (λ input b. IsReadTo input u.requests (held.ahead ++ b) held.offset)
     (λ written. StopsWithin (concat u.replies) MALFORMED_REPLY.now written)
-    events ends.OutputFault l0 l l' w0 w' u.reads answers (part_malformed w0 w w' (concat u.replies) u.wrote put)
+    events ends.OutputFault l0 l l' w0 w' u.reads
+    (both (λ b a. IsNext (held.ahead ++ b) held.offset (messages.Malformed at) (held'.ahead ++ a) a held'.offset) (λ b a. held.offset + length (held.ahead ++ b) ≤ 2 ^ 36 + length a) l l' answers within) (part_malformed w0 w w' (concat u.replies) u.wrote put)
     (λ input b a written reads next wrote. record {
       requests = u.requests;
       replies = u.replies;
@@ -184,7 +205,8 @@ fails_malformed events office held held' at l0 l l' w0 w w' u answers put =
       after = u.after;
       reads = reads.reads;
       answers = u.answers;
-      ends = inr (next.0, wrote);
+      ends = inr (next.0.0, wrote);
+      limit = taken_of input (held.offset + length (held.ahead ++ b)) (length a) reads.offset next.1;
     })
 
 -- what was read moves on by a request
@@ -275,17 +297,24 @@ goes_on_skipped events office held held' l0 l l' w0 w w' u answers put =
     read.0 NO_MEMORY_REPLY.now u.answers (inr (refl, left_alone u.after (asked read.0))) u.keeps
     read.1 (wrote_reply w0 w w' u.replies NO_MEMORY_REPLY.now u.wrote put)
 
+-- of an input so much was taken as stands before the bytes at hand and in them
+taken_behind : (input : List ℕ) (held : Held) (left : List ℕ) → length input ≡ held.offset + length (held.ahead ++ left)
+    → taken held ≤ 2 ^ 36 → length input ≤ 2 ^ 36 + length left
+taken_behind input held left e few =
+    let f : length (held.ahead ++ left) ≡ length held.ahead + length left = length-append held.ahead left in
+    omega (arith, few)
+
 -- the sink failed within the reply to a request
 fails : (events : List Event) (held' : Held) (l0 l' w0 w w' : Option (List ℕ))
     (requests : List Request) (replies : List (List ℕ)) (after next : List Event) (request : Request) (reply : List ℕ)
     → AreReplies events requests replies after → IsReply after (asked request) reply next
     → IfSome l0 (λ input. IsSomeAnd l' (λ a. IsReadTo input (requests ++ request ∷ []) (held'.ahead ++ a) held'.offset))
-    → IfSome w0 (λ before. w ≡ Some (before ++ concat replies)) → AreWritten w reply w' false
+    → taken held' ≤ 2 ^ 36 → IfSome w0 (λ before. w ≡ Some (before ++ concat replies)) → AreWritten w reply w' false
     → IsServed events ends.OutputFault l0 l' w0 w'
-fails events held' None l' w0 w w' requests replies after next request reply answers is reads wrote put = tt
-fails events held' (Some input) None w0 w w' requests replies after next request reply answers is reads wrote put = absurd reads
-fails events held' (Some input) (Some a) None w w' requests replies after next request reply answers is reads wrote put = tt
-fails events held' (Some input) (Some a) (Some before) w w' requests replies after next request reply answers is reads wrote put =
+fails events held' None l' w0 w w' requests replies after next request reply answers is reads few wrote put = tt
+fails events held' (Some input) None w0 w w' requests replies after next request reply answers is reads few wrote put = absurd reads
+fails events held' (Some input) (Some a) None w w' requests replies after next request reply answers is reads few wrote put = tt
+fails events held' (Some input) (Some a) (Some before) w w' requests replies after next request reply answers is reads few wrote put =
     let p = wrote_part (Some before) w w' (concat replies) reply wrote put in (
       concat replies ++ p.0,
       p.1,
@@ -297,28 +326,29 @@ fails events held' (Some input) (Some a) (Some before) w w' requests replies aft
         reads = reads.reads;
         answers = replies_more events requests replies after request reply next answers is;
         ends = inl (replies, reply, refl, (p.0, refl, p.2));
+        limit = taken_behind input held' a reads.offset few;
       },
     )
 
 pub fails_request : (events : List Event) (office office' : State) (held held' : Held) (verb : Verb) (target body reply : List ℕ)
     (l0 l l' w0 w w' : Option (List ℕ))
     → IsUnderWay events office held l0 l w0 w → Answers held l (messages.Request verb target body) held' l'
-    → Answered office (ask_of verb target) reply office' → AreWritten w reply w' false
+    → taken held' ≤ 2 ^ 36 → Answered office (ask_of verb target) reply office' → AreWritten w reply w' false
     → IsServed events ends.OutputFault l0 l' w0 w'
-fails_request events office office' held held' verb target body reply l0 l l' w0 w w' u answers answered put =
+fails_request events office office' held held' verb target body reply l0 l l' w0 w w' u answers few answered put =
     let done = answered u.after u.keeps in
     fails events held' l0 l' w0 w w' u.requests u.replies u.after done.0
     (record { verb = verb; target = target; body = body }) reply u.answers done.1
-    (reads_request held held' u.requests verb target body l0 l l' u.reads answers) u.wrote put
+    (reads_request held held' u.requests verb target body l0 l l' u.reads answers) few u.wrote put
 
 pub fails_skipped : (events : List Event) (office : State) (held held' : Held) (l0 l l' w0 w w' : Option (List ℕ))
     → IsUnderWay events office held l0 l w0 w → Answers held l messages.NoMemory held' l'
-    → AreWritten w NO_MEMORY_REPLY.now w' false
+    → taken held' ≤ 2 ^ 36 → AreWritten w NO_MEMORY_REPLY.now w' false
     → IsServed events ends.OutputFault l0 l' w0 w'
-fails_skipped events office held held' l0 l l' w0 w w' u answers put =
+fails_skipped events office held held' l0 l l' w0 w w' u answers few put =
     let read = reads_skipped held held' u.requests l0 l l' u.reads answers in
     fails events held' l0 l' w0 w w' u.requests u.replies u.after u.after read.0 NO_MEMORY_REPLY.now
-    u.answers (inr (refl, left_alone u.after (asked read.0))) read.1 u.wrote put
+    u.answers (inr (refl, left_alone u.after (asked read.0))) read.1 few u.wrote put
 
 -- a session that begins is under way
 pub begins : (events : List Event) (office : State) (l0 w0 : Option (List ℕ)) → Keeps office events
@@ -356,6 +386,7 @@ ends_before events (Some input) (Some before) = (
     reads = refl;
     answers = refl;
     ends = (refl, refl, refl);
+    limit = omega arith;
   },
 )
 
@@ -364,28 +395,28 @@ pub after_reply : (done : Bool) (end : Option SessionEnd) (events : List Event) 
     (verb : Verb) (target body reply : List ℕ) (l0 l l' w0 w w' : Option (List ℕ))
     → end ≡ (if done then None else Some ends.OutputFault)
     → IsUnderWay events office held l0 l w0 w → Answers held l (messages.Request verb target body) held' l'
-    → Answered office (ask_of verb target) reply office' → AreWritten w reply w' done
+    → taken held' ≤ 2 ^ 36 → Answered office (ask_of verb target) reply office' → AreWritten w reply w' done
     → GoesOn events end office' held' l0 l' w0 w'
-after_reply true end events office office' held held' verb target body reply l0 l l' w0 w w' is u answers answered put =
+after_reply true end events office office' held held' verb target body reply l0 l l' w0 w w' is u answers few answered put =
     subst (λ (e : Option SessionEnd). GoesOn events e office' held' l0 l' w0 w') (sym is)
     (goes_on_request events office office' held held' verb target body reply l0 l l' w0 w w' u answers answered put)
-after_reply false end events office office' held held' verb target body reply l0 l l' w0 w w' is u answers answered put =
+after_reply false end events office office' held held' verb target body reply l0 l l' w0 w w' is u answers few answered put =
     subst (λ (e : Option SessionEnd). GoesOn events e office' held' l0 l' w0 w') (sym is)
-    (fails_request events office office' held held' verb target body reply l0 l l' w0 w w' u answers answered put)
+    (fails_request events office office' held held' verb target body reply l0 l l' w0 w w' u answers few answered put)
 
 -- and after the reply to one that was skipped
 pub after_skip : (done : Bool) (end : Option SessionEnd) (events : List Event) (office : State) (held held' : Held)
     (l0 l l' w0 w w' : Option (List ℕ))
     → end ≡ (if done then None else Some ends.OutputFault)
     → IsUnderWay events office held l0 l w0 w → Answers held l messages.NoMemory held' l'
-    → AreWritten w NO_MEMORY_REPLY.now w' done
+    → taken held' ≤ 2 ^ 36 → AreWritten w NO_MEMORY_REPLY.now w' done
     → GoesOn events end office held' l0 l' w0 w'
-after_skip true end events office held held' l0 l l' w0 w w' is u answers put =
+after_skip true end events office held held' l0 l l' w0 w w' is u answers few put =
     subst (λ (e : Option SessionEnd). GoesOn events e office held' l0 l' w0 w') (sym is)
     (goes_on_skipped events office held held' l0 l l' w0 w w' u answers put)
-after_skip false end events office held held' l0 l l' w0 w w' is u answers put =
+after_skip false end events office held held' l0 l l' w0 w w' is u answers few put =
     subst (λ (e : Option SessionEnd). GoesOn events e office held' l0 l' w0 w') (sym is)
-    (fails_skipped events office held held' l0 l l' w0 w w' u answers put)
+    (fails_skipped events office held held' l0 l l' w0 w w' u answers few put)
 
 -- a request is answered by what it asks
 pub answered_by : (old new : State) (ask : Option Ask) (verb : Verb) (target target' reply : List ℕ)

@@ -1,5 +1,5 @@
 -- What a session has read and written when it ends.
-use Rattle.std.specs.Prelude.{◌≡◌, ◌≢◌, ◌⊎◌, ℕ, ◌+◌, ◌^◌, ◌<◌, Bool, true, false, Option, IfSome, IsSomeAnd, List, [], ◌∷◌, ◌++◌, length}
+use Rattle.std.specs.Prelude.{◌≡◌, ◌≢◌, ◌⊎◌, ℕ, ◌+◌, ◌^◌, ◌<◌, ◌≤◌, Bool, true, false, Option, IfSome, IsSomeAnd, List, [], ◌∷◌, ◌++◌, length}
 use Rattle.std.specs.List.{concat}
 use Rattle.office.specs.History.{Event}
 use Rattle.wire.specs.Messages.{Request, AreRequests, IsMalformed, HasNoHead, is_blank}
@@ -40,7 +40,7 @@ EndsBy OutputFault input replies rest left written =
 EndsBy NoMemory input replies rest left written = (left ≡ input) × (replies ≡ []) × (written ≡ [])
 
 -- A session over this input, begun when these events had happened: the requests that it read, one behind another, a
--- reply to each, and how it ended.
+-- reply to each, and how it ended. No more than 2^36 bytes were taken.
 pub record Serves (events : List Event) (end : SessionEnd) (input left written : List ℕ) : Type 0 where
   pub requests : List Request
   pub replies : List (List ℕ)
@@ -49,6 +49,7 @@ pub record Serves (events : List Event) (end : SessionEnd) (input left written :
   pub reads : AreRequests input requests rest
   pub answers : AreReplies events requests replies after
   pub ends : EndsBy end input replies rest left written
+  pub limit : length input ≤ 2 ^ 36 + length left
 
 -- the sink has all bytes at its end, or where it failed a front of them that is not all
 abbrev pub IsWritten : Bool → List ℕ → List ℕ → List ℕ → Type 0

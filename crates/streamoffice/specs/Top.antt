@@ -1,5 +1,5 @@
 -- What the top call says of its devices.
-use Rattle.std.specs.Prelude.{◌≡◌, ◌⊎◌, ℕ, ◌<◌, ◌^◌, List, [], ◌++◌, length, Option, Some, IfSome, IsSomeAnd}
+use Rattle.std.specs.Prelude.{◌≡◌, ◌⊎◌, ℕ, ◌<◌, ◌^◌, List, [], ◌++◌, length, Option, IfSome, IsSomeAnd}
 use Rattle.devices.specs.Faults.{Rose}
 use Rattle.wire.specs.Messages.{Request, AreRequests, IsMalformed}
 use Rattle.streamoffice.specs.Served.{IsCutShort}

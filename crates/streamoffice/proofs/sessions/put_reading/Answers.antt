@@ -1,5 +1,4 @@
-use Rattle.std.proofs.Common.{◌≡◌, ℕ, ◌+◌, false, List, Option, Some, None, ◌∙◌, ap}
-use Rattle.office.specs.History.{Event, accepted}
+use Rattle.std.proofs.Common.{ℕ, ◌+◌, false, None, ◌∙◌, ap}
 use Rattle.http_api.specs.Replies.{edit_text}
 use Rattle.wire.specs.ReplyHead.{reply_bytes}
 use Rattle.wire.specs.declared.replies.Kind.TheVariants.{Json}

@@ -1,7 +1,7 @@
-use Rattle.std.proofs.Common.{◌≡◌, false, List, Option, subst}
+use Rattle.std.proofs.Common.{subst}
 use Rattle.wire.specs.declared.replies.TheConstants.{MALFORMED_REPLY}
 use Rattle.streamoffice.specs.Served.{AreWritten}
-use Rattle.streamoffice.proofs.SessionLemmas.{after_reply, after_skip, answered_by, fails_malformed}
+use Rattle.streamoffice.proofs.SessionLemmas.{after_reply, after_skip, answered_by, ends_malformed, fails_malformed, ends_at_end, ends_at_fault, ends_at_limit}
 use Rattle.streamoffice.proofs.sessions.serve_next.Goals as goal
 
 pub returns-in-Request-clause-goes_on : goal.returns-in-Request-clause-goes_on
@@ -11,7 +11,7 @@ returns-in-Request-clause-goes_on g c = λ events left written u.
     c.args.incoming.now c.next.new.self c.in-Request.verb c.in-Request.target c.in-Request.body reply.0
     left (g.S.Source.left c.args.source.now) (g.S.Source.left c.next.new.source)
     written (g.K.Sink.written c.args.sink.now) (g.K.Sink.written c.reply_on.new.sink)
-    c.end_unless.ensures u c.in-Request.ensures.answer
+    c.end_unless.ensures u c.in-Request.ensures.answer c.in-Request.ensures.limit
     (answered_by c.args.office.now c.reply_on.new.office c.asked-ask.result c.in-Request.verb
     c.in-Request.target c.as_slice.result.now reply.0 c.asked-ask.ensures.asks c.as_slice.ensures reply.1)
     reply.2
@@ -22,13 +22,39 @@ returns-in-NoMemory-clause-goes_on g c = λ events left written u.
     c.args.incoming.now c.next.new.self
     left (g.S.Source.left c.args.source.now) (g.S.Source.left c.next.new.source)
     written (g.K.Sink.written c.args.sink.now) (g.K.Sink.written c.put_all.new.sink)
-    c.end_unless-in-NoMemory.ensures u c.in-NoMemory.ensures.answer c.put_all.ensures.written
+    c.end_unless-in-NoMemory.ensures u c.in-NoMemory.ensures.answer c.in-NoMemory.ensures.limit c.put_all.ensures.written
 
 pub returns-else-put_all-clause-goes_on : goal.returns-else-put_all-clause-goes_on
 returns-else-put_all-clause-goes_on g c = λ events left written u.
     fails_malformed events c.args.office.now c.args.incoming.now c.next.new.self c.in-Malformed.at
     left (g.S.Source.left c.args.source.now) (g.S.Source.left c.next.new.source)
     written (g.K.Sink.written c.args.sink.now) (g.K.Sink.written c.put_all-in-Malformed.new.sink)
-    u c.in-Malformed.ensures.answer
+    u c.in-Malformed.ensures.answer c.in-Malformed.ensures.within
     (subst (λ b. AreWritten (g.K.Sink.written c.args.sink.now) MALFORMED_REPLY.now (g.K.Sink.written c.put_all-in-Malformed.new.sink) b)
     c.if-put_all.false c.put_all-in-Malformed.ensures.written)
+
+pub returns-then-put_all-clause-goes_on : goal.returns-then-put_all-clause-goes_on
+returns-then-put_all-clause-goes_on g c = λ events left written u.
+    ends_malformed events c.args.office.now c.args.incoming.now c.next.new.self c.in-Malformed.at left
+    (g.S.Source.left c.args.source.now) (g.S.Source.left c.next.new.source) written (g.K.Sink.written c.args.sink.now)
+    (g.K.Sink.written c.put_all-in-Malformed.new.sink) u c.in-Malformed.ensures.answer c.in-Malformed.ensures.within
+    (subst (λ b. AreWritten (g.K.Sink.written c.args.sink.now) MALFORMED_REPLY.now (g.K.Sink.written c.put_all-in-Malformed.new.sink) b)
+    c.if-put_all.true c.put_all-in-Malformed.ensures.written)
+
+pub returns-in-End-clause-goes_on : goal.returns-in-End-clause-goes_on
+returns-in-End-clause-goes_on g c = λ events left written u.
+    ends_at_end events c.args.office.now c.args.incoming.now c.next.new.self left
+    (g.S.Source.left c.args.source.now) (g.S.Source.left c.next.new.source) written (g.K.Sink.written c.args.sink.now)
+    u c.in-End.ensures.answer c.in-End.ensures.within
+
+pub returns-in-Long-clause-goes_on : goal.returns-in-Long-clause-goes_on
+returns-in-Long-clause-goes_on g c = λ events left written u.
+    ends_at_limit events c.args.office.now c.args.incoming.now c.next.new.self left
+    (g.S.Source.left c.args.source.now) (g.S.Source.left c.next.new.source) written (g.K.Sink.written c.args.sink.now)
+    u c.in-Long.ensures.answer c.in-Long.ensures.within
+
+pub returns-in-Failed-clause-goes_on : goal.returns-in-Failed-clause-goes_on
+returns-in-Failed-clause-goes_on g c = λ events left written u.
+    ends_at_fault events c.args.office.now c.args.incoming.now c.next.new.self left
+    (g.S.Source.left c.args.source.now) (g.S.Source.left c.next.new.source) written (g.K.Sink.written c.args.sink.now)
+    u c.in-Failed.ensures.answer c.in-Failed.ensures.within

@@ -1,6 +1,4 @@
-use Rattle.std.proofs.Common.{◌≡◌, ◌+◌, ◌^◌, ◌≤◌, ℕ, List, [], length, refl, sym, ap, subst, arith}
-use Rattle.office.specs.History.{Event}
-use Rattle.office.specs.Kept.{Keeps}
+use Rattle.std.proofs.Common.{◌≡◌, [], sym, ap, subst, arith}
 use Rattle.wire.specs.Incoming.{Held, taken}
 use Rattle.streamoffice.specs.Session.{IsUnderWay}
 use Rattle.streamoffice.proofs.SessionLemmas.{begins}

@@ -1,4 +1,4 @@
-use Rattle.std.proofs.Common.{◌≡◌, ◌+◌, ◌-◌, ◌^◌, ◌≤◌, ℕ, List}
+use Rattle.std.proofs.Common.{◌+◌, ◌-◌, ◌^◌, ◌≤◌, List}
 use Rattle.office.specs.History.{Event}
 use Rattle.office.specs.Kept.{Keeps}
 use Rattle.wire.specs.Incoming.{taken}

@@ -1,4 +1,4 @@
-use Rattle.std.proofs.Common.{◌≡◌, ◌+◌, ◌<◌, ◌≤◌, true, map, string_bytes, ℕ, length, List, [], ◌∷◌, get_or, sym, ◌∙◌, ap, arith}
+use Rattle.std.proofs.Common.{◌≡◌, ◌<◌, map, string_bytes, ℕ, length, List, [], ◌∷◌, get_or, sym, ◌∙◌, ap, arith}
 use Rattle.std.proofs.lemmas.Slice.Eq.{bytes_eq-Decides}
 use Rattle.streamoffice.proofs.top.is_batch.Goals as goal
 

@@ -1,4 +1,4 @@
-use Rattle.std.proofs.Common.{◌≡◌, ◌⊎◌, ℕ, List, [], subst, sym}
+use Rattle.std.proofs.Common.{◌≡◌, ◌⊎◌, ℕ, [], subst, sym}
 use Rattle.streamoffice.proofs.TopLemmas.{completes}
 use Rattle.streamoffice.proofs.top.run_office.Goals as goal
 

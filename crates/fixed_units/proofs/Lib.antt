@@ -1,3 +1,7 @@
 pub mod DecimalLemmas
+pub mod DigitLemmas
+pub mod NearestLemmas
+pub mod PublishLemmas
 pub mod PublishedLemmas
 pub mod RoundingLemmas
+pub mod TextLemmas

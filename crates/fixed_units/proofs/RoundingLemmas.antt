@@ -8,12 +8,12 @@ use borrow.Author.Differences.{up, down}
 use Rattle.fixed_units.specs.Rounding.{IsRounded, round}
 
 -- a product whose first factor has its sign turned
-neg-mul : (q b : ℕ) → neg_ℤ (pos q) *ℤ pos b ≡ neg_ℤ (pos (q * b))
+pub neg-mul : (q b : ℕ) → neg_ℤ (pos q) *ℤ pos b ≡ neg_ℤ (pos (q * b))
 neg-mul zero b = let e : zero * b ≡ 0 = omega arith in rw e refl
 neg-mul (suc q) b = refl
 
 -- a quotient times its divisor
-division : (x k : ℕ) → 0 < k → (k * (x / k) ≤ x) × (x < k * (x / k) + k)
+pub division : (x k : ℕ) → 0 < k → (k * (x / k) ≤ x) × (x < k * (x / k) + k)
 division x k h = omega arith
 
 doubled : (b q : ℕ) → 2 * b * q ≡ 2 * (q * b)
@@ -62,7 +62,7 @@ round-IsRounded (negsuc a) (pos b) h =
 round-IsRounded n (negsuc b) h = absurd (omega (arith, ints))
 
 -- a factor that is at least one more makes a product at least b more
-one_more : (x y b : ℕ) → x < y → x * b + b ≤ y * b
+pub one_more : (x y b : ℕ) → x < y → x * b + b ≤ y * b
 one_more x y b h = let e : suc x * b ≤ y * b = mul-le-mul_right b h in omega arith
 
 -- what is rounded is at most a whole m where the quotient is

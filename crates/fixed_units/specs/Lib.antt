@@ -1,4 +1,6 @@
 pub mod Decimals
 pub mod Published
+pub mod PublishedText
 pub mod Quantities
 pub mod Rounding
+pub mod RoundingArray

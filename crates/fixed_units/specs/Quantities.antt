@@ -1,5 +1,5 @@
--- The ranges of quantities, instants and days. A number of a clause is that of millionths, seconds or days.
-use Rattle.std.specs.Prelude.{◌^◌, ℤ, pos, neg_ℤ, ◌≤ℤ◌}
+-- The ranges of quantities, instants, days and sites. A number of a clause is that of millionths, seconds or days.
+use Rattle.std.specs.Prelude.{ℕ, ◌^◌, ◌<◌, ◌≤◌, ℤ, pos, neg_ℤ, ◌≤ℤ◌}
 
 -- an amount in millionths
 pub record IsMicro (n : ℤ) : Type 0 where
@@ -25,3 +25,14 @@ pub record IsStage (n : ℤ) : Type 0 where
 pub record IsStamp (n : ℤ) : Type 0 where
   pub low : neg_ℤ (pos 2_208_816_000) ≤ℤ n
   pub high : n ≤ℤ pos 4_102_185_599
+
+-- a site number, as contracts see it
+pub record SiteNumber : Type 0 where
+  pub digits : ℕ
+  pub value : ℕ
+
+-- a site number of 8 to 15 decimal digits, of which zeros in front count
+pub record IsSite (site : SiteNumber) : Type 0 where
+  pub shortest : 8 ≤ site.digits
+  pub longest : site.digits ≤ 15
+  pub written : site.value < 10 ^ site.digits

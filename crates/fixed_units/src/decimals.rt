@@ -71,7 +71,8 @@ fn parts(text: &[u8]) -> (&[u8], &[u8])
     }
 }
 
-fn are_digits(text: &[u8]) -> bool
+/// Whether each byte is a decimal digit.
+pub(crate) fn are_digits(text: &[u8]) -> bool
     ensures { result ≡ list_all is_ascii_digit text.now }
 {
     text.iter().all(u8::is_ascii_digit)

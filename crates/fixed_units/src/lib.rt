@@ -7,13 +7,15 @@ pub mod published;
 pub mod quantities;
 pub mod readings;
 pub mod rounding;
+pub mod rounding_array;
 pub mod texts;
 
 pub use decimals::{Bad, read_decimal};
-pub use published::{Published, RoundingArray, publish, write_published};
-pub use quantities::{Day, Micro, Second};
+pub use published::{Published, publish, write_hundredths, write_micro, write_published};
+pub use quantities::{Day, Micro, Second, Site};
 pub use readings::{Flag, Reading};
 pub use rounding::div_half_away;
+pub use rounding_array::RoundingArray;
 pub use texts::{NoMemory, Text};
 
 #[cfg(test)]

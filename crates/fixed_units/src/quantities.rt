@@ -1,7 +1,7 @@
 //! The numbers that every layer above speaks of: amounts in millionths, instants, days and sites.
 
 ghost use Rattle.std.specs.Prelude.{◌≡◌, ◌^◌, ◌<◌, ◌≤◌, ◌↔◌, ℤ, pos, neg_ℤ, ◌≤ℤ◌, IsSome, IfSome, if◌then◌else◌};
-ghost use Rattle.fixed_units.specs.Quantities.{IsMicro, IsSecond, IsDay};
+ghost use Rattle.fixed_units.specs.Quantities.{IsMicro, IsSecond, IsDay, IsSite};
 
 use std::marker::Model;
 
@@ -136,5 +136,55 @@ impl Day {
         ensures range { IsDay self }
     {
         self.number
+    }
+}
+
+/// The number of a gauging station: 8 to 15 decimal digits, of which zeros in front count. Numbers of
+/// fewer digits come first.
+#[derive(Clone, Copy, Debug, PartialEq, Eq, PartialOrd, Ord)]
+pub struct Site {
+    digits: u8,
+    value: u64,
+}
+
+impl Model for Site {
+    ghost use Rattle.fixed_units.specs.Quantities.{SiteNumber, IsSite};
+
+    ghost Value = { SiteNumber };
+
+    ghost view = { λ s. record { digits = s.digits; value = s.value } };
+
+    ghost invariant = { λ s. IsSite (record { digits = s.digits; value = s.value }) };
+
+    ghost inverse = { λ n. record { digits = n.digits; value = n.value } };
+}
+
+impl Site {
+    /// The number of so many digits with that value, or `None` exactly where there is none.
+    pub fn new(digits: u8, value: u64) -> Option<Site>
+        ensures range { IsSome result ↔ IsSite (record { digits = digits; value = value }) }
+        ensures value { IfSome result (λ s. s ≡ record { digits = digits; value = value }) }
+    {
+        if (8..=15).contains(&digits) && value < 10_u64.pow(u32::from(digits)) {
+            Some(Site { digits, value })
+        } else {
+            None
+        }
+    }
+
+    /// How many digits the number has, 8 to 15.
+    pub fn digits(self) -> u8
+        ensures value { result ≡ self.digits }
+        ensures range { IsSite self }
+    {
+        self.digits
+    }
+
+    /// The value of the digits.
+    pub fn value(self) -> u64
+        ensures value { result ≡ self.value }
+        ensures range { IsSite self }
+    {
+        self.value
     }
 }

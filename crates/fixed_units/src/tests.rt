@@ -1,10 +1,16 @@
 //! What no clause says: that the rules are the ones meant, by values worked out by hand.
 
 use crate::decimals::{Bad, read_decimal};
-use crate::published::{Published, RoundingArray, publish, write_published};
-use crate::quantities::{Day, Micro, Second};
+use crate::published::{
+    Published, publish, published_texts_differ, published_value_is_unique, write_hundredths,
+    write_micro, write_published, written_values_are_read,
+};
+use crate::quantities::{Day, Micro, Second, Site};
 use crate::rounding::{div_half_away, round_is_rounded, rounding_is_unique};
+use crate::rounding_array::RoundingArray;
 use crate::texts::{NoMemory, Text};
+use std::alloc::Global;
+use std::process::Abort;
 use std::test::Fail;
 
 fn millionths(text: &str) -> Result<i64, Bad> {
@@ -57,17 +63,85 @@ fn halves_go_away_from_zero(rt: HostRuntime) {
     round_is_rounded();
 }
 
+// The text of num / den millionths by a rounding array.
+fn published(rt: &impl Abort, alloc: Global, array: &str, num: i128, den: i128) -> Text {
+    assert!(rt; 1 <= den);
+    assert!(rt; den <= 1_000_000_000);
+    let most = den * 100_000_000_000_000_000;
+    assert!(rt; -most <= num);
+    assert!(rt; num <= most);
+    let array = RoundingArray::read(array.as_bytes()).expect(rt, "a rounding array");
+    let mut text = Text::new(alloc);
+    assert_eq!(rt;
+        write_published(publish(num, den, &array), &mut text),
+        Ok(())
+    );
+    text
+}
+
 #[test]
-fn a_stage_is_published_in_hundredths(rt: HostRuntime) {
-    for (num, den, units) in [
-        (1_500_000, 1, 150),
-        (-4_000, 1, 0),
-        (-5_000, 1, -1),
-        (10_000, 3, 0),
-        (50_015_000, 3, 1667),
+fn values_are_published(rt: HostRuntime) {
+    const GREATEST: i128 = 100_000_000_000_000_000;
+    for (array, num, den, want) in [
+        ("0222233332", 4_000, 1, "0.00"),
+        ("0222233332", 56_700, 1, "0.06"),
+        ("0222233332", 996_000, 1, "1.0"),
+        ("0222233332", 9_960_000, 1, "10"),
+        ("0222233332", 999_500_000, 1, "1000"),
+        ("0222233332", 12_345_600_000, 1, "12300"),
+        // exactly 0.01 has the second figure, and a third of a millionth less the first
+        ("0222233332", 10_000, 1, "0.01"),
+        ("0222233332", 29_999, 3, "0.00"),
+        ("0000000000", 12_345_600_000, 1, "0"),
+        ("0000000000", -1, 3, "0"),
+        ("9999999992", 100_000_005_000, 1, "100000.01"),
+        ("9999999992", -4_000, 1, "0.00"),
+        ("9999999992", -5_000, 1, "-0.01"),
+        ("9999999992", 50_015_000, 3, "16.67"),
+        // a magnitude below a millionth
+        ("1222233336", 0, 1, "0.000000"),
+        ("1222233336", -1, 2, "-0.000001"),
+        // 0.9996 is rounded to 1, of which the figure is 0, 1 and 5
+        ("3330333336", 999_600, 1, "1.000"),
+        ("3331333336", 999_600, 1, "1"),
+        ("3335333336", 999_600, 1, "1.0000"),
+        (
+            "9999999996",
+            GREATEST * 1_000_000_000,
+            1_000_000_000,
+            "100000000000",
+        ),
+        ("1111111116", -96 * GREATEST / 100, 1, "-100000000000"),
     ] {
-        let published = publish(num, den, &RoundingArray::Hundredths);
-        assert_eq!(rt; published, Published { units, places: 2 }, "{num} / {den}");
+        let text = published(&rt, rt.alloc(), array, num, den);
+        assert_eq!(rt;
+            text.as_slice(),
+            want.as_bytes(),
+            "{num} / {den} by {array}"
+        );
+    }
+    published_value_is_unique();
+    published_texts_differ();
+}
+
+#[test]
+fn rounding_arrays_are_read(rt: HostRuntime) {
+    for (text, inside) in [
+        ("9999999992", true),
+        ("0000000006", true),
+        ("0000000007", false),
+        ("999999992", false),
+        ("99999999922", false),
+        ("99999 9992", false),
+        ("99999a9992", false),
+        ("", false),
+    ] {
+        let read = RoundingArray::read(text.as_bytes());
+        assert_eq!(rt; read.is_some(), inside, "{text}");
+        if let Some(array) = read {
+            assert_eq!(rt; array.digits().as_slice(), text.as_bytes());
+            assert_eq!(rt; array == RoundingArray::STAGES, text == "9999999992");
+        }
     }
 }
 
@@ -91,6 +165,36 @@ fn published_values_are_written(rt: HostRuntime) {
         );
         assert_eq!(rt; text.as_slice(), want.as_bytes());
     }
+}
+
+#[test]
+fn quantities_are_written(rt: HostRuntime) {
+    for (value, want) in [
+        (0, "0.000000"),
+        (-1, "-0.000001"),
+        (1_500_000, "1.500000"),
+        (-10_000_000_000_000, "-10000000.000000"),
+        (100_000_000_000_000_000, "100000000000.000000"),
+    ] {
+        let mut text = Text::new(rt.alloc());
+        let micro = Micro::new(value).expect(&rt, "a quantity");
+        assert_eq!(rt; write_micro(micro, &mut text), Ok(()));
+        assert_eq!(rt; text.as_slice(), want.as_bytes());
+        if value < 10_000_000_000_000 {
+            assert_eq!(rt; read_decimal(text.as_slice()), Ok(micro));
+        }
+    }
+    for (value, want) in [
+        (0, "0.00"),
+        (-5, "-0.05"),
+        (-250, "-2.50"),
+        (i64::MIN, "-92233720368547758.08"),
+    ] {
+        let mut text = Text::new(rt.alloc());
+        assert_eq!(rt; write_hundredths(value, &mut text), Ok(()));
+        assert_eq!(rt; text.as_slice(), want.as_bytes());
+    }
+    written_values_are_read();
 }
 
 #[test]
@@ -138,4 +242,26 @@ fn ranges_end_where_they_say(rt: HostRuntime) {
     ] {
         assert_eq!(rt; Day::new(value).map(Day::get), inside.then_some(value));
     }
+}
+
+#[test]
+fn site_numbers_have_8_to_15_digits(rt: HostRuntime) {
+    for (digits, value, inside) in [
+        (7, 0, false),
+        (8, 0, true),
+        (8, 1_463_500, true),
+        (8, 99_999_999, true),
+        (8, 100_000_000, false),
+        (15, 999_999_999_999_999, true),
+        (15, 1_000_000_000_000_000, false),
+        (16, 0, false),
+    ] {
+        let site = Site::new(digits, value);
+        assert_eq!(rt;
+            site.map(|site| (site.digits(), site.value())),
+            inside.then_some((digits, value))
+        );
+    }
+    assert!(rt; Site::new(8, 99_999_999) < Site::new(9, 0));
+    assert!(rt; Site::new(8, 1) < Site::new(8, 2));
 }

@@ -1,9 +1,14 @@
 -- A station's readings: a list that rises by instant.
-use Rattle.std.specs.Prelude.{◌≡◌, Bool, true, false, List, ◌∷◌, ◌++◌, filter, reverse, slice_get, Option, ℤ, int_lt, int_le, ◌<ℤ◌, ◌&&◌, AllPairs}
+use Rattle.std.specs.Prelude.{◌≡◌, Bool, true, false, ℕ, List, ◌∷◌, ◌++◌, filter, reverse, slice_get, Option, ℤ, int_lt, int_le, ◌<ℤ◌, ◌&&◌, AllPairs}
 use Rattle.readings.specs.declared.lists.Place.{Place}
 use Rattle.fixed_units.specs.declared.readings.Reading.{Reading}
 use Rattle.fixed_units.specs.declared.readings.Flag.{Flag}
 use Rattle.fixed_units.specs.declared.readings.Flag.TheVariants.{Usable, Erroneous, Affected}
+
+-- the readings that are kept, and how many more have room beside them
+pub record KeptReadings : Type 0 where
+  pub list : List Reading
+  pub spare : ℕ
 
 -- each reading stands before each later one
 abbrev pub IsRising : List Reading → Type 0

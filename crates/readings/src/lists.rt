@@ -1,6 +1,6 @@
 //! The kept list of readings.
 
-ghost use Rattle.std.specs.Prelude.{◌≡◌, ◌≢◌, true, false, ◌*◌, ◌≤◌, pos, [], filter, find, reverse, length, take, drop, OnOk, OnErr, ◌≤ℤ◌, ◌-ℤ◌, int_le, All, Contains, ℤ, ◌+ℤ◌, ◌<ℤ◌, ◌⊎◌, List, IfOk, ◌++◌, option_to_list};
+ghost use Rattle.std.specs.Prelude.{◌≡◌, ◌≢◌, true, false, ◌*◌, ◌≤◌, pos, [], filter, find, reverse, length, take, drop, OnOk, ◌<◌, ◌+◌, vec_len, vec_capacity, ◌≤ℤ◌, ◌-ℤ◌, int_le, All, Contains, ℤ, ◌+ℤ◌, ◌<ℤ◌, ◌⊎◌, List, IfOk, ◌++◌, option_to_list};
 ghost use Rattle.readings.specs.Readings.{IsRising, before_instant, after_instant, from_instant, to_instant, at_instant, put, is_used, IsPlace};
 ghost use Rattle.readings.specs.Window.{window, inner, neighbour_before, neighbour_after, is_found_in_day, lead, follow};
 
@@ -8,20 +8,19 @@ use fixed_units::{Flag, NoMemory, Reading, Second};
 use std::alloc::Global;
 use std::marker::Model;
 
-/// The readings of a station, rising by instant. Contracts see the list.
+/// The readings of a station, rising by instant. Contracts see the list, and how many more have room beside it.
 #[derive(Debug, Drop)]
 pub struct Readings {
     list: Vec<Reading>,
 }
 
 impl Model for Readings {
-    ghost use Rattle.std.specs.Prelude.{List};
-    ghost use Rattle.fixed_units.specs.declared.readings.Reading.{Reading};
-    ghost use Rattle.readings.specs.Readings.{IsRising};
+    ghost use Rattle.std.specs.Prelude.{◌-◌, vec_len, vec_capacity};
+    ghost use Rattle.readings.specs.Readings.{IsRising, KeptReadings};
 
-    ghost Value = { List Reading };
+    ghost Value = { KeptReadings };
 
-    ghost view = { λ r. r.list.items };
+    ghost view = { λ r. record { list = r.list.items; spare = vec_capacity r.list - vec_len r.list } };
 
     ghost invariant = { λ r. IsRising r.list.items };
 }
@@ -51,7 +50,7 @@ pub struct Place {
 impl Readings {
     /// No readings, which takes no memory.
     pub fn new(alloc: Global) -> Readings
-        ensures { result ≡ [] }
+        ensures { result.list ≡ [] }
     {
         Readings {
             list: Vec::new(alloc),
@@ -60,15 +59,15 @@ impl Readings {
 
     /// The readings, in order.
     pub fn as_slice(&self) -> &[Reading]
-        ensures list { result.now ≡ self.now }
-        ensures rising { IsRising self.now }
+        ensures list { result.now ≡ self.now.list }
+        ensures rising { IsRising self.now.list }
     {
         self.list.as_slice()
     }
 
     /// The readings next to an instant.
     pub fn place(&self, at: Second) -> Place
-        ensures { IsPlace self.now at result }
+        ensures { IsPlace self.now.list at result }
     {
         let around = part_at(self.list.as_slice(), at);
         Place {
@@ -82,8 +81,8 @@ impl Readings {
     pub fn alters_window(&self, reading: Reading, a: Second, b: Second, gap: u32) -> bool
         requires used { is_used reading ≡ true }
         requires ordered { a ≤ℤ b }
-        ensures changed { result ≡ true → window a b (pos (60 * gap)) (put reading self.now) ≢ window a b (pos (60 * gap)) self.now }
-        ensures same { result ≡ false → window a b (pos (60 * gap)) (put reading self.now) ≡ window a b (pos (60 * gap)) self.now }
+        ensures changed { result ≡ true → window a b (pos (60 * gap)) (put reading self.now.list) ≢ window a b (pos (60 * gap)) self.now.list }
+        ensures same { result ≡ false → window a b (pos (60 * gap)) (put reading self.now.list) ≡ window a b (pos (60 * gap)) self.now.list }
     {
         let around = part_at(self.list.as_slice(), reading.at);
         if holds(around.here, &reading) {
@@ -98,20 +97,31 @@ impl Readings {
         }
     }
 
-    /// Puts a reading in its place, instead of the one at its instant. After `NoMemory` the list is as before.
-    pub fn put(&mut self, reading: Reading) -> Result<(), NoMemory>
-        ensures ok { OnOk result (self.new ≡ put reading self.old) }
-        ensures err { OnErr result (self.new ≡ self.old) }
+    /// Makes room for so many readings more. The list stays, also after `NoMemory`.
+    pub fn reserve(&mut self, count: usize) -> Result<(), NoMemory>
+        ensures list { self.new.list ≡ self.old.list }
+        ensures room { OnOk result (count ≤ self.new.spare) }
+        ensures kept { self.old.spare ≤ self.new.spare }
     {
-        put_in(&mut self.list, reading)
+        self.list.reserve(count)?;
+        Ok(())
+    }
+
+    /// Puts a reading in its place, instead of the one at its instant. There is room for it, so no memory is taken.
+    pub fn put(&mut self, reading: Reading)
+        requires room { 0 < self.old.spare }
+        ensures list { self.new.list ≡ put reading self.old.list }
+        ensures room { self.old.spare ≤ self.new.spare + 1 }
+    {
+        put_in(&mut self.list, reading);
     }
 
     /// What the window of the day from `a` to `b` is made of; `gap` is in minutes.
     pub fn window(&self, a: Second, b: Second, gap: u32) -> Window<'_>
         requires { a ≤ℤ b }
-        ensures before { result.before ≡ neighbour_before a (pos (60 * gap)) self.now }
-        ensures inner { filter is_used result.inner.now ≡ inner a b self.now }
-        ensures after { result.after ≡ neighbour_after b (pos (60 * gap)) self.now }
+        ensures before { result.before ≡ neighbour_before a (pos (60 * gap)) self.now.list }
+        ensures inner { filter is_used result.inner.now ≡ inner a b self.now.list }
+        ensures after { result.after ≡ neighbour_after b (pos (60 * gap)) self.now.list }
     {
         let list = self.list.as_slice();
         let (early, rest) = list.split_at(count_before(list, a));
@@ -132,7 +142,7 @@ impl Readings {
         gap: u32,
     ) -> Result<Vec<Reading>, NoMemory>
         requires { a ≤ℤ b }
-        ensures { IfOk result (λ v. v.items ≡ window a b (pos (60 * gap)) self.now) }
+        ensures { IfOk result (λ v. v.items ≡ window a b (pos (60 * gap)) self.now.list) }
     {
         let window = self.window(a, b, gap);
         let count = count_used(window.inner);
@@ -202,20 +212,21 @@ fn count_to(list: &[Reading], at: Second) -> usize
     list.partition_point(|r| r.at <= at)
 }
 
-/// Puts a reading among those of a rising list.
-fn put_in(list: &mut Vec<Reading>, reading: Reading) -> Result<(), NoMemory>
-    requires { IsRising list.old.items }
-    ensures ok { OnOk result (list.new.items ≡ put reading list.old.items) }
+/// Puts a reading among those of a rising list that has room for one more.
+fn put_in(list: &mut Vec<Reading>, reading: Reading)
+    requires rising { IsRising list.old.items }
+    requires room { vec_len list.old < vec_capacity list.old }
+    ensures items { list.new.items ≡ put reading list.old.items }
     ensures rising { IsRising list.new.items }
-    ensures err { OnErr result (list.new.items ≡ list.old.items) }
+    ensures length { vec_len list.new ≤ vec_len list.old + 1 }
+    ensures capacity { vec_capacity list.new ≡ vec_capacity list.old }
 {
     let place = count_before(list, reading.at);
     if place < list.len() && list[place].at == reading.at {
         list[place] = reading;
-    } else {
-        list.insert(place, reading)?;
+        return;
     }
-    Ok(())
+    list.insert(place, reading).unwrap();
 }
 
 /// The last reading that is used.

@@ -30,7 +30,8 @@ fn readings(rt: &HostRuntime, list: &[(i64, Flag)]) -> Result<Readings, Fail> {
     for (at, flag) in list {
         let mut reading = used(*at, 0)?;
         reading.flag = *flag;
-        readings.put(reading)?;
+        readings.reserve(1)?;
+        readings.put(reading);
     }
     Ok(readings)
 }
@@ -109,7 +110,8 @@ fn altered_windows(rt: HostRuntime) -> Result<(), Fail> {
 fn puts(rt: HostRuntime) -> Result<(), Fail> {
     let mut readings = Readings::new(rt.alloc());
     for (at, raw) in [(7, 1), (3, 2), (5, 3), (5, 4)] {
-        readings.put(used(at, raw)?)?;
+        readings.reserve(1)?;
+        readings.put(used(at, raw)?);
     }
     let want = [used(3, 2)?, used(5, 4)?, used(7, 1)?];
     assert_eq!(rt; readings.as_slice(), want.as_slice());

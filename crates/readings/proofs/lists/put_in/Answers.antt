@@ -10,14 +10,14 @@ use Rattle.readings.proofs.WindowLemmas.{put_rises}
 use Rattle.readings.proofs.lists.put_in.Goals as goal
 use Rattle.readings.proofs.lists.put_in.Goals.{else-place-len-via-then-place-len+else-eq, else-place-len-via-else-place-len}
 
-pub returns-then-eq-clause-ok : goal.returns-then-eq-clause-ok
-returns-then-eq-clause-ok c =
+pub returns-then-eq-clause-items : goal.returns-then-eq-clause-items
+returns-then-eq-clause-items c =
     let within : c.count_before-place.result < length c.args.list.now.items = omega arith in
     let front : take c.count_before-place.result c.args.list.now.items ≡ before_instant c.args.reading.at c.args.list.now.items =
     rw c.deref.ensures.value at c.count_before-place.ensures.front in
     let found : get_or c.args.list.now.items c.count_before-place.result c.args.reading ≡ c.index.result.now =
     get_or_default c.args.list.now.items c.count_before-place.result c.args.reading c.index.result.now within ∙ sym c.index.ensures in
-    set_is_put c.args.reading c.args.list.now.items c.count_before-place.result c.requires within front
+    set_is_put c.args.reading c.args.list.now.items c.count_before-place.result c.requires.rising within front
     (ap (λ (r : Reading). r.at) found ∙ (Decides-int_eq c.index.result.now.at c.args.reading.at).0 (sym c.eq.ensures ∙ c.if-eq.true))
 
 -- the reading at a place stands elsewhere
@@ -28,7 +28,7 @@ elsewhere r found rs i e f h k =
     let t : int_eq found.at r.at ≡ true = (Decides-int_eq found.at r.at).1 (ap (λ (s : Reading). s.at) (sym g) ∙ k) in
     cc
 
-items : (c : goal.In_ok-insert) → c.insert.new.self.items ≡ put c.args.reading c.args.list.now.items
+items : (c : goal.After-unwrap) → c.insert.new.self.items ≡ put c.args.reading c.args.list.now.items
 items c =
     let front : take c.count_before-place.result c.args.list.now.items ≡ before_instant c.args.reading.at c.args.list.now.items =
     rw c.deref.ensures.value at c.count_before-place.ensures.front in
@@ -41,12 +41,12 @@ items c =
           elsewhere c.args.reading w.index.result.now c.args.list.now.items c.count_before-place.result w.index.ensures (sym w.eq.ensures ∙ w.if-eq.false)
       | else-place-len-via-else-place-len w ↦ λ h _. omega arith
     ] in
-    c.in_ok-insert.ensures.items
-    ∙ insert_is_put c.args.reading c.args.list.now.items c.count_before-place.result c.requires (omega arith) front back other
+    rw c.unwrap.ensures at c.insert.ensures.items
+    ∙ insert_is_put c.args.reading c.args.list.now.items c.count_before-place.result c.requires.rising (omega arith) front back other
 
-pub returns-in_ok-insert-clause-ok : goal.returns-in_ok-insert-clause-ok
-returns-in_ok-insert-clause-ok c = items c
+pub returns-clause-items : goal.returns-clause-items
+returns-clause-items c = items c
 
-pub returns-in_ok-insert-clause-rising : goal.returns-in_ok-insert-clause-rising
-returns-in_ok-insert-clause-rising c =
-    subst IsRising (sym (items c)) (put_rises c.args.reading c.args.list.now.items c.requires)
+pub returns-clause-rising : goal.returns-clause-rising
+returns-clause-rising c =
+    subst IsRising (sym (items c)) (put_rises c.args.reading c.args.list.now.items c.requires.rising)

@@ -1,0 +1,73 @@
+-- The periods in which ratings are in force.
+use Rattle.std.specs.Prelude.{◌≡◌, ◌≢◌, ◌+◌, ◌≤◌, ◌<◌, ℕ, take, drop, length, All, IsSome, IfSome, Bool, true, false, ◌&&◌, not, List, ◌∷◌, ◌++◌, filter, find, Option, None, Some, option_map, ℤ, int_lt, int_le, ◌<ℤ◌, AllPairs}
+use Rattle.std.specs.Ordering.{int_eq}
+use Rattle.ratings.specs.Spans.{Span}
+
+-- what ends at an instant, if at all, has not ended before that instant, which is excluded
+abbrev pub is_before_end : ℤ → Option ℤ → Bool
+is_before_end at None = true
+is_before_end at (Some until) = int_lt at until
+
+-- a period is in force from its start until its end, that one excluded
+abbrev pub is_in_force : ℤ → Span → Bool
+is_in_force at p = int_le p.from at && is_before_end at p.until
+
+-- two periods share an instant where each begins before the other ends
+abbrev pub share : Span → Span → Bool
+share p q = is_before_end p.from q.until && is_before_end q.from p.until
+
+-- a kept period stands in the way of another one where it has another start and shares an instant with it
+abbrev pub stands_in_the_way : Span → Span → Bool
+stands_in_the_way p kept = not (int_eq kept.from p.from) && share kept p
+
+-- the start of the first kept period that stands in the way
+abbrev pub overlap : Span → List Span → Option ℤ
+overlap p kept = option_map (λ (q : Span). q.from) (find (stands_in_the_way p) kept)
+
+-- kept periods end after they begin, rise by their starts and share no instant
+pub record AreApart (kept : List Span) : Type 0 where
+  pub ordered : All (λ p. IfSome p.until (λ until. p.from <ℤ until)) kept
+  pub rising : AllPairs (λ p q. p.from <ℤ q.from) kept
+  pub apart : AllPairs (λ p q. share p q ≡ false) kept
+
+-- the period in force at an instant
+abbrev pub in_force : ℤ → List Span → Option Span
+in_force at kept = find (is_in_force at) kept
+
+-- the periods that begin before an instant, those that begin after it, and those that begin at it
+abbrev pub begun_before : ℤ → List Span → List Span
+begun_before at kept = filter (λ p. int_lt p.from at) kept
+
+abbrev pub begun_after : ℤ → List Span → List Span
+begun_after at kept = filter (λ p. int_lt at p.from) kept
+
+-- kept periods with one put among them, in place of the one of its start
+abbrev pub put : Span → List Span → List Span
+put p kept = begun_before p.from kept ++ p ∷ begun_after p.from kept
+
+-- whether a period begins at an instant
+abbrev pub begins_at : ℤ → Span → Bool
+begins_at at p = int_eq p.from at
+
+-- kept periods without the one that begins at an instant
+abbrev pub without : ℤ → List Span → List Span
+without at kept = filter (λ p. not (begins_at at p)) kept
+
+-- where the period that begins at an instant stands in a list
+pub record IsPlace (kept : List Span) (at : ℤ) (i : ℕ) : Type 0 where
+  pub within : i < length kept
+  pub front : take i kept ≡ begun_before at kept
+  pub back : drop (i + 1) kept ≡ begun_after at kept
+  pub there : IsSome (find (begins_at at) kept)
+
+-- where one would stand, if none begins there
+pub record IsFreePlace (kept : List Span) (at : ℤ) (i : ℕ) : Type 0 where
+  pub within : i ≤ length kept
+  pub front : take i kept ≡ begun_before at kept
+  pub back : drop i kept ≡ begun_after at kept
+  pub none : All (λ p. p.from ≢ at) kept
+
+-- a list of periods, and for how many more there is room
+pub record Kept : Type 0 where
+  pub list : List Span
+  pub spare : ℕ

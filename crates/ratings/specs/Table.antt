@@ -1,0 +1,96 @@
+-- An expanded rating: a table of stages and discharges that is read by straight lines.
+use Rattle.std.specs.Prelude.{◌≤◌, ◌-◌, ℕ, suc, Bool, ◌||◌, nat_lt, if◌then◌else◌, List, [], ◌∷◌, filter, length, slice_get, Option, None, Some, ℤ, int_lt, int_le, ◌<ℤ◌, ◌≤ℤ◌, ◌+ℤ◌, ◌-ℤ◌, ◌*ℤ◌, AllPairs}
+use Rattle.std.specs.Ordering.{int_eq}
+use Rattle.fixed_units.specs.Rounding.{round}
+use Rattle.ratings.specs.declared.table.Rated.{Rated}
+use Rattle.ratings.specs.declared.table.Rated.TheVariants.{Value, Below, Above}
+use Rattle.ratings.specs.declared.table.TableFault.{TableFault}
+use Rattle.ratings.specs.declared.table.TableFault.TheVariants.{Count, NotRising, Falling}
+
+-- a row: a stage in millionths of a foot, and its discharge in millionths of a cubic foot per second
+abbrev pub Row : Type 0
+Row = ℤ × ℤ
+
+-- a table has 2 to 10,000 rows, its stages strictly rise and its discharges never fall
+pub record IsTable (rows : List Row) : Type 0 where
+  pub most : length rows ≤ 10_000
+  pub least : 2 ≤ length rows
+  pub rising : AllPairs (λ r s. r.0 <ℤ s.0) rows
+  pub never_falling : AllPairs (λ r s. r.1 ≤ℤ s.1) rows
+
+-- the first and the last row of a list
+abbrev pub first : List Row → Option Row
+first rows = slice_get rows 0
+
+abbrev pub last : List Row → Option Row
+last rows = slice_get rows (length rows - 1)
+
+-- what the straight line from one pair to another has at x, rounded once
+abbrev pub line_at : ℤ × ℤ → ℤ × ℤ → ℤ → ℤ
+line_at p q x = p.1 +ℤ round ((q.1 -ℤ p.1) *ℤ (x -ℤ p.0)) (q.0 -ℤ p.0)
+
+-- the rows up to a stage, and those above it
+abbrev pub rows_upto : ℤ → List Row → List Row
+rows_upto stage rows = filter (λ r. int_le r.0 stage) rows
+
+abbrev pub rows_above : ℤ → List Row → List Row
+rows_above stage rows = filter (λ r. int_lt stage r.0) rows
+
+-- what the two rows around a stage say: below the first row and above the last one there is no discharge, on a
+-- row it is that row's, and between two rows it is the line's
+abbrev pub rated_between : Option Row → Option Row → ℤ → Rated
+rated_between None above stage = Below
+rated_between (Some r) None stage = if int_eq r.0 stage then Value r.1 else Above
+rated_between (Some r) (Some s) stage = if int_eq r.0 stage then Value r.1 else Value (line_at r s stage)
+
+-- the rated discharge of a stage
+abbrev pub rated : List Row → ℤ → Rated
+rated rows stage = rated_between (last (rows_upto stage rows)) (first (rows_above stage rows)) stage
+
+-- the rows that are short of a discharge, and those that reach it
+abbrev pub rows_short : ℤ → List Row → List Row
+rows_short discharge rows = filter (λ r. int_lt r.1 discharge) rows
+
+abbrev pub rows_reaching : ℤ → List Row → List Row
+rows_reaching discharge rows = filter (λ r. int_le discharge r.1) rows
+
+-- a row read the other way round: a discharge and its stage
+abbrev pub turned : Row → ℤ × ℤ
+turned r = (r.1, r.0)
+
+-- what the last row that is short of a discharge and the first one that reaches it say: the stage of the row that
+-- has it, and otherwise the line's, where there are both
+abbrev pub stage_between : Option Row → Option Row → ℤ → Option ℤ
+stage_between short None discharge = None
+stage_between None (Some s) discharge = if int_eq s.1 discharge then Some s.0 else None
+stage_between (Some r) (Some s) discharge =
+    if int_eq s.1 discharge then Some s.0 else Some (line_at (turned r) (turned s) discharge)
+
+-- the stage of a discharge
+abbrev pub stage_of : List Row → ℤ → Option ℤ
+stage_of rows discharge = stage_between (last (rows_short discharge rows)) (first (rows_reaching discharge rows)) discharge
+
+-- what is wrong with the row at i behind another, if anything: its stage does not rise, or its discharge falls
+abbrev pub fault_behind : ℕ → Row → Row → Option TableFault
+fault_behind i r s =
+    if int_le s.0 r.0 then Some (NotRising i)
+    else (if int_lt s.1 r.1 then Some (Falling i) else None)
+
+-- a first fault, and otherwise those behind it
+abbrev pub or_else : Option TableFault → Option TableFault → Option TableFault
+or_else None later = later
+or_else (Some fault) later = Some fault
+
+-- the first fault of rows that are counted from i
+abbrev pub order_fault : ℕ → List Row → Option TableFault
+order_fault i [] = None
+order_fault i (r ∷ []) = None
+order_fault i (r ∷ s ∷ rows) = or_else (fault_behind (suc i) r s) (order_fault (suc i) (s ∷ rows))
+
+-- whether a table may not have so many rows
+abbrev pub is_off_count : ℕ → Bool
+is_off_count n = nat_lt n 2 || nat_lt 10_000 n
+
+-- the fault of a table of these rows: their number, and otherwise the first row at fault
+abbrev pub table_fault : List Row → Option TableFault
+table_fault rows = if is_off_count (length rows) then Some Count else order_fault 0 rows

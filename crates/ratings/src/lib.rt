@@ -1,0 +1,21 @@
+//! Rating tables: the discharge of a stage and the stage of a discharge, the periods in which ratings are in force,
+//! and ratings read from RDB texts.
+#![tactic(auto)]
+
+mod interpolation;
+pub mod laws;
+pub mod period;
+pub mod periods;
+pub mod rdb;
+mod rdb_fields;
+mod rdb_lines;
+mod rdb_rows;
+pub mod table;
+
+pub use period::{Period, PeriodPart};
+pub use periods::{NoEntry, Periods};
+pub use rdb::{RdbFault, read_rdb};
+pub use table::{Rated, Table, TableFault};
+
+#[cfg(test)]
+mod tests;

@@ -1,0 +1,210 @@
+//! A rating table, read by straight lines both ways.
+
+ghost use Rattle.std.specs.Prelude.{◌≡◌, ◌⊎◌, ◌+◌, ◌<◌, ◌≤◌, take, drop, length, slice_index, None, Some, IfOk, IfErr, ◌<ℤ◌, ◌≤ℤ◌, AllPairs};
+ghost use Rattle.fixed_units.specs.Quantities.{IsMicro};
+ghost use Rattle.ratings.specs.Table as tables;
+ghost use Rattle.ratings.specs.Table.{IsTable, line_at, rows_upto, rows_above, rows_short, rows_reaching, fault_behind, order_fault, table_fault};
+
+use crate::interpolation::value_on_line;
+use fixed_units::Micro;
+use std::alloc::{AllocError, Global};
+use std::marker::Model;
+use thiserror::Error;
+
+/// The least and the greatest number of rows of a table.
+const LEAST: usize = 2;
+
+pub(crate) const MOST: usize = 10_000;
+
+/// Why rows are no table.
+#[derive(Clone, Copy, Debug, PartialEq, Eq, Error)]
+pub enum TableFault {
+    /// There are fewer than 2 rows, or more than 10,000.
+    #[error("not 2 to 10,000 rows")]
+    Count,
+    /// The stage of that row, counted from 0, is not above the one before.
+    #[error("the stage of row {0} does not rise")]
+    NotRising(usize),
+    /// The discharge of that row, counted from 0, is below the one before.
+    #[error("the discharge of row {0} falls")]
+    Falling(usize),
+    /// There was no memory.
+    #[error("out of memory")]
+    NoMemory,
+}
+
+impl From<AllocError> for TableFault {
+    ghost use Rattle.ratings.specs.declared.table.TableFault.TheVariants.{NoMemory};
+
+    ghost from_gives = { λ e f. f ≡ NoMemory };
+
+    fn from(_error: AllocError) -> TableFault {
+        TableFault::NoMemory
+    }
+}
+
+/// What a table says of a stage.
+#[derive(Clone, Copy, Debug, PartialEq, Eq)]
+pub enum Rated {
+    /// The discharge, in millionths of a cubic foot per second.
+    Value(Micro),
+    /// The stage is below the first row's.
+    Below,
+    /// The stage is above the last row's.
+    Above,
+}
+
+/// An expanded rating: 2 to 10,000 rows of a stage and a discharge, stages strictly rising and discharges never
+/// falling. Contracts see the rows.
+#[derive(Debug, Drop)]
+pub struct Table {
+    rows: Vec<(Micro, Micro)>,
+}
+
+impl Model for Table {
+    ghost use Rattle.std.specs.Prelude.{List};
+    ghost use Rattle.ratings.specs.Table.{Row, IsTable};
+
+    ghost Value = { List Row };
+
+    ghost view = { λ t. t.rows.items };
+
+    ghost invariant = { λ t. IsTable t.rows.items };
+}
+
+impl Table {
+    /// The table of these rows.
+    ///
+    /// # Errors
+    ///
+    /// `Count` outside 2 to 10,000 rows, otherwise the first row at fault. `NoMemory` may come instead.
+    pub fn new(alloc: Global, rows: &[(Micro, Micro)]) -> Result<Table, TableFault>
+        ensures ok { IfOk result (λ table. (table ≡ rows.now) × (table_fault rows.now ≡ None)) }
+        ensures err { IfErr result (λ fault. (fault ≡ TableFault.NoMemory) ⊎ (table_fault rows.now ≡ Some fault)) }
+    {
+        if let Some(fault) = find_fault(rows) {
+            return Err(fault);
+        }
+        Ok(Table {
+            rows: Vec::from_slice(alloc, rows)?,
+        })
+    }
+
+    /// The table of rows that are one.
+    pub(crate) fn of_rows(rows: Vec<(Micro, Micro)>) -> Table
+        requires { IsTable rows.items }
+        ensures { result ≡ rows.items }
+    {
+        Table { rows }
+    }
+
+    /// The rows, in order.
+    pub fn rows(&self) -> &[(Micro, Micro)]
+        ensures rows { result.now ≡ self.now }
+        ensures table { IsTable self.now }
+    {
+        self.rows.as_slice()
+    }
+
+    /// The rated discharge of a stage: on a row that row's discharge, between two rows the line's.
+    pub fn rate(&self, stage: Micro) -> Rated
+        ensures { result ≡ tables.rated self.now stage }
+    {
+        let rows = self.rows.as_slice();
+        let (reached, above) = rows.split_at(count_upto(rows, stage));
+        let Some(row) = reached.last() else {
+            return Rated::Below;
+        };
+        if row.0 == stage {
+            return Rated::Value(row.1);
+        }
+        match above.first() {
+            Some(next) => Rated::Value(value_on_line(*row, *next, stage)),
+            None => Rated::Above,
+        }
+    }
+
+    /// The stage of a discharge: that of the first row that has it, or the line's between two rows. `None` below the
+    /// first row's discharge and above the last one's.
+    pub fn stage_of(&self, discharge: Micro) -> Option<Micro>
+        ensures { result ≡ tables.stage_of self.now discharge }
+    {
+        let rows = self.rows.as_slice();
+        let (short, reaching) = rows.split_at(count_short(rows, discharge));
+        let next = reaching.first()?;
+        if next.1 == discharge {
+            return Some(next.0);
+        }
+        let row = short.last()?;
+        Some(value_on_line(turned(*row), turned(*next), discharge))
+    }
+}
+
+/// How many rows stand at a stage or below it.
+fn count_upto(rows: &[(Micro, Micro)], stage: Micro) -> usize
+    requires { AllPairs (λ r s. r.0 <ℤ s.0) rows.now }
+    ensures within { result ≤ length rows.now }
+    ensures front { take result rows.now ≡ rows_upto stage rows.now }
+    ensures back { drop result rows.now ≡ rows_above stage rows.now }
+{
+    rows.partition_point(|row| row.0 <= stage)
+}
+
+/// How many rows have less than a discharge.
+fn count_short(rows: &[(Micro, Micro)], discharge: Micro) -> usize
+    requires { AllPairs (λ r s. r.1 ≤ℤ s.1) rows.now }
+    ensures within { result ≤ length rows.now }
+    ensures front { take result rows.now ≡ rows_short discharge rows.now }
+    ensures back { drop result rows.now ≡ rows_reaching discharge rows.now }
+{
+    rows.partition_point(|row| row.1 < discharge)
+}
+
+/// A row the other way round.
+fn turned(row: (Micro, Micro)) -> (Micro, Micro)
+    ensures { result ≡ tables.turned row }
+{
+    (row.1, row.0)
+}
+
+/// The first fault of rows, if there is one.
+fn find_fault(rows: &[(Micro, Micro)]) -> Option<TableFault>
+    ensures { result ≡ table_fault rows.now }
+{
+    if is_off_count(rows.len()) {
+        return Some(TableFault::Count);
+    }
+    find_order_fault(rows)
+}
+
+/// Whether a table may not have so many rows.
+pub(crate) fn is_off_count(count: usize) -> bool
+    ensures { result ≡ tables.is_off_count count }
+{
+    count < LEAST || MOST < count
+}
+
+/// The first row at fault against the one before it.
+fn find_order_fault(rows: &[(Micro, Micro)]) -> Option<TableFault>
+    ensures { result ≡ order_fault 0 rows.now }
+{
+    for i in 1..rows.len() {
+        if let Some(fault) = find_fault_behind(i, rows[i - 1], rows[i]) {
+            return Some(fault);
+        }
+    }
+    None
+}
+
+/// What is wrong with the row at `i` behind another.
+fn find_fault_behind(i: usize, row: (Micro, Micro), next: (Micro, Micro)) -> Option<TableFault>
+    ensures { result ≡ fault_behind i row next }
+{
+    if next.0 <= row.0 {
+        Some(TableFault::NotRising(i))
+    } else if next.1 < row.1 {
+        Some(TableFault::Falling(i))
+    } else {
+        None
+    }
+}

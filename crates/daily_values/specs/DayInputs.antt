@@ -1,7 +1,6 @@
 -- The inputs of a day: all that its value depends on.
 use Rattle.std.specs.Prelude.{ℕ, ◌*◌, ◌≤◌, List, [], ◌∷◌, All, ℤ, pos, ◌-ℤ◌, ◌≤ℤ◌, ⊤}
 use Rattle.fixed_units.specs.Quantities.{IsStage}
-use Rattle.fixed_units.specs.declared.published.RoundingArray.{RoundingArray}
 use Rattle.fixed_units.specs.declared.readings.Reading.{Reading}
 use Rattle.readings.specs.Readings.{IsRising}
 use Rattle.readings.specs.Window.{window}
@@ -10,13 +9,13 @@ use Rattle.daily_values.specs.declared.day_inputs.DayInputs.TheVariants.{Empty, 
 use Rattle.daily_values.specs.declared.day_inputs.DayParts.{DayParts}
 
 -- the inputs of a day [from, until) with this window: none where the window is empty
-abbrev pub with_window : ℕ → RoundingArray → ℤ → ℤ → List Reading → DayInputs
+abbrev pub with_window : ℕ → List ℕ → ℤ → ℤ → List Reading → DayInputs
 with_window gap stage_array from until [] = Empty
 with_window gap stage_array from until (r ∷ rs) =
     Day (record { gap = gap; from = from; until = until; window = r ∷ rs; stage_array = stage_array })
 
 -- the inputs of the day [from, until) of a station with this gap tolerance, in minutes, and these readings
-abbrev pub day_inputs : ℕ → RoundingArray → ℤ → ℤ → List Reading → DayInputs
+abbrev pub day_inputs : ℕ → List ℕ → ℤ → ℤ → List Reading → DayInputs
 day_inputs gap stage_array from until readings =
     with_window gap stage_array from until (window from until (pos (60 * gap)) readings)
 

@@ -63,6 +63,29 @@ fn readings(rt: &impl Abort, alloc: Global, listed: &[(i32, i64)]) -> Result<Vec
     Ok(readings)
 }
 
+// The figures of a day of so many seconds.
+fn figures_of(
+    rt: &impl Abort,
+    alloc: Global,
+    gap: u32,
+    length: i32,
+    stage_array: RoundingArray,
+    listed: &[(i32, i64)],
+) -> Result<Figures, Fail> {
+    let inputs = DayInputs::Day(DayParts {
+        gap,
+        from: second(rt, 0),
+        until: second(rt, length),
+        window: ReadingList::from_vec(readings(rt, alloc, listed)?),
+        stage_array,
+    });
+    assert!(rt; are_inputs(&inputs));
+    let DayValue::Day(figures) = compute(&inputs) else {
+        panic!(rt; "a day with a window has figures");
+    };
+    Ok(figures)
+}
+
 // The seconds that are covered, twice the area, and the hundredths of the mean, of a day of so many seconds.
 fn expect_day(
     rt: &impl Abort,
@@ -72,17 +95,7 @@ fn expect_day(
     listed: &[(i32, i64)],
     want: (u32, i128, Option<i64>),
 ) -> Result<(), Fail> {
-    let inputs = DayInputs::Day(DayParts {
-        gap,
-        from: second(rt, 0),
-        until: second(rt, length),
-        window: ReadingList::from_vec(readings(rt, alloc, listed)?),
-        stage_array: RoundingArray::Hundredths,
-    });
-    assert!(rt; are_inputs(&inputs));
-    let DayValue::Day(figures) = compute(&inputs) else {
-        panic!(rt; "a day with a window has figures");
-    };
+    let figures = figures_of(rt, alloc, gap, length, RoundingArray::STAGES, listed)?;
     let sum = figures.stage();
     let units = figures.stage_text().map(|published| published.units);
     assert_eq!(rt; (sum.covered, sum.twice, units), want);
@@ -159,6 +172,21 @@ fn days_worked_by_hand(rt: HostRuntime) -> Result<(), Fail> {
     )
 }
 
+#[test]
+fn a_mean_is_published_by_the_array_of_its_day(rt: HostRuntime) -> Result<(), Fail> {
+    let listed = [(0, 1_000_000), (43_200, 2_000_000), (86_400, 1_000_000)];
+    let array = RoundingArray::read(b"0111111111").expect(&rt, "a rounding array");
+    let figures = figures_of(&rt, rt.alloc(), 720, 86_400, array, &listed)?;
+    assert_eq!(rt;
+        figures.stage_text(),
+        Some(Published {
+            units: 2,
+            places: 0
+        })
+    );
+    Ok(())
+}
+
 // The value of the example day from all readings of a station.
 fn from_all(
     rt: &impl Abort,
@@ -171,7 +199,7 @@ fn from_all(
     let until = second(rt, 86_400);
     let length = until.get() - from.get();
     assert!(rt; length == 86_400);
-    Ok(from_scratch::day_value(alloc, gap, RoundingArray::Hundredths, from, until, readings)?)
+    Ok(from_scratch::day_value(alloc, gap, RoundingArray::STAGES, from, until, readings)?)
 }
 
 #[test]

@@ -20,6 +20,9 @@ with_call counts = record counts { calls = one_more counts.calls }
 abbrev pub with_fault : Counts → Counts
 with_fault counts = record counts { faults = one_more counts.faults }
 
+abbrev pub without_faults : Counts → Counts
+without_faults counts = record counts { faults = 0 }
+
 -- the next call is on the list of those that are to fail
 abbrev pub Fails : Counts → Type 0
 Fails counts = Contains counts.failing (one_more counts.calls)

@@ -1,5 +1,11 @@
+pub mod Cabinets
+pub mod Disks
 pub mod Failures
 pub mod Faults
+pub mod Files
 pub mod Memory
+pub mod MemoryCabinets
+pub mod MemoryDisks
 pub mod Sinks
 pub mod Sources
+pub mod Writes

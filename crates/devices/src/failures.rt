@@ -1,6 +1,6 @@
 //! Failing on command: which calls of an object in memory are to fail, and how many calls and faults it had.
 ghost use Rattle.std.specs.Prelude.{◌≡◌, ◌≤◌, ◌↔◌, if◌then◌else◌, IsTrue};
-ghost use Rattle.devices.specs.Failures.{Counts, Fails, with_call, with_fault, untouched};
+ghost use Rattle.devices.specs.Failures.{Counts, Fails, with_call, with_fault, without_faults, untouched};
 
 use std::marker::Model;
 
@@ -51,6 +51,22 @@ impl Failures {
         ensures later { self.old.faults ≤ self.new.faults }
     {
         self.faults = self.faults.saturating_add(1);
+    }
+
+    /// Counts a fault if there was one.
+    pub(crate) fn count_fault_if(&mut self, failed: bool)
+        ensures { self.new ≡ (if failed then with_fault self.old else self.old) }
+    {
+        if failed {
+            self.count_fault();
+        }
+    }
+
+    /// Begins the count of faults anew. The calls go on being counted.
+    pub(crate) fn forget_faults(&mut self)
+        ensures { self.new ≡ without_faults self.old }
+    {
+        self.faults = 0;
     }
 
     /// How many calls there were.

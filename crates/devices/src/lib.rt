@@ -1,20 +1,33 @@
 //! The world outside as traits with counts of faults, objects in memory that tell everything and can fail
-//! on command, and adapters over the standard streams.
+//! on command, and adapters over the standard streams and files.
 #![tactic(auto)]
 
+pub mod cabinets;
+pub mod disks;
 pub mod failures;
+pub mod files;
+pub mod memory_cabinet;
+pub mod memory_disk;
 pub mod memory_sink;
 pub mod memory_source;
+pub mod recordings;
 pub mod sinks;
 pub mod sources;
 pub mod standard;
 
+pub use cabinets::{Cabinet, Opened};
+pub use disks::{Disk, DiskFailed};
 pub use failures::Failures;
+pub use files::{FileCabinet, FileDisk};
+pub use memory_cabinet::MemoryCabinet;
+pub use memory_disk::MemoryDisk;
 pub use memory_sink::MemorySink;
 pub use memory_source::MemorySource;
 pub use sinks::{Put, Sink};
 pub use sources::{Source, Took};
 pub use standard::{ReaderSource, StderrSink, StdinSource, StdoutSink, WriterSink};
 
+#[cfg(test)]
+mod disk_tests;
 #[cfg(test)]
 mod tests;

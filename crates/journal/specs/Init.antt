@@ -1,0 +1,25 @@
+-- What the making of a journal answers.
+use Rattle.std.specs.Prelude.{◌≡◌, ℕ, List, Option, Some, IfSome, IsSomeAnd, Result, Ok, Err, ⊤}
+use Rattle.devices.specs.Disks.{Only, Torn, NothingNew}
+use Rattle.journal.specs.JournalBytes.{IsTaken, IsForeign, empty_journal}
+use Rattle.journal.specs.Writing.{WasTorn}
+use Rattle.journal.specs.declared.making.InitFault.{InitFault}
+use Rattle.journal.specs.declared.making.InitFault.TheVariants.{Exists, NotAJournal, Fault}
+
+-- exactly where which answer is given, over a file of these bytes; a fault may come in place of each
+abbrev pub InitAnswers : {T : Type 0} → List ℕ → Result T InitFault → Type 0
+InitAnswers bytes (Ok done) = (¬ IsTaken bytes) × (¬ IsForeign bytes)
+InitAnswers bytes (Err Exists) = IsTaken bytes
+InitAnswers bytes (Err NotAJournal) = IsForeign bytes
+InitAnswers bytes (Err Fault) = ⊤
+
+-- what the disk has then: a journal of no records, or what it had, or after a fault any bytes in the place of the first 17
+abbrev pub InitLeaves : {T : Type 0} → List ℕ → Option (List ℕ) → (List ℕ → Type 0) → (List ℕ → Type 0) → Result T InitFault → Type 0
+InitLeaves bytes after old_images new_images (Ok done) = (after ≡ Some empty_journal) × Only empty_journal new_images
+InitLeaves bytes after old_images new_images (Err Exists) = (after ≡ Some bytes) × NothingNew old_images new_images
+InitLeaves bytes after old_images new_images (Err NotAJournal) = (after ≡ Some bytes) × NothingNew old_images new_images
+InitLeaves bytes after old_images new_images (Err Fault) = IsSomeAnd after (Torn 0 17 bytes)
+
+-- an image from before, of which any bytes may stand in the place of the first 17
+abbrev pub IsBegun : (List ℕ → Type 0) → List ℕ → Type 0
+IsBegun images = WasTorn 0 17 images

@@ -3,9 +3,9 @@ use Rattle.std.specs.Prelude.{◌≡◌, ◌≢◌, ℕ, Bool, true, false, not,
 use Rattle.std.specs.Bool.{Decides}
 use Rattle.std.proofs.Common.{arith, refl, ap, sym, ◌∙◌, subst}
 use Rattle.std.proofs.lemmas.Int.{ints}
+use Rattle.std.proofs.lemmas.Slice.Eq.{bytes_eq-Decides}
 use Rattle.std.proofs.lemmas.Bool.Decides.{Decides-eqb, Decides-and, Decides-like}
-use Rattle.fixed_units.specs.declared.published.RoundingArray.{RoundingArray}
-use Rattle.fixed_units.specs.declared.published.RoundingArray.TheVariants.{Hundredths}
+use Rattle.fixed_units.specs.RoundingArray.{stage_array}
 use Rattle.fixed_units.specs.declared.readings.Reading.{Reading}
 use Rattle.fixed_units.specs.declared.readings.Flag.{Flag}
 use Rattle.fixed_units.specs.declared.readings.Flag.TheVariants.{Usable, Erroneous, Affected}
@@ -16,9 +16,9 @@ use Rattle.daily_values.specs.declared.day_inputs.DayInputs.{DayInputs}
 use Rattle.daily_values.specs.declared.day_inputs.DayInputs.TheVariants.{Empty, Day}
 use Rattle.daily_values.specs.declared.day_inputs.DayParts.{DayParts}
 use Rattle.office.specs.Calendar.{day_start, day_end}
-use Rattle.office.specs.Changes.{same_number, same_flag, same_reading, same_readings, same_array, same_inputs, changes}
+use Rattle.office.specs.Changes.{same_number, same_flag, same_reading, same_readings, same_inputs, changes}
 use Rattle.office.specs.Inputs.{Inputs, inputs_after, inputs_of_day, reading_of}
-use Rattle.office.specs.declared.edits.Edit.{Edit}
+use Rattle.records.specs.declared.edits.What.{What}
 
 -- two numbers are one, and so with each member of the inputs
 same_number-refl : (a : ℤ) → same_number a a ≡ true
@@ -69,9 +69,6 @@ Decides-same_readings (r ∷ rs) (s ∷ ss) =
     Decides-like (same_readings (r ∷ rs) (s ∷ ss)) (cons_parts r s rs ss) (parts_of_cons r s rs ss)
     (Decides-and _ _ (Decides-same_reading r s) (Decides-same_readings rs ss))
 
-Decides-same_array : (a b : RoundingArray) → Decides (same_array a b) (a ≡ b)
-Decides-same_array Hundredths Hundredths = (λ h. refl, λ e. refl)
-
 abbrev SameParts : DayParts → DayParts → Type 0
 SameParts p q =
     (p.gap ≡ q.gap) × ((p.from ≡ q.from) × ((p.until ≡ q.until) × ((p.stage_array ≡ q.stage_array) × (p.window ≡ q.window))))
@@ -84,7 +81,7 @@ day_from_parts p q h =
     λ x. record { gap = q.gap; from = x; until = p.until; window = p.window; stage_array = p.stage_array } in
     let by_until : ℤ → DayParts =
     λ x. record { gap = q.gap; from = q.from; until = x; window = p.window; stage_array = p.stage_array } in
-    let by_array : RoundingArray → DayParts =
+    let by_array : List ℕ → DayParts =
     λ x. record { gap = q.gap; from = q.from; until = q.until; window = p.window; stage_array = x } in
     let by_window : List Reading → DayParts =
     λ x. record { gap = q.gap; from = q.from; until = q.until; window = x; stage_array = q.stage_array } in
@@ -114,14 +111,14 @@ Decides-same_inputs (Day p) (Day q) =
     (Decides-and _ _ (Decides-eqb p.gap q.gap)
     (Decides-and _ _ (Decides-same_number p.from q.from)
     (Decides-and _ _ (Decides-same_number p.until q.until)
-    (Decides-and _ _ (Decides-same_array p.stage_array q.stage_array) (Decides-same_readings p.window q.window)))))
+    (Decides-and _ _ (bytes_eq-Decides p.stage_array q.stage_array) (Decides-same_readings p.window q.window)))))
 
 not_true : (b : Bool) → not b ≡ false → b ≡ true
 not_true true h = refl
 not_true false h = absurd (cc)
 
 -- a day that an edit does not change has the same inputs after it
-pub unchanged_inputs : (inputs : Inputs) (edit : Edit) (day : ℤ) → changes inputs edit day ≡ false
+pub unchanged_inputs : (inputs : Inputs) (edit : What) (day : ℤ) → changes inputs edit day ≡ false
     → inputs_of_day (inputs_after inputs edit) day ≡ inputs_of_day inputs day
 unchanged_inputs inputs edit day h =
     let p = inputs_of_day inputs day in
@@ -129,7 +126,7 @@ unchanged_inputs inputs edit day h =
     sym ((Decides-same_inputs p q).0 (not_true (same_inputs p q) h))
 
 -- and a day that has the same inputs after an edit is not changed by it
-pub same_unchanged : (inputs : Inputs) (edit : Edit) (day : ℤ) → inputs_of_day (inputs_after inputs edit) day ≡ inputs_of_day inputs day
+pub same_unchanged : (inputs : Inputs) (edit : What) (day : ℤ) → inputs_of_day (inputs_after inputs edit) day ≡ inputs_of_day inputs day
     → changes inputs edit day ≡ false
 same_unchanged inputs edit day h =
     ap not ((Decides-same_inputs (inputs_of_day inputs day) (inputs_of_day (inputs_after inputs edit) day)).1 (sym h))
@@ -139,12 +136,12 @@ window_of : DayInputs → List Reading
 window_of Empty = []
 window_of (Day p) = p.window
 
-with_window-window : (gap : ℕ) (array : RoundingArray) (from until : ℤ) (rs : List Reading) → window_of (with_window gap array from until rs) ≡ rs
+with_window-window : (gap : ℕ) (array : List ℕ) (from until : ℤ) (rs : List Reading) → window_of (with_window gap array from until rs) ≡ rs
 unfolding window_of
 with_window-window gap array from until [] = refl
 with_window-window gap array from until (r ∷ rs) = refl
 
-pub window_told : (gap : ℕ) (array : RoundingArray) (from until : ℤ) (rs ss : List Reading)
+pub window_told : (gap : ℕ) (array : List ℕ) (from until : ℤ) (rs ss : List Reading)
     → with_window gap array from until rs ≡ with_window gap array from until ss → rs ≡ ss
 window_told gap array from until rs ss e =
     sym (with_window-window gap array from until rs) ∙ ap window_of e ∙ with_window-window gap array from until ss
@@ -153,23 +150,23 @@ window_told gap array from until rs ss e =
 abbrev pub day_window : Inputs → ℤ → List Reading
 day_window inputs day = window (day_start day) (day_end day) (pos (60 * 720)) inputs.readings
 
-pub same_window : (inputs : Inputs) (edit : Edit) (day : ℤ) → day_window (inputs_after inputs edit) day ≡ day_window inputs day
+pub same_window : (inputs : Inputs) (edit : What) (day : ℤ) → day_window (inputs_after inputs edit) day ≡ day_window inputs day
     → changes inputs edit day ≡ false
 same_window inputs edit day h =
-    same_unchanged inputs edit day (ap (with_window 720 Hundredths (day_start day) (day_end day)) h)
+    same_unchanged inputs edit day (ap (with_window 720 stage_array (day_start day) (day_end day)) h)
 
-other_window_step : (inputs : Inputs) (edit : Edit) (day : ℤ) → day_window (inputs_after inputs edit) day ≢ day_window inputs day
+other_window_step : (inputs : Inputs) (edit : What) (day : ℤ) → day_window (inputs_after inputs edit) day ≢ day_window inputs day
     → (b : Bool) → changes inputs edit day ≡ b → b ≡ true
 other_window_step inputs edit day h true e = refl
 other_window_step inputs edit day h false e =
-    absurd (h (window_told 720 Hundredths (day_start day) (day_end day) _ _ (unchanged_inputs inputs edit day e)))
+    absurd (h (window_told 720 stage_array (day_start day) (day_end day) _ _ (unchanged_inputs inputs edit day e)))
 
-pub other_window : (inputs : Inputs) (edit : Edit) (day : ℤ) → day_window (inputs_after inputs edit) day ≢ day_window inputs day
+pub other_window : (inputs : Inputs) (edit : What) (day : ℤ) → day_window (inputs_after inputs edit) day ≢ day_window inputs day
     → changes inputs edit day ≡ true
 other_window inputs edit day h = other_window_step inputs edit day h (changes inputs edit day) refl
 
 -- a test that tells whether the window of a day alters tells whether the day changes
-pub altered_is_changes : (inputs : Inputs) (edit : Edit) (day : ℤ) (b : Bool)
+pub altered_is_changes : (inputs : Inputs) (edit : What) (day : ℤ) (b : Bool)
     → (b ≡ true → day_window (inputs_after inputs edit) day ≢ day_window inputs day)
     → (b ≡ false → day_window (inputs_after inputs edit) day ≡ day_window inputs day)
     → b ≡ changes inputs edit day
@@ -177,7 +174,7 @@ altered_is_changes inputs edit day true changed same = sym (other_window inputs 
 altered_is_changes inputs edit day false changed same = sym (same_window inputs edit day (same refl))
 
 -- the same for the instants of a day and a reading that equal those of the office
-pub altered_here : (readings : List Reading) (edit : Edit) (day from until : ℤ) (r : Reading) (b : Bool)
+pub altered_here : (readings : List Reading) (edit : What) (day from until : ℤ) (r : Reading) (b : Bool)
     → from ≡ day_start day → until ≡ day_end day → r ≡ reading_of edit
     → (b ≡ true → window from until (pos (60 * 720)) (put r readings) ≢ window from until (pos (60 * 720)) readings)
     → (b ≡ false → window from until (pos (60 * 720)) (put r readings) ≡ window from until (pos (60 * 720)) readings)

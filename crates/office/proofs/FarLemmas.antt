@@ -9,7 +9,7 @@ use Rattle.office.specs.Calendar.{day_start, day_end}
 use Rattle.office.specs.Changes.{same_number, changes}
 use Rattle.office.specs.Inputs.{reading_of}
 use Rattle.office.specs.Marks.{is_marked}
-use Rattle.office.specs.declared.edits.Edit.{Edit}
+use Rattle.records.specs.declared.edits.What.{What}
 use Rattle.office.specs.declared.marks.Mark.{Mark}
 use Rattle.office.specs.declared.marks.Marks.{Marks}
 use Rattle.office.proofs.ChangesLemmas.{Decides-same_number, same_window}
@@ -25,7 +25,7 @@ ordered : (day : ℤ) → day_start day ≤ℤ day_end day
 ordered day = omega (arith, ints)
 
 -- so a reading changes none of these days
-pub far_unchanged : (readings : List Reading) (edit : Edit) (at own day : ℤ) → IsRising readings → at ≡ (reading_of edit).at
+pub far_unchanged : (readings : List Reading) (edit : What) (at own day : ℤ) → IsRising readings → at ≡ (reading_of edit).at
     → day_start own ≤ℤ at → at <ℤ day_end own → day ≢ own -ℤ pos 1 → day ≢ own → day ≢ own +ℤ pos 1
     → changes (record { readings = readings }) edit day ≡ false
 far_unchanged readings edit at own day rising e from until a b c =

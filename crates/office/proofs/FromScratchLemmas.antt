@@ -10,7 +10,7 @@ use Rattle.std.proofs.Math.Seq.{take-suc}
 use Rattle.std.proofs.Math.Numerals.{suc-eq-add-one}
 use denote.Enum.Bare.{sameb, same_true, true_same}
 use Rattle.fixed_units.specs.contracts.readings.Flag.{the_type}
-use Rattle.fixed_units.specs.declared.published.RoundingArray.TheVariants.{Hundredths}
+use Rattle.fixed_units.specs.RoundingArray.{stage_array}
 use Rattle.fixed_units.specs.declared.readings.Flag.{Flag}
 use Rattle.fixed_units.specs.declared.readings.Reading.{Reading}
 use Rattle.readings.specs.Readings.{IsRising, put, before_instant, after_instant}
@@ -45,8 +45,8 @@ readings_decide r s =
 inputs_decided : (before after : Inputs) (day : ℤ) (b : Bool) → Decides b (day_window before day ≡ day_window after day)
     → Decides b (inputs_of_day before day ≡ inputs_of_day after day)
 inputs_decided before after day b h =
-    Decides-like b (ap (with_window 720 Hundredths (day_start day) (day_end day)))
-    (window_told 720 Hundredths (day_start day) (day_end day) (day_window before day) (day_window after day)) h
+    Decides-like b (ap (with_window 720 stage_array (day_start day) (day_end day)))
+    (window_told 720 stage_array (day_start day) (day_end day) (day_window before day) (day_window after day)) h
 
 pub windows_tell : (before after : List Reading) (day from until : ℤ) (xs ys : List Reading) (b : Bool)
     → from ≡ day_start day → until ≡ day_end day

@@ -3,7 +3,7 @@ use Rattle.std.specs.Prelude.{◌≡◌, List, All, ℤ, pos, ◌*◌}
 use Rattle.std.proofs.Common.{arith, sym, subst}
 use Rattle.std.proofs.lemmas.Int.{ints}
 use Rattle.fixed_units.specs.Quantities.{IsStage}
-use Rattle.fixed_units.specs.declared.published.RoundingArray.TheVariants.{Hundredths}
+use Rattle.fixed_units.specs.RoundingArray.{stage_array}
 use Rattle.fixed_units.specs.declared.readings.Reading.{Reading}
 use Rattle.readings.specs.Readings.{IsRising}
 use Rattle.readings.specs.Window.{window}
@@ -14,7 +14,7 @@ use Rattle.office.specs.Inputs.{AreReadings}
 
 pub inputs_kept : (readings items : List Reading) (day from until : ℤ) → AreReadings readings → from ≡ day_start day → until ≡ day_end day
     → items ≡ window from until (pos (60 * 720)) readings
-    → AreParts (record { gap = 720; from = from; until = until; window = items; stage_array = Hundredths })
+    → AreParts (record { gap = 720; from = from; until = until; window = items; stage_array = stage_array })
 inputs_kept readings items day from until h f u w = record {
   gap_low = omega arith;
   gap_high = omega arith;

@@ -1,5 +1,5 @@
 -- What the office keeps goes on standing for its history.
-use Rattle.std.specs.Prelude.{◌≡◌, ℕ, ◌+◌, Bool, true, false, if◌then◌else◌, List, [], ◌∷◌, ◌++◌, length, Option, Some, None, ℤ}
+use Rattle.std.specs.Prelude.{◌≡◌, ℕ, ◌+◌, Bool, true, false, if◌then◌else◌, List, [], ◌∷◌, ◌++◌, length, Option, Some, None, ℤ, All}
 use Rattle.std.proofs.Common.{arith, refl, ap, sym, ◌∙◌, subst}
 use Rattle.std.proofs.lemmas.List.Elements.{All-nil}
 use Rattle.fixed_units.specs.Quantities.{IsDay, IsStage}
@@ -10,23 +10,23 @@ use Rattle.daily_values.specs.DayValue.{day_value}
 use Rattle.daily_values.specs.declared.day_values.DayValue.{DayValue}
 use Rattle.office.specs.Cells.{SaysTheSame, Publishes, awaited_in, value_in}
 use Rattle.office.specs.Changes.{changes, same_number}
-use Rattle.office.specs.History.{Event, Accepted, Published, accepted, inputs_at, awaited, value_at, after_edit}
-use Rattle.office.specs.Inputs.{Inputs, inputs_of_day, reading_of, IsEdit, AreReadings}
+use Rattle.office.specs.History.{Event, Accepted, Published, accepted, inputs_at, awaited, value_at, after_edit, after_fault}
+use Rattle.office.specs.Inputs.{Inputs, inputs_of, inputs_of_day, reading_of, AreReadings}
+use Rattle.records.specs.Edits.{IsWhat}
 use Rattle.office.specs.Kept.{State, in_force, Keeps}
 use Rattle.office.specs.Marks.{is_marked, MarksDays}
-use Rattle.office.specs.declared.cells.Cell.{Cell}
-use Rattle.office.specs.declared.edits.Edit.{Edit}
-use Rattle.office.specs.declared.edits.Edit.TheVariants.{PutReading}
+use Rattle.records.specs.declared.edits.What.{What}
+use Rattle.records.specs.declared.edits.What.TheVariants.{PutReadings}
 use Rattle.office.specs.declared.marks.Marks.{Marks}
 use Rattle.office.proofs.ChangesLemmas.{Decides-same_number, unchanged_inputs}
-use Rattle.office.proofs.HistoryLemmas.{count-edit, count-published, inputs-edit, inputs-published, lawful-edit, lawful-published, awaited-edit, awaited-published, awaited-nothing}
+use Rattle.office.proofs.HistoryLemmas.{count-edit, count-published, inputs-edit, inputs-published, lawful-edit, lawful-published, accepted-faulted, awaited-edit, awaited-faulted, awaited-published, awaited-nothing}
 
 -- nothing has happened in a new office
-pub keeps_nothing : Keeps (record { readings = []; cells = []; edits = 0 }) []
-keeps_nothing = record {
+pub keeps_nothing : (spare : ℕ) → Keeps (record { readings = []; spare = spare; cells = []; edits = 0 }) []
+keeps_nothing spare = record {
   readings = refl;
   edits = refl;
-  lawful = All-nil IsEdit;
+  lawful = All-nil IsWhat;
   awaits = λ day h. sym (awaited-nothing day);
   value = λ day h e. refl;
 }
@@ -52,7 +52,7 @@ none_step : (b : Bool) (number : ℕ) (o : Option ℕ) → (if b then Some numbe
 none_step true number o h = absurd (cc)
 none_step false number o h = (refl, h)
 
-kept_value : (s : State) (events : List Event) (edit : Edit) (day : ℤ) → Keeps s events → IsDay day
+kept_value : (s : State) (events : List Event) (edit : What) (day : ℤ) → Keeps s events → IsDay day
     → awaited (events ++ Accepted edit ∷ []) day ≡ None → value_in s.cells day ≡ value_at (events ++ Accepted edit ∷ []) day
 kept_value s events edit day k d n =
     let both = none_step (changes (inputs_at events) edit day) (length (accepted events) + 1) (awaited events day)
@@ -62,8 +62,8 @@ kept_value s events edit day k d n =
     k.value day d both.1 ∙ ap day_value (sym same)
 
 -- an accepted edit, whose days are marked
-pub keeps_edit : (s t : State) (events : List Event) (edit : Edit) (marked : ℤ → Bool)
-    → IsEdit edit → t.readings ≡ put (reading_of edit) s.readings → t.edits ≡ s.edits + 1
+pub keeps_edit : (s t : State) (events : List Event) (edit : What) (marked : ℤ → Bool)
+    → IsWhat edit → t.readings ≡ put (reading_of edit) s.readings → t.edits ≡ s.edits + 1
     → ((day : ℤ) → marked day ≡ changes (in_force s) edit day)
     → ((day : ℤ) → awaited_in t.cells day ≡ (if marked day then Some t.edits else awaited_in s.cells day))
     → ((day : ℤ) → value_in t.cells day ≡ value_in s.cells day)
@@ -85,25 +85,35 @@ keeps_edit s t events edit marked lawful r e m a v k =
     }
 
 -- readings go on rising, and being stages
-pub readings_kept : (readings new : List Reading) (edit : Edit) → AreReadings readings → IsEdit edit → new ≡ put (reading_of edit) readings
+pub readings_kept : (readings new : List Reading) (edit : What) → AreReadings readings → IsWhat edit → new ≡ put (reading_of edit) readings
     → AreReadings new
-readings_kept readings new (PutReading at raw) h lawful e =
+readings_kept readings new (PutReadings at raw) h lawful e =
     subst AreReadings (sym e) (record {
-      rising = put_rises (reading_of (PutReading at raw)) readings h.rising;
-      stages = put_keeps (λ r. IsStage r.raw) (reading_of (PutReading at raw)) readings h.stages lawful.1;
+      rising = put_rises (reading_of (PutReadings at raw)) readings h.rising;
+      stages = put_keeps (λ r. IsStage r.raw) (reading_of (PutReadings at raw)) readings h.stages lawful.1;
     })
 
--- an edit whose days are marked in cells that say the same as before
-pub keeps_marked : (s t : State) (events : List Event) (edit : Edit) (room : List Cell) (marks : Marks)
-    → IsEdit edit → t.readings ≡ put (reading_of edit) s.readings → t.edits ≡ s.edits + 1
-    → ((day : ℤ) → is_marked marks day ≡ changes (in_force s) edit day)
-    → SaysTheSame s.cells room → MarksDays room t.cells marks t.edits
+-- an edit whose days are marked in the cells
+pub keeps_marked : (s t : State) (events : List Event) (edit : What) (marks : Marks)
+    → IsWhat edit → t.readings ≡ put (reading_of edit) s.readings → t.edits ≡ s.edits + 1
+    → ((day : ℤ) → is_marked marks day ≡ changes (in_force s) edit day) → MarksDays s.cells t.cells marks t.edits
     → Keeps s events → Keeps t (after_edit events edit)
-keeps_marked s t events edit room marks lawful r e m same marked k =
-    keeps_edit s t events edit (is_marked marks) lawful r e m
-    (λ day. let before = same.awaited day in marked.awaited day ∙ rw before refl)
-    (λ day. marked.value day ∙ same.value day)
-    k
+keeps_marked s t events edit marks lawful r e m marked k =
+    keeps_edit s t events edit (is_marked marks) lawful r e m marked.awaited marked.value k
+
+-- an edit that a fault of the journal refused
+pub keeps_fault : (s : State) (events : List Event) (edit : What) (in_doubt : Bool) → Keeps s events → Keeps s (after_fault events edit in_doubt)
+keeps_fault s events edit in_doubt k =
+    let same : accepted (after_fault events edit in_doubt) ≡ accepted events = accepted-faulted events edit in_doubt in
+    record {
+      readings = k.readings ∙ ap (λ (edits : List What). (inputs_of edits).readings) (sym same);
+      edits = k.edits ∙ ap length (sym same);
+      lawful = subst (λ (edits : List What). All IsWhat edits) (sym same) k.lawful;
+      awaits = λ day d. k.awaits day d ∙ sym (awaited-faulted events edit in_doubt day);
+      value = λ day d n.
+          k.value day d (sym (awaited-faulted events edit in_doubt day) ∙ n)
+          ∙ ap (λ (edits : List What). day_value (inputs_of_day (inputs_of edits) day)) (sym same);
+    }
 
 published_value : (b : Bool) (other published : DayValue) (o : Option ℕ) (wanted : DayValue) → (if b then None else o) ≡ None
     → (b ≡ true → published ≡ wanted) → (o ≡ None → other ≡ wanted) → (if b then published else other) ≡ wanted

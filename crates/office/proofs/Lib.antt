@@ -3,12 +3,17 @@ pub mod CellsLemmas
 pub mod CellsPlaceLemmas
 pub mod ChangesLemmas
 pub mod DrainLemmas
+pub mod EditLemmas
 pub mod FarLemmas
 pub mod FromScratchLemmas
 pub mod HistoryLemmas
 pub mod InputsLemmas
+pub mod JournalLemmas
 pub mod KeptLemmas
 pub mod LawLemmas
+pub mod OpenedLemmas
 pub mod PendingLemmas
+pub mod ReplayLemmas
+pub mod StandsLemmas
 pub mod StationLemmas
 pub mod TurnLemmas

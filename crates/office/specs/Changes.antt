@@ -1,7 +1,5 @@
 -- The days that an edit changes: those whose inputs differ before it and after it, of every day of the calendar.
-use Rattle.std.specs.Prelude.{Bool, true, false, ◌&&◌, ◌==◌, not, List, [], ◌∷◌, filter, ℤ, int_le}
-use Rattle.fixed_units.specs.declared.published.RoundingArray.{RoundingArray}
-use Rattle.fixed_units.specs.declared.published.RoundingArray.TheVariants.{Hundredths}
+use Rattle.std.specs.Prelude.{Bool, true, false, ◌&&◌, ◌==◌, not, List, [], ◌∷◌, bytes_eq, filter, ℤ, int_le}
 use Rattle.fixed_units.specs.declared.readings.Reading.{Reading}
 use Rattle.fixed_units.specs.declared.readings.Flag.{Flag}
 use Rattle.fixed_units.specs.declared.readings.Flag.TheVariants.{Usable, Erroneous, Affected}
@@ -9,7 +7,7 @@ use Rattle.daily_values.specs.declared.day_inputs.DayInputs.{DayInputs}
 use Rattle.daily_values.specs.declared.day_inputs.DayInputs.TheVariants.{Empty, Day}
 use Rattle.office.specs.Calendar.{calendar}
 use Rattle.office.specs.Inputs.{Inputs, inputs_after, inputs_of_day}
-use Rattle.office.specs.declared.edits.Edit.{Edit}
+use Rattle.records.specs.declared.edits.What.{What}
 
 -- two numbers are one
 abbrev pub same_number : ℤ → ℤ → Bool
@@ -30,9 +28,6 @@ same_readings [] (s ∷ ss) = false
 same_readings (r ∷ rs) [] = false
 same_readings (r ∷ rs) (s ∷ ss) = same_reading r s && same_readings rs ss
 
-abbrev pub same_array : RoundingArray → RoundingArray → Bool
-same_array Hundredths Hundredths = true
-
 -- the inputs of a day are equal, member by member
 abbrev pub same_inputs : DayInputs → DayInputs → Bool
 same_inputs Empty Empty = true
@@ -40,12 +35,12 @@ same_inputs Empty (Day q) = false
 same_inputs (Day p) Empty = false
 same_inputs (Day p) (Day q) =
     p.gap == q.gap && (same_number p.from q.from && (same_number p.until q.until
-    && (same_array p.stage_array q.stage_array && same_readings p.window q.window)))
+    && (bytes_eq p.stage_array q.stage_array && same_readings p.window q.window)))
 
 -- the edit changes the day
-abbrev pub changes : Inputs → Edit → ℤ → Bool
+abbrev pub changes : Inputs → What → ℤ → Bool
 changes inputs edit day = not (same_inputs (inputs_of_day inputs day) (inputs_of_day (inputs_after inputs edit) day))
 
 -- the days that the edit changes, in order
-abbrev pub changed_days : Inputs → Edit → List ℤ
+abbrev pub changed_days : Inputs → What → List ℤ
 changed_days inputs edit = filter (changes inputs edit) calendar

@@ -1,22 +1,25 @@
 -- What happened in the office, in order, and what can be read off it.
-use Rattle.std.specs.Prelude.{ℕ, ◌+◌, Bool, if◌then◌else◌, List, [], ◌∷◌, ◌++◌, length, reverse, filter, slice_get, Option, Some, None, is_some, ℤ}
+use Rattle.std.specs.Prelude.{ℕ, ◌+◌, Bool, if◌then◌else◌, List, [], ◌∷◌, ◌++◌, length, reverse, map, filter, slice_get, Option, Some, None, is_some, ℤ}
 use Rattle.daily_values.specs.DayValue.{day_value}
 use Rattle.daily_values.specs.declared.day_values.DayValue.{DayValue}
 use Rattle.office.specs.Calendar.{calendar}
 use Rattle.office.specs.Inputs.{Inputs, inputs_of, inputs_of_day}
 use Rattle.office.specs.Changes.{changes, same_number}
-use Rattle.office.specs.declared.edits.Edit.{Edit}
+use Rattle.records.specs.declared.edits.What.{What}
 
--- an edit was accepted, or the value of a day was published
+-- an edit was accepted, the value of a day was published, or a fault of the journal refused an edit, which left the
+-- journal in doubt of it or not
 pub data Event : Type 0 where
-  Accepted : Edit → Event
+  Accepted : What → Event
   Published : ℤ → Event
+  Faulted : What → Bool → Event
 
 -- the edits that were accepted, which are numbered from 1 in this order
-abbrev pub accepted : List Event → List Edit
+abbrev pub accepted : List Event → List What
 accepted [] = []
 accepted (Accepted edit ∷ events) = edit ∷ accepted events
 accepted (Published day ∷ events) = accepted events
+accepted (Faulted edit in_doubt ∷ events) = accepted events
 
 -- the inputs in force
 abbrev pub inputs_at : List Event → Inputs
@@ -31,6 +34,7 @@ awaited_back (Accepted edit ∷ older) day =
     else awaited_back older day
 awaited_back (Published published ∷ older) day =
     if same_number published day then None else awaited_back older day
+awaited_back (Faulted edit in_doubt ∷ older) day = awaited_back older day
 
 -- the number of the edit that a day awaits, if it awaits one
 unfoldable pub awaited : List Event → ℤ → Option ℕ
@@ -74,5 +78,32 @@ after_publication events (Some day) = events ++ Published day ∷ []
 abbrev pub after_turn : List Event → List Event
 after_turn events = after_publication events (next_day events)
 
-abbrev pub after_edit : List Event → Edit → List Event
+abbrev pub after_edit : List Event → What → List Event
 after_edit events edit = events ++ Accepted edit ∷ []
+
+-- the history after an edit that a fault of the journal refused
+abbrev pub after_fault : List Event → What → Bool → List Event
+after_fault events edit in_doubt = events ++ Faulted edit in_doubt ∷ []
+
+-- Read from the newest event back: the last fault left the journal in doubt of its edit, unless an edit was accepted
+-- behind it, or it left none.
+abbrev pub doubt_back : List Event → Option What
+doubt_back [] = None
+doubt_back (Accepted edit ∷ older) = None
+doubt_back (Published day ∷ older) = doubt_back older
+doubt_back (Faulted edit in_doubt ∷ older) = if in_doubt then Some edit else None
+
+-- the edit that the journal is in doubt of, if there is one
+unfoldable pub doubt : List Event → Option What
+doubt events = doubt_back (reverse events)
+
+-- how many edits a fault of the journal refused
+abbrev pub faulted_count : List Event → ℕ
+faulted_count [] = 0
+faulted_count (Accepted edit ∷ events) = faulted_count events
+faulted_count (Published day ∷ events) = faulted_count events
+faulted_count (Faulted edit in_doubt ∷ events) = faulted_count events + 1
+
+-- the history of an office that is opened on a journal of these edits
+abbrev pub reopen : List What → List Event
+reopen edits = map (λ edit. Accepted edit) edits

@@ -1,15 +1,15 @@
 -- The inputs in force: a fold over the accepted edits.
 use Rattle.std.specs.Prelude.{List, [], fold, ℤ, All}
 use Rattle.fixed_units.specs.Quantities.{IsStage, IsStamp}
-use Rattle.fixed_units.specs.declared.published.RoundingArray.TheVariants.{Hundredths}
+use Rattle.fixed_units.specs.RoundingArray.{stage_array}
 use Rattle.fixed_units.specs.declared.readings.Reading.{Reading}
 use Rattle.fixed_units.specs.declared.readings.Flag.TheVariants.{Usable}
 use Rattle.readings.specs.Readings.{IsRising, put}
 use Rattle.daily_values.specs.DayInputs.{day_inputs}
 use Rattle.daily_values.specs.declared.day_inputs.DayInputs.{DayInputs}
 use Rattle.office.specs.Calendar.{day_start, day_end}
-use Rattle.office.specs.declared.edits.Edit.{Edit}
-use Rattle.office.specs.declared.edits.Edit.TheVariants.{PutReading}
+use Rattle.records.specs.declared.edits.What.{What}
+use Rattle.records.specs.declared.edits.What.TheVariants.{PutReadings}
 
 -- what is in force at the built-in station
 pub record Inputs : Type 0 where
@@ -24,20 +24,16 @@ abbrev pub usable : ℤ → ℤ → Reading
 usable at raw = record { at = at; raw = raw; flag = Usable }
 
 -- the reading that an edit puts
-abbrev pub reading_of : Edit → Reading
-reading_of (PutReading at raw) = usable at raw
+abbrev pub reading_of : What → Reading
+reading_of (PutReadings at raw) = usable at raw
 
 -- the inputs after an edit
-abbrev pub inputs_after : Inputs → Edit → Inputs
+abbrev pub inputs_after : Inputs → What → Inputs
 inputs_after inputs edit = record { readings = put (reading_of edit) inputs.readings }
 
 -- the inputs after a list of edits
-abbrev pub inputs_of : List Edit → Inputs
+abbrev pub inputs_of : List What → Inputs
 inputs_of edits = fold inputs_after no_inputs edits
-
--- an edit's instant is a stamp, and its stage is one
-abbrev pub IsEdit : Edit → Type 0
-IsEdit (PutReading at raw) = IsStamp at × IsStage raw
 
 -- readings in force rise by instant, and are of stages
 pub record AreReadings (readings : List Reading) : Type 0 where
@@ -46,4 +42,4 @@ pub record AreReadings (readings : List Reading) : Type 0 where
 
 -- the inputs of a day of the built-in station, whose gap tolerance is 720 minutes
 abbrev pub inputs_of_day : Inputs → ℤ → DayInputs
-inputs_of_day inputs day = day_inputs 720 Hundredths (day_start day) (day_end day) inputs.readings
+inputs_of_day inputs day = day_inputs 720 stage_array (day_start day) (day_end day) inputs.readings

@@ -4,12 +4,14 @@ use Rattle.fixed_units.specs.Quantities.{IsDay}
 use Rattle.fixed_units.specs.declared.readings.Reading.{Reading}
 use Rattle.office.specs.Cells.{awaited_in, value_in}
 use Rattle.office.specs.History.{Event, accepted, inputs_at, awaited, value_at}
-use Rattle.office.specs.Inputs.{IsEdit, Inputs}
+use Rattle.office.specs.Inputs.{Inputs}
+use Rattle.records.specs.Edits.{IsWhat}
 use Rattle.office.specs.declared.cells.Cell.{Cell}
 
--- the office as contracts see it
+-- the record of a station as contracts see it: beside the readings there is room for some more
 pub record State : Type 0 where
   pub readings : List Reading
+  pub spare : ℕ
   pub cells : List Cell
   pub edits : ℕ
 
@@ -22,6 +24,6 @@ in_force state = record { readings = state.readings }
 pub record Keeps (state : State) (events : List Event) : Type 0 where
   pub readings : state.readings ≡ (inputs_at events).readings
   pub edits : state.edits ≡ length (accepted events)
-  pub lawful : All IsEdit (accepted events)
+  pub lawful : All IsWhat (accepted events)
   pub awaits : (day : ℤ) → IsDay day → awaited_in state.cells day ≡ awaited events day
   pub value : (day : ℤ) → IsDay day → awaited events day ≡ None → value_in state.cells day ≡ value_at events day

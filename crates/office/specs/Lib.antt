@@ -2,8 +2,14 @@ pub mod Answers
 pub mod Calendar
 pub mod Cells
 pub mod Changes
+pub mod Edits
 pub mod History
 pub mod Inputs
+pub mod JournalOfEdits
 pub mod Kept
 pub mod Laws
 pub mod Marks
+pub mod Opened
+pub mod Ready
+pub mod Replay
+pub mod Stands

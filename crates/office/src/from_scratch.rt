@@ -8,15 +8,15 @@ ghost use Rattle.office.specs.Inputs.{inputs_of_day};
 ghost use Rattle.office.specs.Changes as changes;
 ghost use Rattle.office.specs.Changes.{same_inputs};
 
-use crate::edits::Edit;
 use crate::station::{GAP, bounds};
 use fixed_units::{Day, Flag, NoMemory, Reading};
 use readings::Readings;
+use records::What;
 use std::alloc::Global;
 
 /// The days that an edit changes, found by comparing every day of the calendar.
-pub fn changed_days(alloc: Global, before: &Readings, edit: &Edit) -> Result<Vec<Day>, NoMemory>
-    ensures { IfOk result (λ days. days.items ≡ changes.changed_days (record { readings = before.now }) edit.now) }
+pub fn changed_days(alloc: Global, before: &Readings, edit: &What) -> Result<Vec<Day>, NoMemory>
+    ensures { IfOk result (λ days. days.items ≡ changes.changed_days (record { readings = before.now.list }) edit.now) }
 {
     let after = readings_after(alloc, before, edit)?;
     let mut days = Vec::new(alloc);
@@ -30,33 +30,35 @@ pub fn changed_days(alloc: Global, before: &Readings, edit: &Edit) -> Result<Vec
 }
 
 /// The readings after an edit.
-fn readings_after(alloc: Global, before: &Readings, edit: &Edit) -> Result<Readings, NoMemory>
-    ensures { IfOk result (λ after. after ≡ put (inputs.reading_of edit.now) before.now) }
+fn readings_after(alloc: Global, before: &Readings, edit: &What) -> Result<Readings, NoMemory>
+    ensures { IfOk result (λ after. after.list ≡ put (inputs.reading_of edit.now) before.now.list) }
 {
     let mut after = copy(alloc, before)?;
-    let Edit::PutReading { at, raw } = edit;
+    let What::PutReadings { at, raw } = edit;
+    after.reserve(1)?;
     after.put(Reading {
         at: *at,
         raw: *raw,
         flag: Flag::Usable,
-    })?;
+    });
     Ok(after)
 }
 
 /// The same readings once more.
 fn copy(alloc: Global, readings: &Readings) -> Result<Readings, NoMemory>
-    ensures { IfOk result (λ copy. copy ≡ readings.now) }
+    ensures { IfOk result (λ copy. copy.list ≡ readings.now.list) }
 {
     let mut copy = Readings::new(alloc);
     for reading in readings.as_slice() {
-        copy.put(*reading)?;
+        copy.reserve(1)?;
+        copy.put(*reading);
     }
     Ok(copy)
 }
 
 /// Whether the inputs of a day differ between these readings and those.
 fn differs(alloc: Global, before: &Readings, after: &Readings, day: Day) -> Result<bool, NoMemory>
-    ensures { IfOk result (λ differs. differs ≡ not (same_inputs (inputs_of_day (record { readings = before.now }) day) (inputs_of_day (record { readings = after.now }) day))) }
+    ensures { IfOk result (λ differs. differs ≡ not (same_inputs (inputs_of_day (record { readings = before.now.list }) day) (inputs_of_day (record { readings = after.now.list }) day))) }
 {
     let (from, until) = bounds(day);
     let earlier = before.to_list(alloc, from, until, GAP)?;

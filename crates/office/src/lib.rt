@@ -1,16 +1,19 @@
-//! The office of one thread, for one built-in station: it takes readings, keeps which days await a computation,
-//! computes them one at a time, and answers what a day's value is.
+//! The office of one thread, for one built-in station: it takes readings, keeps each in a journal before it accepts it,
+//! keeps which days await a computation, computes them one at a time, and answers what a day's value is.
 #![tactic(auto)]
 
 pub mod cells;
-pub mod edits;
 pub mod from_scratch;
 pub mod laws;
-mod marks;
+pub mod limits;
+pub mod marks;
+mod opening;
 pub mod records_office;
 pub mod station;
+pub mod station_record;
 #[cfg(test)]
 mod tests;
 
-pub use edits::Edit;
-pub use records_office::{Answer, Office};
+pub use limits::Limits;
+pub use records_office::{Office, Refusal};
+pub use station_record::{Answer, StationRecord};

@@ -1,197 +1,191 @@
-//! The office of one thread.
+//! The office of one thread: a station's record in memory, and the journal of its edits on a disk.
 
-ghost use Rattle.std.specs.Prelude.{◌≡◌, ◌+◌, ◌-◌, ◌^◌, ◌<◌, ℤ, List, [], length, map, slice_get, IfSome, IsSome, IfOk, OnOk, OnErr};
-ghost use Rattle.daily_values.specs.DayInputs.{AreInputs};
-ghost use Rattle.daily_values.specs.DayValue.{day_value};
-ghost use Rattle.office.specs.Inputs as inputs;
-ghost use Rattle.office.specs.Inputs.{IsEdit, AreReadings, inputs_of_day};
-ghost use Rattle.office.specs.Cells.{AreCells, awaited_in, waiting};
-ghost use Rattle.office.specs.Changes.{changes};
-ghost use Rattle.office.specs.Marks.{is_marked};
-ghost use Rattle.office.specs.History.{Event, pending_days, next_day, after_edit, after_turn};
-ghost use Rattle.office.specs.Kept.{Keeps, in_force};
+ghost use Rattle.std.specs.Prelude.{◌≡◌, ◌⊎◌, ◌+◌, ◌-◌, ◌^◌, ◌<◌, ◌≤◌, true, Bool, ℕ, List, length, IfSome, IfOk, IfErr, OnErr, Ok, Err, is_some};
+ghost use Rattle.devices.specs.Disks.{IsUnchanged, IsDurable};
+ghost use Rattle.devices.specs.Faults.{Rose};
+ghost use Rattle.records.specs.Edits.{IsWhat};
+ghost use Rattle.journal.specs.Moments.{LeavesOnly};
+ghost use Rattle.office.specs.History.{Event, accepted, doubt, pending_days, next_day, after_turn};
+ghost use Rattle.office.specs.JournalOfEdits.{IsFull, StandsForEdits};
+ghost use Rattle.office.specs.Kept.{Keeps};
 ghost use Rattle.office.specs.Answers.{IsAnswer};
 
-use crate::cells::Cells;
-use crate::edits::Edit;
-use crate::marks::{Mark, Marks, make_room, mark_days};
-use crate::station::{GAP, STAGE_ARRAY, bounds, day_after, day_before, day_of};
-use daily_values::{DayInputs, DayParts, DayValue, ReadingList, compute};
-use fixed_units::{Day, Flag, NoMemory, Reading};
-use readings::Readings;
+use crate::limits::Limits;
+use crate::opening::read_all;
+use crate::station_record::{Answer, StationRecord};
+use devices::Disk;
+use fixed_units::{Day, NoMemory, Text};
+use journal::{AppendFault, Journal, OpenRefused};
+use records::What;
 use std::alloc::Global;
-use std::marker::Model;
 
-/// What is answered for a day.
-#[derive(Clone, Copy, Debug, Drop)]
-pub enum Answer<'a> {
-    /// The day awaits the computation that this edit made due.
-    Pending(u64),
-    /// The value of the day, as it is computed from scratch from the inputs in force.
-    Computed(&'a DayValue),
+/// Why an edit is refused.
+#[derive(Clone, Copy, Debug, PartialEq, Eq)]
+pub enum Refusal {
+    /// There was no memory. Nothing has happened.
+    NoMemory,
+    /// With the edit the journal would pass its limit. Nothing has happened.
+    JournalFull,
+    /// The disk failed. Where that leaves the journal in doubt, the edit may stand in it or not, which the next opening
+    /// shows, and no edit is accepted until then.
+    JournalFault(bool),
 }
 
-/// The record of the built-in station. Contracts see what it keeps, and `Keeps` says which history that stands for.
-#[derive(Debug, Drop)]
-pub struct Office {
-    alloc: Global,
-    readings: Readings,
-    cells: Cells,
-    edits: u64,
+impl From<NoMemory> for Refusal {
+    ghost use Rattle.office.specs.declared.records_office.Refusal.{Refusal};
+
+    ghost from_gives = { λ _ refusal. refusal ≡ Refusal.NoMemory };
+
+    fn from(_: NoMemory) -> Refusal {
+        Refusal::NoMemory
+    }
 }
 
-impl Model for Office {
-    ghost use Rattle.office.specs.Kept.{State};
-    ghost use Rattle.office.specs.Inputs.{AreReadings};
+impl From<AppendFault> for Refusal {
+    ghost use Rattle.office.specs.Edits.{refusal_of};
 
-    ghost Value = { State };
+    ghost from_gives = { λ fault refusal. refusal ≡ refusal_of fault };
 
-    ghost view = { λ o. record { readings = o.readings; cells = o.cells; edits = o.edits } };
-
-    ghost invariant = { λ o. AreReadings o.readings };
-}
-
-impl Office {
-    /// An office in which nothing has happened, which takes no memory.
-    pub fn new(alloc: Global) -> Office
-        ensures { Keeps result [] }
-    {
-        Office {
-            alloc,
-            readings: Readings::new(alloc),
-            cells: Cells::new(alloc),
-            edits: 0,
+    fn from(fault: AppendFault) -> Refusal {
+        match fault {
+            AppendFault::Full => Refusal::JournalFull,
+            AppendFault::Fault(in_doubt) => Refusal::JournalFault(in_doubt),
         }
+    }
+}
+
+/// The office of the built-in station. Each edit is in the journal before it is accepted.
+#[derive(Drop)]
+pub struct Office<D: Disk> {
+    alloc: Global,
+    station: StationRecord,
+    journal: Journal<D>,
+}
+
+impl<D: Disk> Office<D> {
+    ghost use Rattle.office.specs.Edits.{Edits, IsEncoded, in_flight};
+    ghost use Rattle.office.specs.Opened.{IsOpened, IsNotOpened};
+    ghost use Rattle.office.specs.Stands.{Stands};
+    ghost use Rattle.office.specs.declared.records_office.Refusal.{Refusal};
+
+    /// Opens an office on the journal of its edits, and accepts them again. A refusal gives the disk back. Nothing is
+    /// written, and what was not yet safe from a stop is safe then.
+    pub fn open(alloc: Global, disk: D, limits: Limits) -> Result<Office<D>, OpenRefused<D>>
+        ensures opened { IfOk result (IsOpened D.content D.may_leave disk) }
+        ensures few { IfOk result (λ office. office.station.edits ≤ 2 ^ 63) }
+        ensures limit { IfOk result (λ office. office.journal.limit ≡ limits.journal_bytes) }
+        ensures same { IfOk result (λ office. IsUnchanged (D.content disk) (D.content office.journal.disk)) }
+        ensures durable { IfOk result (λ office. IsDurable (D.content disk) (D.may_leave office.journal.disk)) }
+        ensures any_moment { IfOk result (λ office. LeavesOnly D.moment D.left_since disk office.journal.disk (D.may_leave disk)) }
+        ensures counted { IfOk result (λ office. D.faults disk ≤ D.faults office.journal.disk) }
+        ensures refused { IfErr result (λ refused. IsNotOpened (D.content disk) refused.fault (D.faults disk) (D.faults refused.disk)) }
+        ensures refused_same { IfErr result (λ refused. IsUnchanged (D.content disk) (D.content refused.disk)) }
+        ensures refused_any_moment { IfErr result (λ refused. LeavesOnly D.moment D.left_since disk refused.disk (D.may_leave disk)) }
+        ensures refused_counted { IfErr result (λ refused. D.faults disk ≤ D.faults refused.disk) }
+    {
+        let mut opening = match journal::open(alloc, disk) {
+            Ok(opening) => opening,
+            Err(refused) => return Err(refused),
+        };
+        let mut station = StationRecord::new(alloc);
+        if let Err(fault) = read_all(alloc, &mut opening, &mut station) {
+            return Err(OpenRefused {
+                disk: opening.give_up(),
+                fault,
+            });
+        }
+        Ok(Office {
+            alloc,
+            station,
+            journal: opening.finish(limits.journal_bytes),
+        })
     }
 
     /// How many edits were accepted.
     pub fn edits(&self) -> u64
-        ensures { result ≡ self.now.edits }
+        ensures { result ≡ self.now.station.edits }
     {
-        self.edits
+        self.station.edits()
     }
 
     /// How many days await a computation.
     pub fn pending(&self) -> u64
-        ensures { (events : List Event) → Keeps self.now events → result ≡ length (pending_days events) }
+        ensures { (events : List Event) → Keeps self.now.station events → result ≡ length (pending_days events) }
     {
-        self.cells.pending()
+        self.station.pending()
     }
 
     /// What is answered for a day.
     pub fn answer(&self, day: Day) -> Answer<'_>
-        ensures { (events : List Event) → Keeps self.now events → IsAnswer events day result }
+        ensures { (events : List Event) → Keeps self.now.station events → IsAnswer events day result }
     {
-        match self.cells.awaited(day) {
-            Some(edit) => Answer::Pending(edit),
-            None => Answer::Computed(self.cells.value(day)),
-        }
+        self.station.answer(day)
     }
 
-    /// Accepts an edit, and gives its number. The days whose inputs it changes await a computation from then on.
-    /// After `NoMemory` the history is as before.
-    pub fn edit(&mut self, edit: Edit) -> Result<u64, NoMemory>
-        requires lawful { IsEdit edit }
-        requires room { self.old.edits < 2 ^ 64 - 1 }
-        ensures ok { IfOk result (λ number. (number ≡ self.old.edits + 1) × (self.new.edits ≡ number)) }
-        ensures accepted { OnOk result ((events : List Event) → Keeps self.old events → Keeps self.new (after_edit events edit)) }
-        ensures same { OnErr result (self.new.edits ≡ self.old.edits) }
-        ensures err { OnErr result ((events : List Event) → Keeps self.old events → Keeps self.new events) }
+    /// Keeps an edit in the journal, accepts it, and gives its number. The days whose inputs it changes await a
+    /// computation from then on. All memory is taken before the journal is written.
+    pub fn edit(&mut self, what: What) -> Result<u64, Refusal>
+        requires lawful { IsWhat what }
+        requires room { self.old.station.edits < 2 ^ 64 - 1 }
+        ensures edited { (told : Bool) (events : List Event) → Stands D.content D.may_leave told events self.old
+            → Edits D.content D.may_leave told self.old.journal.limit events what self.new result }
+        ensures full { (told : Bool) (events : List Event) → Stands D.content D.may_leave told events self.old → IsFull self.old.journal.limit events what
+            → (result ≡ Err Refusal.JournalFull) ⊎ (result ≡ Err Refusal.NoMemory) }
+        ensures any_moment { (events : List Event) → Stands D.content D.may_leave true events self.old
+            → LeavesOnly D.moment D.left_since self.old.journal.disk self.new.journal.disk (StandsForEdits (accepted events) (in_flight (doubt events) what)) }
+        ensures cause { (in_doubt : Bool) → result ≡ Err (Refusal.JournalFault in_doubt)
+            → (self.old.journal.in_doubt ≡ true) ⊎ Rose (D.faults self.old.journal.disk) (D.faults self.new.journal.disk) }
+        ensures in_doubt { self.old.journal.in_doubt ≡ true → self.new.journal ≡ self.old.journal }
+        ensures no_memory { result ≡ Err Refusal.NoMemory → self.new.journal ≡ self.old.journal }
+        ensures untouched { result ≡ Err Refusal.JournalFull → self.new ≡ self.old }
+        ensures counted { D.faults self.old.journal.disk ≤ D.faults self.new.journal.disk }
+        ensures limit { self.new.journal.limit ≡ self.old.journal.limit }
+        ensures edits { self.new.station.edits ≤ self.old.station.edits + 1 }
     {
-        let marks = self.marks(&edit);
-        make_room(&mut self.cells, &marks)?;
-        self.readings.put(reading_of(&edit))?;
-        self.edits += 1;
-        mark_days(&mut self.cells, &marks, self.edits);
-        Ok(self.edits)
+        let bytes = self.encoded(what)?;
+        if !self.journal.fits(bytes.len()) {
+            return Err(Refusal::JournalFull);
+        }
+        if self.journal.in_doubt() {
+            return Err(Refusal::JournalFault(true));
+        }
+        let marks = self.station.prepare(&what)?;
+        self.journal.append(bytes.as_slice())?;
+        Ok(self.station.apply(&what, &marks))
+    }
+
+    /// The record of the next edit in the journal, and the closed gate behind it.
+    fn encoded(&self, what: What) -> Result<Text, NoMemory>
+        requires lawful { IsWhat what }
+        requires room { self.now.station.edits < 2 ^ 64 - 1 }
+        ensures { IfOk result (IsEncoded (self.now.station.edits + 1) what) }
+    {
+        let piece = records::first_path::record_of(self.alloc, self.station.edits() + 1, what)?;
+        let mut bytes = records::encode(self.alloc, &piece)?;
+        bytes.push(0)?;
+        Ok(bytes)
     }
 
     /// Computes and publishes the first day that awaits a computation, and gives it; `None` where none does. After
     /// `NoMemory` the history is as before.
     pub fn turn(&mut self) -> Result<Option<Day>, NoMemory>
-        ensures ok { IfOk result (λ day. (events : List Event) → Keeps self.old events → (day ≡ next_day events) × Keeps self.new (after_turn events)) }
-        ensures edits { self.new.edits ≡ self.old.edits }
+        ensures ok { IfOk result (λ day. (told : Bool) (events : List Event) → Stands D.content D.may_leave told events self.old
+            → (day ≡ next_day events) × Stands D.content D.may_leave told (after_turn events) self.new) }
+        ensures journal { self.new.journal ≡ self.old.journal }
+        ensures edits { self.new.station.edits ≡ self.old.station.edits }
         ensures err { OnErr result (self.new ≡ self.old) }
     {
-        let Some(day) = self.next_day() else {
-            return Ok(None);
-        };
-        let value = self.compute_day(day)?;
-        self.cells.publish(day, value);
-        Ok(Some(day))
+        self.station.turn()
     }
 
-    /// The first day that awaits a computation.
-    fn next_day(&mut self) -> Option<Day>
-        ensures same { self.new ≡ self.old }
-        ensures first { result ≡ slice_get (map (λ c. c.day) (waiting self.old.cells)) 0 }
-        ensures awaits { IfSome result (λ day. IsSome (awaited_in self.old.cells day)) }
-        ensures cells { AreCells self.old.cells }
+    /// The disk. Where it tells what it has, that is the journal of the accepted edits, or of these and the one that is in
+    /// doubt, and so is whatever a stop may leave.
+    pub fn close(self) -> D
+        ensures disk { result ≡ self.journal.disk }
+        ensures now { (events : List Event) → Stands D.content D.may_leave true events self → IfSome (D.content result) (StandsForEdits (accepted events) (doubt events)) }
+        ensures images { (events : List Event) → Stands D.content D.may_leave true events self
+            → (image : List ℕ) → D.may_leave result image → StandsForEdits (accepted events) (doubt events) image }
     {
-        self.cells.first_pending()
-    }
-
-    /// The value of a day, computed from scratch from the inputs in force.
-    fn compute_day(&self, day: Day) -> Result<DayValue, NoMemory>
-        ensures { IfOk result (λ value. value ≡ day_value (inputs_of_day (in_force self.now) day)) }
-    {
-        let inputs = self.day_inputs(day)?;
-        Ok(compute(&inputs))
-    }
-
-    /// The inputs of a day that are in force.
-    fn day_inputs(&self, day: Day) -> Result<DayInputs, NoMemory>
-        ensures inputs { IfOk result (λ inputs. inputs ≡ inputs_of_day (in_force self.now) day) }
-        ensures kept { IfOk result AreInputs }
-    {
-        let (from, until) = bounds(day);
-        let window = self.readings.to_list(self.alloc, from, until, GAP)?;
-        if window.is_empty() {
-            return Ok(DayInputs::Empty);
-        }
-        Ok(DayInputs::Day(DayParts {
-            gap: GAP,
-            from,
-            until,
-            window: ReadingList::from_vec(window),
-            stage_array: STAGE_ARRAY,
-        }))
-    }
-
-    /// The days that an edit changes.
-    fn marks(&self, edit: &Edit) -> Marks
-        requires { IsEdit edit.now }
-        ensures { (day : ℤ) → is_marked result day ≡ changes (in_force self.now) edit.now day }
-    {
-        let own = day_of(reading_of(edit).at);
-        Marks {
-            before: self.mark(edit, day_before(own)),
-            own: self.mark(edit, own),
-            after: self.mark(edit, day_after(own)),
-        }
-    }
-
-    /// Whether an edit changes a day.
-    fn mark(&self, edit: &Edit, day: Day) -> Mark
-        ensures day { result.day ≡ day }
-        ensures altered { result.altered ≡ changes (in_force self.now) edit.now day }
-        ensures kept { AreReadings self.now.readings }
-    {
-        let (from, until) = bounds(day);
-        let reading = reading_of(edit);
-        let altered = self.readings.alters_window(reading, from, until, GAP);
-        Mark { day, altered }
-    }
-}
-
-/// The reading that an edit puts.
-fn reading_of(edit: &Edit) -> Reading
-    ensures { result ≡ inputs.reading_of edit.now }
-{
-    let Edit::PutReading { at, raw } = edit;
-    Reading {
-        at: *at,
-        raw: *raw,
-        flag: Flag::Usable,
+        self.journal.close()
     }
 }

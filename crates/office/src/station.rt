@@ -10,7 +10,7 @@ use fixed_units::{Day, RoundingArray, Second};
 pub(crate) const GAP: u32 = 720;
 
 /// The rounding array for stages.
-pub(crate) const STAGE_ARRAY: RoundingArray = RoundingArray::Hundredths;
+pub(crate) const STAGE_ARRAY: RoundingArray = RoundingArray::STAGES;
 
 /// The seconds from midnight in UTC to the station's midnight.
 const OFFSET: i64 = 18_000;

@@ -8,7 +8,7 @@ use Rattle.office.proofs.from_scratch.differs.Goals as goal
 pub returns : goal.returns
 returns c =
     c.ne.ensures
-    ∙ ap not (windows_tell c.args.before.now c.args.after.now c.args.day c.bounds-from.result.0 c.bounds-from.result.1
+    ∙ ap not (windows_tell c.args.before.now.list c.args.after.now.list c.args.day c.bounds-from.result.0 c.bounds-from.result.1
     c.in_ok-earlier.earlier.items c.in_ok-later.later.items _ c.bounds-from.ensures.from c.bounds-from.ensures.until
     c.in_ok-earlier.ensures c.in_ok-later.ensures
     (slice_eq-Decides readings_decide c.in_ok-earlier.earlier.items c.in_ok-later.later.items _ refl))

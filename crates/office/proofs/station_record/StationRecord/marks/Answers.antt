@@ -6,7 +6,7 @@ use Rattle.office.specs.Changes.{changes}
 use Rattle.office.specs.Kept.{in_force}
 use Rattle.office.specs.declared.marks.Mark.{Mark}
 use Rattle.office.proofs.FarLemmas.{far_unchanged, marks_tell}
-use Rattle.office.proofs.records_office.Office.marks.Goals as goal
+use Rattle.office.proofs.station_record.StationRecord.marks.Goals as goal
 
 told : (changed : ℤ → Bool) (mark : Mark) (day : ℤ) → mark.day ≡ day → mark.altered ≡ changed day → mark.altered ≡ changed mark.day
 told changed mark day d a = a ∙ ap changed (sym d)

@@ -1,0 +1,17 @@
+-- The edits so far are accepted, they are few, and nothing was written; the gate moves on.
+use Rattle.std.specs.Prelude.{List, ◌-◌, ◌^◌, ◌≤◌}
+use Rattle.records.specs.declared.edits.What.{What}
+use Rattle.journal.specs.Moments.{OnlyReads}
+use Rattle.office.specs.Replay.{HasReadEdits}
+use Rattle.office.proofs.opening.read_all.Given as goal
+
+abbrev pub invariant-loop : goal.invariant-loop
+invariant-loop g l =
+    record {
+      read : (edits : List What) × HasReadEdits g.D.Disk.content edits l.station l.opening;
+      few : l.station.edits ≤ 2 ^ 63;
+      disk : OnlyReads g.D.Disk.content g.D.Disk.may_leave g.D.Disk.moment g.D.Disk.left_since g.D.Disk.faults l.fn.opening.ahead.disk l.opening.ahead.disk;
+    }
+
+abbrev pub decreases-loop : goal.decreases-loop
+decreases-loop g l = 2 ^ 64 - l.opening.gate

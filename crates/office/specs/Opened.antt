@@ -1,0 +1,25 @@
+-- What the opening of an office answers.
+use Rattle.std.specs.Prelude.{ℕ, List, Option, IfSome, is_some, ⊤}
+use Rattle.devices.specs.Faults.{Rose}
+use Rattle.records.specs.declared.edits.What.{What}
+use Rattle.journal.specs.JournalBytes.{HasHeader, IsDamagedAt}
+use Rattle.journal.specs.declared.opening.OpenFault.{OpenFault}
+use Rattle.journal.specs.declared.opening.OpenFault.TheVariants.{Fault, NotAJournal, Damaged, NoMemory}
+use Rattle.office.specs.History.{reopen}
+use Rattle.office.specs.JournalOfEdits.{IsJournalOfEdits}
+use Rattle.office.specs.Stands.{Stands}
+use Rattle.office.specs.declared.records_office.Office.{Office}
+
+-- the edits of the journal that was found are those that the office stands for, each accepted in its turn
+pub record IsOpened {D : Type 0} {g : _} (content : D → Option (List ℕ)) (may_leave : D → List ℕ → Type 0) (disk : D)
+    (office : Office D g) : Type 0 where
+  pub edits : List What
+  pub found : IfSome (content disk) (IsJournalOfEdits edits)
+  pub stands : Stands content may_leave (is_some (content disk)) (reopen edits) office
+
+-- why an office is not opened, over a disk with this content and counts of faults
+abbrev pub IsNotOpened : Option (List ℕ) → OpenFault → ℕ → ℕ → Type 0
+IsNotOpened content Fault before now = Rose before now
+IsNotOpened content NotAJournal before now = IfSome content (λ bytes. ¬ HasHeader bytes)
+IsNotOpened content (Damaged at) before now = IfSome content (IsDamagedAt at)
+IsNotOpened content NoMemory before now = ⊤

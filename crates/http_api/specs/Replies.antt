@@ -1,12 +1,12 @@
 -- The bodies of replies: compact JSON, members in rising order of their names.
 use Rattle.std.specs.Prelude.{ℕ, Bool, true, false, List, ◌++◌, codes, decimal, Option, Some, None}
-use Rattle.fixed_units.specs.Published.{published_text}
+use Rattle.fixed_units.specs.PublishedText.{published_text}
 use Rattle.fixed_units.specs.declared.published.Published.{Published}
 use Rattle.daily_values.specs.Figures.{DayFigures, mean_stage}
 use Rattle.daily_values.specs.declared.day_values.DayValue.{DayValue}
 use Rattle.daily_values.specs.declared.day_values.DayValue.TheVariants as values
 use Rattle.http_api.specs.declared.replies.Reply.{Reply}
-use Rattle.http_api.specs.declared.replies.Reply.TheVariants.{Edit, Turned, Pending, Computed, NoRoute}
+use Rattle.http_api.specs.declared.replies.Reply.TheVariants.{Edit, Turned, Pending, Computed, NoRoute, JournalFull, JournalFault}
 
 abbrev pub bool_text : Bool → List ℕ
 bool_text true = codes "true"
@@ -54,6 +54,14 @@ value_text (values.Day figures) = figures_text figures
 abbrev pub no_route_text : List ℕ
 no_route_text = codes "{\"code\":\"NoRoute\"}"
 
+-- the journal has no room for an edit
+abbrev pub journal_full_text : List ℕ
+journal_full_text = codes "{\"code\":\"JournalFull\"}"
+
+-- the journal failed at an edit, and whether the edit may stand in it
+abbrev pub journal_fault_text : Bool → List ℕ
+journal_fault_text in_doubt = codes "{\"code\":\"JournalFault\",\"in_doubt\":" ++ bool_text in_doubt ++ codes "}"
+
 -- the body of a reply
 abbrev pub reply_body : Reply → List ℕ
 reply_body (Edit number repeated) = edit_text number repeated
@@ -61,6 +69,8 @@ reply_body (Turned pending published) = turned_text pending published
 reply_body (Pending edit) = pending_text edit
 reply_body (Computed value) = value_text value.now
 reply_body NoRoute = no_route_text
+reply_body JournalFull = journal_full_text
+reply_body (JournalFault in_doubt) = journal_fault_text in_doubt
 
 -- the status of a reply
 abbrev pub reply_status : Reply → ℕ
@@ -69,3 +79,5 @@ reply_status (Turned pending published) = 200
 reply_status (Pending edit) = 200
 reply_status (Computed value) = 200
 reply_status NoRoute = 404
+reply_status JournalFull = 409
+reply_status (JournalFault in_doubt) = 503

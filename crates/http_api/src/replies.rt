@@ -32,6 +32,10 @@ pub enum Reply<'a> {
     Computed(&'a DayValue),
     /// The request has no route.
     NoRoute,
+    /// The journal has no room for the edit.
+    JournalFull,
+    /// The journal failed at the edit, and whether the edit may stand in it.
+    JournalFault(bool),
 }
 
 /// Adds the body of a reply. After `NoMemory` the text is as before.
@@ -64,6 +68,8 @@ fn status_of(reply: &Reply<'_>) -> u16
 {
     match reply {
         Reply::NoRoute => 404,
+        Reply::JournalFull => 409,
+        Reply::JournalFault(_) => 503,
         _ => 200,
     }
 }
@@ -98,6 +104,12 @@ fn write_body(reply: &Reply<'_>, out: &mut Text) -> Result<(), NoMemory>
         }
         Reply::Computed(DayValue::Day(figures)) => write_figures(figures, out),
         Reply::NoRoute => out.push_slice(b"{\"code\":\"NoRoute\"}"),
+        Reply::JournalFull => out.push_slice(b"{\"code\":\"JournalFull\"}"),
+        Reply::JournalFault(in_doubt) => {
+            out.push_slice(b"{\"code\":\"JournalFault\",\"in_doubt\":")?;
+            out.push_slice(if *in_doubt { b"true" } else { b"false" })?;
+            out.push_slice(b"}")
+        }
     }
 }
 

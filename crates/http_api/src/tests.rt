@@ -118,6 +118,15 @@ fn bodies(rt: HostRuntime) {
             "{\"answer\":\"computed\",\"empty\":true,\"status\":\"working\"}",
         ),
         (Reply::NoRoute, "{\"code\":\"NoRoute\"}"),
+        (Reply::JournalFull, "{\"code\":\"JournalFull\"}"),
+        (
+            Reply::JournalFault(true),
+            "{\"code\":\"JournalFault\",\"in_doubt\":true}",
+        ),
+        (
+            Reply::JournalFault(false),
+            "{\"code\":\"JournalFault\",\"in_doubt\":false}",
+        ),
     ] {
         let mut text = Text::new(rt.alloc());
         assert_eq!(rt; reply_text(&reply, &mut text), Ok(()));
@@ -138,9 +147,17 @@ fn a_whole_reply(rt: HostRuntime) {
             Reply::NoRoute,
             "HTTP/1.1 404 Not Found\r\nContent-Type: application/json\r\nContent-Length: 18\r\n\r\n{\"code\":\"NoRoute\"}",
         ),
+        (
+            Reply::JournalFull,
+            "HTTP/1.1 409 Conflict\r\nContent-Type: application/json\r\nContent-Length: 22\r\n\r\n{\"code\":\"JournalFull\"}",
+        ),
+        (
+            Reply::JournalFault(true),
+            "HTTP/1.1 503 Service Unavailable\r\nContent-Type: application/json\r\nContent-Length: 39\r\n\r\n{\"code\":\"JournalFault\",\"in_doubt\":true}",
+        ),
     ] {
         assert_eq!(rt; write_reply(&reply, &mut body, &mut out), Ok(()));
         assert_eq!(rt; out.as_slice(), want.as_bytes());
     }
-    assert_eq!(rt; out.len(), 96);
+    assert_eq!(rt; out.len(), 127);
 }

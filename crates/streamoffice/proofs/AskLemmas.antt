@@ -10,7 +10,7 @@ use Rattle.wire.specs.declared.messages.Verb.TheVariants.{Get, Post, Other}
 use Rattle.http_api.specs.Asks.{ask_of, is_first, behind_first, is_slash, whole_number, day_in, stamp_in, stage_in, stage_by, reading_in, between}
 use Rattle.http_api.specs.declared.asks.Ask.{Ask}
 use Rattle.http_api.specs.declared.asks.Ask.TheVariants.{Put, Turn, DayOf}
-use Rattle.streamoffice.specs.Session.{IsLawful}
+use Rattle.streamoffice.specs.Answering.{IsLawful}
 
 -- the two tests of a range, as bounds
 bounds : (low high n : ℤ) → (int_le low n && int_le n high) ≡ true → (low ≤ℤ n) × (n ≤ℤ high)

@@ -1,5 +1,13 @@
 pub mod AskLemmas
+pub mod AnswerLemmas
+pub mod CauseLemmas
+pub mod EndLemmas
+pub mod FaultLemmas
 pub mod LawLemmas
+pub mod MakingLemmas
 pub mod OutputLemmas
+pub mod PlaceLemmas
+pub mod ServingLemmas
 pub mod SessionLemmas
 pub mod TopLemmas
+pub mod WordLemmas

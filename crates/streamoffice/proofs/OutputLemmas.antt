@@ -1,12 +1,13 @@
 -- Requests and replies, one more at their ends.
-use Rattle.std.proofs.Common.{◌≡◌, ℕ, List, [], ◌∷◌, ◌++◌, Option, Some, None, refl, sym, ◌∙◌, ap, subst, inl, append_assoc, append-nil}
+use Rattle.std.proofs.Common.{◌≡◌, ℕ, List, [], ◌∷◌, ◌++◌, Option, Some, None, refl, sym, ◌∙◌, ap, subst, inl, inr, append_assoc, append-nil}
 use Rattle.std.specs.List.{concat}
 use Rattle.httparse.specs.Grammar.{RequestHead}
-use Rattle.office.specs.History.{Event}
+use Rattle.office.specs.History.{Event, faulted_count}
 use Rattle.http_api.specs.declared.asks.Ask.{Ask}
 use Rattle.http_api.specs.declared.asks.Ask.TheVariants.{Put, Turn, DayOf}
 use Rattle.wire.specs.Messages.{Request, request_of, IsRequest, AreRequests}
 use Rattle.streamoffice.specs.Output.{asked, IsReply, IsLeft, AreReplies}
+use Rattle.streamoffice.proofs.CauseLemmas.{count_turn}
 
 -- a request behind requests
 pub requests_more : (bytes : List ℕ) (requests : List Request) (rest : List ℕ) (head : RequestHead) (after : List ℕ) (request : Request)
@@ -18,16 +19,16 @@ requests_more bytes (q ∷ qs) rest head after request reads h is =
     (reads.0, reads.1, reads.2, reads.3, requests_more reads.1 qs rest head after request reads.4 h is)
 
 -- a reply behind replies
-pub replies_more : (events : List Event) (requests : List Request) (replies : List (List ℕ)) (mid : List Event)
+pub replies_more : (limit : ℕ) (events : List Event) (requests : List Request) (replies : List (List ℕ)) (mid : List Event)
     (request : Request) (reply : List ℕ) (next : List Event)
-    → AreReplies events requests replies mid → IsReply mid (asked request) reply next
-    → AreReplies events (requests ++ request ∷ []) (replies ++ reply ∷ []) next
-replies_more events [] [] mid request reply next e h =
-    (next, subst (λ (m : List Event). IsReply m (asked request) reply next) e h, refl)
-replies_more events [] (r ∷ rs) mid request reply next e h = absurd e
-replies_more events (q ∷ qs) [] mid request reply next e h = absurd e
-replies_more events (q ∷ qs) (r ∷ rs) mid request reply next answers h =
-    (answers.0, answers.1, replies_more answers.0 qs rs mid request reply next answers.2 h)
+    → AreReplies limit events requests replies mid → IsReply limit mid (asked request) reply next
+    → AreReplies limit events (requests ++ request ∷ []) (replies ++ reply ∷ []) next
+replies_more limit events [] [] mid request reply next e h =
+    (next, subst (λ (m : List Event). IsReply limit m (asked request) reply next) e h, refl)
+replies_more limit events [] (r ∷ rs) mid request reply next e h = absurd e
+replies_more limit events (q ∷ qs) [] mid request reply next e h = absurd e
+replies_more limit events (q ∷ qs) (r ∷ rs) mid request reply next answers h =
+    (answers.0, answers.1, replies_more limit answers.0 qs rs mid request reply next answers.2 h)
 
 -- the bytes of one more reply
 pub concat-more : (replies : List (List ℕ)) (reply : List ℕ) → concat (replies ++ reply ∷ []) ≡ concat replies ++ reply
@@ -40,3 +41,11 @@ left_alone events None = refl
 left_alone events (Some (Put at raw)) = refl
 left_alone events (Some Turn) = inl refl
 left_alone events (Some (DayOf day)) = refl
+
+-- and adds no fault
+pub left_count : (events : List Event) (ask : Option Ask) (next : List Event) → IsLeft events ask next → faulted_count next ≡ faulted_count events
+left_count events None next e = ap faulted_count e
+left_count events (Some (Put at raw)) next e = ap faulted_count e
+left_count events (Some Turn) next (inl e) = ap faulted_count e
+left_count events (Some Turn) next (inr e) = ap faulted_count e ∙ count_turn events
+left_count events (Some (DayOf day)) next e = ap faulted_count e

@@ -1,77 +1,249 @@
--- What the end of a session says of the status.
-use Rattle.std.proofs.Common.{◌≡◌, ◌≢◌, ◌⊎◌, ℕ, ◌+◌, ◌<◌, ◌^◌, List, length, Option, Some, None, IsSome, IsSomeAnd, refl, inl, inr, arith}
+-- What the end of a run says of the status.
+use Rattle.std.proofs.Common.{◌≡◌, ◌≢◌, ◌⊎◌, ℕ, ◌+◌, ◌<◌, ◌^◌, List, ◌++◌, length, Option, Some, None, IfSome, IsSome, IsSomeAnd, refl, sym, ◌∙◌, ap, subst, inl, inr, arith}
+use Rattle.devices.specs.Cabinets.{Place, Free, Kept, Out}
 use Rattle.devices.specs.Faults.{Rose}
-use Rattle.office.specs.History.{Event}
+use Rattle.office.specs.History.{Event, reopen}
+use Rattle.journal.specs.JournalBytes.{HasHeader, IsDamagedAt, IsTaken, IsForeign}
+use Rattle.streamoffice.specs.Endings.{session_status, status_of}
+use Rattle.streamoffice.specs.Making.{MakesOn, MakesAt, Makes, IsMakingEnd}
+use Rattle.streamoffice.specs.Places.{HasKept, IfKept, bytes_found, images_found}
+use Rattle.streamoffice.specs.RunEnds.{IsEarly, RunCause}
+use Rattle.streamoffice.specs.Serving.{ServesUnder, StaysWith, usual_limit}
+use Rattle.streamoffice.specs.Served.{Serves}
 use Rattle.streamoffice.specs.Session.{HasCause, IsServed}
-use Rattle.streamoffice.specs.Top.{IsWellFormed}
-use Rattle.streamoffice.specs.Words.{status_of}
+use Rattle.streamoffice.specs.Top.{IsWellFormed, IsSound, HasSound, HasRoom}
 use Rattle.streamoffice.specs.declared.sessions.SessionEnd.{SessionEnd}
-use Rattle.streamoffice.specs.declared.sessions.SessionEnd.TheVariants.{End, Malformed, Long, InputFault, OutputFault, NoMemory}
+use Rattle.streamoffice.specs.declared.sessions.SessionEnd.TheVariants as sessions
+use Rattle.streamoffice.specs.declared.commands.RunEnd.{RunEnd}
+use Rattle.streamoffice.specs.declared.commands.RunEnd.TheVariants as ends
 
 -- no end has the status of wrong words
-pub not_usage : (end : SessionEnd) → status_of end ≢ 1
-not_usage End h = absurd (cc)
-not_usage (Malformed at) h = absurd (cc)
-not_usage Long h = absurd (cc)
-not_usage InputFault h = absurd (cc)
-not_usage OutputFault h = absurd (cc)
-not_usage NoMemory h = absurd (cc)
+session_not_usage : (end : SessionEnd) → session_status end ≢ 1
+session_not_usage sessions.End h = absurd (cc)
+session_not_usage (sessions.Malformed at) h = absurd (cc)
+session_not_usage sessions.Long h = absurd (cc)
+session_not_usage sessions.InputFault h = absurd (cc)
+session_not_usage sessions.OutputFault h = absurd (cc)
+session_not_usage sessions.NoMemory h = absurd (cc)
 
--- an input fault has its cause
-pub input_cause : (end : SessionEnd) (a b c d : ℕ) → HasCause end a b c d → status_of end ≡ 2 → Rose a b
-input_cause End a b c d h e = absurd (cc)
-input_cause (Malformed at) a b c d h e = absurd (cc)
-input_cause Long a b c d h e = absurd (cc)
-input_cause InputFault a b c d h e = h
-input_cause OutputFault a b c d h e = absurd (cc)
-input_cause NoMemory a b c d h e = absurd (cc)
+pub not_usage : (end : RunEnd) → status_of end ≢ 1
+not_usage ends.Made h = absurd (cc)
+not_usage ends.Exists h = absurd (cc)
+not_usage (ends.Served end) h = session_not_usage end h
+not_usage ends.DiskFault h = absurd (cc)
+not_usage ends.NotAJournal h = absurd (cc)
+not_usage (ends.Damaged at) h = absurd (cc)
+not_usage ends.NoMemory h = absurd (cc)
 
--- an output fault has its cause
-pub output_cause : (end : SessionEnd) (a b c d : ℕ) → HasCause end a b c d → status_of end ≡ 3 → Rose c d
-output_cause End a b c d h e = absurd (cc)
-output_cause (Malformed at) a b c d h e = absurd (cc)
-output_cause Long a b c d h e = absurd (cc)
-output_cause InputFault a b c d h e = absurd (cc)
-output_cause OutputFault a b c d h e = h
-output_cause NoMemory a b c d h e = absurd (cc)
+-- an input fault has its cause, and so has an output fault
+session_input : (end : SessionEnd) (a b c d : ℕ) → HasCause end a b c d → session_status end ≡ 2 → Rose a b
+session_input sessions.End a b c d h e = absurd (cc)
+session_input (sessions.Malformed at) a b c d h e = absurd (cc)
+session_input sessions.Long a b c d h e = absurd (cc)
+session_input sessions.InputFault a b c d h e = h
+session_input sessions.OutputFault a b c d h e = absurd (cc)
+session_input sessions.NoMemory a b c d h e = absurd (cc)
 
--- want of memory has its status alone
-pub no_memory : (end : SessionEnd) → status_of end ≡ 6 → end ≡ NoMemory
-no_memory End e = absurd (cc)
-no_memory (Malformed at) e = absurd (cc)
-no_memory Long e = absurd (cc)
-no_memory InputFault e = absurd (cc)
-no_memory OutputFault e = absurd (cc)
-no_memory NoMemory e = refl
+pub input_cause : (end : RunEnd) (a b c d : ℕ) → RunCause end a b c d → status_of end ≡ 2 → Rose a b
+input_cause ends.Made a b c d h e = absurd (cc)
+input_cause ends.Exists a b c d h e = absurd (cc)
+input_cause (ends.Served end) a b c d h e = session_input end a b c d h e
+input_cause ends.DiskFault a b c d h e = absurd (cc)
+input_cause ends.NotAJournal a b c d h e = absurd (cc)
+input_cause (ends.Damaged at) a b c d h e = absurd (cc)
+input_cause ends.NoMemory a b c d h e = absurd (cc)
+
+session_output : (end : SessionEnd) (a b c d : ℕ) → HasCause end a b c d → session_status end ≡ 3 → Rose c d
+session_output sessions.End a b c d h e = absurd (cc)
+session_output (sessions.Malformed at) a b c d h e = absurd (cc)
+session_output sessions.Long a b c d h e = absurd (cc)
+session_output sessions.InputFault a b c d h e = absurd (cc)
+session_output sessions.OutputFault a b c d h e = h
+session_output sessions.NoMemory a b c d h e = absurd (cc)
+
+pub output_cause : (end : RunEnd) (a b c d : ℕ) → RunCause end a b c d → status_of end ≡ 3 → Rose c d
+output_cause ends.Made a b c d h e = absurd (cc)
+output_cause ends.Exists a b c d h e = absurd (cc)
+output_cause (ends.Served end) a b c d h e = session_output end a b c d h e
+output_cause ends.DiskFault a b c d h e = absurd (cc)
+output_cause ends.NotAJournal a b c d h e = absurd (cc)
+output_cause (ends.Damaged at) a b c d h e = absurd (cc)
+output_cause ends.NoMemory a b c d h e = absurd (cc)
+
+-- a disk fault has its status alone
+session_not_disk : (end : SessionEnd) → session_status end ≢ 4
+session_not_disk sessions.End h = absurd (cc)
+session_not_disk (sessions.Malformed at) h = absurd (cc)
+session_not_disk sessions.Long h = absurd (cc)
+session_not_disk sessions.InputFault h = absurd (cc)
+session_not_disk sessions.OutputFault h = absurd (cc)
+session_not_disk sessions.NoMemory h = absurd (cc)
+
+pub disk_status : (end : RunEnd) → status_of end ≡ 4 → end ≡ ends.DiskFault
+disk_status ends.Made e = absurd (cc)
+disk_status ends.Exists e = absurd (cc)
+disk_status (ends.Served end) e = absurd (session_not_disk end e)
+disk_status ends.DiskFault e = refl
+disk_status ends.NotAJournal e = absurd (cc)
+disk_status (ends.Damaged at) e = absurd (cc)
+disk_status ends.NoMemory e = absurd (cc)
+
+-- these statuses come before the first request
+abbrev IsEarlyStatus : ℕ → Type 0
+IsEarlyStatus n = (n ≡ 4) ⊎ ((n ≡ 5) ⊎ ((n ≡ 6) ⊎ (n ≡ 8)))
+
+-- one of these is none of those
+neither : (n : ℕ) → IsEarlyStatus n → (n ≢ 0) × ((n ≢ 2) × ((n ≢ 3) × ((n ≢ 9) × (n ≢ 10))))
+neither n (inl e) = (λ h. absurd (cc), (λ h. absurd (cc), (λ h. absurd (cc), (λ h. absurd (cc), λ h. absurd (cc)))))
+neither n (inr (inl e)) = (λ h. absurd (cc), (λ h. absurd (cc), (λ h. absurd (cc), (λ h. absurd (cc), λ h. absurd (cc)))))
+neither n (inr (inr (inl e))) = (λ h. absurd (cc), (λ h. absurd (cc), (λ h. absurd (cc), (λ h. absurd (cc), λ h. absurd (cc)))))
+neither n (inr (inr (inr e))) = (λ h. absurd (cc), (λ h. absurd (cc), (λ h. absurd (cc), (λ h. absurd (cc), λ h. absurd (cc)))))
+
+session_early : (end : SessionEnd) → IsEarlyStatus (session_status end) → IsEarly (ends.Served end)
+session_early sessions.End h = absurd ((neither 0 h).0 refl)
+session_early (sessions.Malformed at) h = absurd ((neither 9 h).1.1.1.0 refl)
+session_early sessions.Long h = absurd ((neither 10 h).1.1.1.1 refl)
+session_early sessions.InputFault h = absurd ((neither 2 h).1.0 refl)
+session_early sessions.OutputFault h = absurd ((neither 3 h).1.1.0 refl)
+session_early sessions.NoMemory h = tt
+
+pub early : (end : RunEnd) → IsEarlyStatus (status_of end) → IsEarly end
+early ends.Made h = tt
+early ends.Exists h = tt
+early (ends.Served end) h = session_early end h
+early ends.DiskFault h = tt
+early ends.NotAJournal h = tt
+early (ends.Damaged at) h = tt
+early ends.NoMemory h = tt
+
+-- two facts of what is there
+both : (o : Option (List ℕ)) (P Q : List ℕ → Type 0) → IfSome o P → IsSomeAnd o Q → (bytes : List ℕ) × P bytes × Q bytes
+both None P Q p q = absurd q
+both (Some bytes) P Q p q = (bytes, p, q)
+
+-- where a journal may be made, none stands there already, and nothing that is none
+at_kept : {D : Type 0} (content : D → Option (List ℕ)) (may_leave : D → List ℕ → Type 0) (end : RunEnd) (before after : Place D)
+    → MakesAt content may_leave end before after → IsSomeAnd (bytes_found content before) (λ bytes. (¬ IsTaken bytes) × (¬ IsForeign bytes))
+    → (end ≡ ends.DiskFault) ⊎ ((bytes : List ℕ) × (disk : D)
+    × MakesOn content may_leave bytes (images_found may_leave before) end disk × ((¬ IsTaken bytes) × (¬ IsForeign bytes)))
+at_kept content may_leave end before after (inl h) room = inl h.0
+at_kept content may_leave end before Free (inr h) room = absurd h
+at_kept content may_leave end before Out (inr h) room = absurd h
+at_kept content may_leave end before (Kept disk) (inr h) room =
+    let found = both (bytes_found content before) (λ bytes. MakesOn content may_leave bytes (images_found may_leave before) end disk)
+    (λ bytes. (¬ IsTaken bytes) × (¬ IsForeign bytes)) h room in
+    inr (found.0, disk, found.1, found.2)
+
+makes_there : {D : Type 0} (content : D → Option (List ℕ)) (may_leave : D → List ℕ → Type 0) (end : RunEnd) (name : List ℕ)
+    (p0 p2 : Option (List ℕ → Place D)) → Makes content may_leave end name p0 p2 → HasRoom content name p0
+    → (images : List ℕ → Type 0) × ((end ≡ ends.DiskFault) ⊎ ((bytes : List ℕ) × (disk : D)
+    × MakesOn content may_leave bytes images end disk × ((¬ IsTaken bytes) × (¬ IsForeign bytes))))
+makes_there content may_leave end name None p2 makes room = absurd room
+makes_there content may_leave end name (Some b) None makes room = absurd makes
+makes_there content may_leave end name (Some b) (Some a) makes room =
+    (images_found may_leave (b name), at_kept content may_leave end (b name) (a name) makes.0 room)
+
+made_there : {D : Type 0} (content : D → Option (List ℕ)) (may_leave : D → List ℕ → Type 0) (end : RunEnd) (bytes : List ℕ)
+    (images : List ℕ → Type 0) (disk : D) → MakesOn content may_leave bytes images end disk
+    → (¬ IsTaken bytes) × (¬ IsForeign bytes) → (end ≡ ends.Made) ⊎ (end ≡ ends.DiskFault)
+made_there content may_leave ends.Made bytes images disk h room = inl refl
+made_there content may_leave ends.Exists bytes images disk h room = absurd (room.0 h.0)
+made_there content may_leave ends.NotAJournal bytes images disk h room = absurd (room.1 h.0)
+made_there content may_leave ends.DiskFault bytes images disk h room = inr refl
+made_there content may_leave (ends.Served end) bytes images disk h room = absurd h
+made_there content may_leave (ends.Damaged at) bytes images disk h room = absurd h
+made_there content may_leave ends.NoMemory bytes images disk h room = absurd h
+
+made_or_failed : {D : Type 0} (content : D → Option (List ℕ)) (may_leave : D → List ℕ → Type 0) (end : RunEnd) (images : List ℕ → Type 0)
+    → (end ≡ ends.DiskFault) ⊎ ((bytes : List ℕ) × (disk : D)
+    × MakesOn content may_leave bytes images end disk × ((¬ IsTaken bytes) × (¬ IsForeign bytes)))
+    → (end ≡ ends.Made) ⊎ (end ≡ ends.DiskFault)
+made_or_failed content may_leave end images (inl e) = inr e
+made_or_failed content may_leave end images (inr h) = made_there content may_leave end h.0 images h.1 h.2 h.3
+
+by_cause : (end : RunEnd) (c0 c2 : ℕ) → (end ≡ ends.Made) ⊎ (end ≡ ends.DiskFault) → IsMakingEnd end c0 c2 → ¬ (Rose c0 c2) → status_of end ≡ 0
+by_cause end c0 c2 (inl e) h calm = ap status_of e
+by_cause end c0 c2 (inr e) h calm = absurd (calm (subst (λ (x : RunEnd). IsMakingEnd x c0 c2) e h))
+
+pub completes_init : {D : Type 0} (content : D → Option (List ℕ)) (may_leave : D → List ℕ → Type 0) (end : RunEnd) (name : List ℕ)
+    (p0 p2 : Option (List ℕ → Place D)) (c0 c2 : ℕ)
+    → Makes content may_leave end name p0 p2 → IsMakingEnd end c0 c2 → HasRoom content name p0 → ¬ (Rose c0 c2) → status_of end ≡ 0
+completes_init content may_leave end name p0 p2 c0 c2 makes h room calm =
+    let there = makes_there content may_leave end name p0 p2 makes room in
+    by_cause end c0 c2 (made_or_failed content may_leave end there.0 there.1) h calm
+
+-- what a session served, where both streams tell their bytes
+abbrev IsTold : List Event → List Event → SessionEnd → Option (List ℕ) → Option (List ℕ) → Option (List ℕ) → Option (List ℕ) → Type 0
+IsTold events after end l0 l w0 w =
+    IfSome l0 (λ input. IsSomeAnd l (λ left. IfSome w0 (λ before.
+    (written : List ℕ) × (w ≡ Some (before ++ written)) × Serves usual_limit events after end input left written)))
 
 -- no input that is well formed ends as malformed or too long
-pub not_malformed : (events : List Event) (at : ℕ) (l0 l w0 w : Option (List ℕ))
-    → IsServed events (Malformed at) l0 l w0 w → IsSomeAnd l0 IsWellFormed → IsSome w0 → ⊥
-not_malformed events at None l w0 w served formed told = formed
-not_malformed events at (Some input) None w0 w served formed told = served
-not_malformed events at (Some input) (Some left) None w served formed told = absurd (cc)
-not_malformed events at (Some input) (Some left) (Some before) w served formed told =
+not_malformed : (events after : List Event) (at : ℕ) (l0 l w0 w : Option (List ℕ))
+    → IsTold events after (sessions.Malformed at) l0 l w0 w → IsSomeAnd l0 IsWellFormed → IsSome w0 → ⊥
+not_malformed events after at None l w0 w served formed told = formed
+not_malformed events after at (Some input) None w0 w served formed told = served
+not_malformed events after at (Some input) (Some left) None w served formed told = absurd (cc)
+not_malformed events after at (Some input) (Some left) (Some before) w served formed told =
     formed.whole served.2.requests served.2.rest served.2.reads served.2.ends.0
 
-pub not_long : (events : List Event) (l0 l w0 w : Option (List ℕ))
-    → IsServed events Long l0 l w0 w → IsSomeAnd l0 IsWellFormed → IsSome w0 → ⊥
-not_long events None l w0 w served formed told = formed
-not_long events (Some input) None w0 w served formed told = served
-not_long events (Some input) (Some left) None w served formed told = absurd (cc)
-not_long events (Some input) (Some left) (Some before) w served formed told =
-    let limit : length input ≡ 2 ^ 36 + length left = served.2.ends.1 in
+not_long : (events after : List Event) (l0 l w0 w : Option (List ℕ))
+    → IsTold events after sessions.Long l0 l w0 w → IsSomeAnd l0 IsWellFormed → IsSome w0 → ⊥
+not_long events after None l w0 w served formed told = formed
+not_long events after (Some input) None w0 w served formed told = served
+not_long events after (Some input) (Some left) None w served formed told = absurd (cc)
+not_long events after (Some input) (Some left) (Some before) w served formed told =
+    let whole : length input ≡ 2 ^ 36 + length left = served.2.ends.1 in
     let short : length input < 2 ^ 36 = formed.short in
     omega arith
 
 -- so it ends well, or for want of memory
-pub completes : (end : SessionEnd) (events : List Event) (l0 l w0 w : Option (List ℕ)) (a b c d : ℕ)
-    → IsServed events end l0 l w0 w → HasCause end a b c d → IsSomeAnd l0 IsWellFormed → IsSome w0
-    → ¬ (Rose a b) → ¬ (Rose c d) → (status_of end ≡ 0) ⊎ (status_of end ≡ 6)
-completes End events l0 l w0 w a b c d served cause formed told calm still = inl refl
-completes (Malformed at) events l0 l w0 w a b c d served cause formed told calm still =
-    absurd (not_malformed events at l0 l w0 w served formed told)
-completes Long events l0 l w0 w a b c d served cause formed told calm still =
-    absurd (not_long events l0 l w0 w served formed told)
-completes InputFault events l0 l w0 w a b c d served cause formed told calm still = absurd (calm cause)
-completes OutputFault events l0 l w0 w a b c d served cause formed told calm still = absurd (still cause)
-completes NoMemory events l0 l w0 w a b c d served cause formed told calm still = inr refl
+session_completes : (end : SessionEnd) (events : List Event) (l0 l w0 w : Option (List ℕ)) (P : List Event → Type 0) (a b c d : ℕ)
+    → IsServed usual_limit events end l0 l w0 w P → HasCause end a b c d → IsSomeAnd l0 IsWellFormed → IsSome w0
+    → ¬ (Rose a b) → ¬ (Rose c d) → (session_status end ≡ 0) ⊎ (session_status end ≡ 6)
+session_completes sessions.End events l0 l w0 w P a b c d served cause formed told calm still = inl refl
+session_completes (sessions.Malformed at) events l0 l w0 w P a b c d served cause formed told calm still =
+    absurd (not_malformed events served.after at l0 l w0 w served.serves formed told)
+session_completes sessions.Long events l0 l w0 w P a b c d served cause formed told calm still =
+    absurd (not_long events served.after l0 l w0 w served.serves formed told)
+session_completes sessions.InputFault events l0 l w0 w P a b c d served cause formed told calm still = absurd (calm cause)
+session_completes sessions.OutputFault events l0 l w0 w P a b c d served cause formed told calm still = absurd (still cause)
+session_completes sessions.NoMemory events l0 l w0 w P a b c d served cause formed told calm still = inr refl
+
+-- a place with a journal that is not damaged has a header and no damage
+sound_header : {D : Type 0} (content : D → Option (List ℕ)) (place : Place D)
+    → HasKept (λ disk. IsSomeAnd (content disk) IsSound) place → IfKept (λ disk. IfSome (content disk) (λ bytes. ¬ HasHeader bytes)) place → ⊥
+sound_header content Free sound none = sound
+sound_header content Out sound none = sound
+sound_header content (Kept disk) sound none =
+    let found = both (content disk) (λ bytes. ¬ HasHeader bytes) IsSound none sound in found.1 found.2.header
+
+sound_whole : {D : Type 0} (content : D → Option (List ℕ)) (place : Place D) (at : ℕ)
+    → HasKept (λ disk. IsSomeAnd (content disk) IsSound) place → HasKept (λ disk. IfSome (content disk) (IsDamagedAt at)) place → ⊥
+sound_whole content Free at sound damaged = sound
+sound_whole content Out at sound damaged = sound
+sound_whole content (Kept disk) at sound damaged =
+    let found = both (content disk) (IsDamagedAt at) IsSound damaged sound in found.2.whole at found.1
+
+not_stays : {D : Type 0} (content : D → Option (List ℕ)) (may_leave : D → List ℕ → Type 0) (name : List ℕ) (P : Place D → Type 0)
+    (p0 p2 : Option (List ℕ → Place D)) → HasSound content name p0 → StaysWith content may_leave name P p0 p2
+    → ((place : Place D) → HasKept (λ disk. IsSomeAnd (content disk) IsSound) place → P place → ⊥) → ⊥
+not_stays content may_leave name P None p2 sound stays never = sound
+not_stays content may_leave name P (Some b) None sound stays never = stays
+not_stays content may_leave name P (Some b) (Some a) sound stays never = never (b name) sound stays.0
+
+pub completes : {D : Type 0} (content : D → Option (List ℕ)) (may_leave : D → List ℕ → Type 0) (faults : D → ℕ) (end : RunEnd)
+    (name : List ℕ) (p0 p2 : Option (List ℕ → Place D)) (c0 c2 : ℕ) (l0 l w0 w : Option (List ℕ)) (a b c d : ℕ)
+    → ServesUnder content may_leave faults name end p0 p2 c0 c2 l0 l w0 w → RunCause end a b c d → HasSound content name p0
+    → IsSomeAnd l0 IsWellFormed → IsSome w0 → ¬ (Rose a b) → ¬ (Rose c d) → ¬ (Rose c0 c2)
+    → (status_of end ≡ 0) ⊎ (status_of end ≡ 6)
+completes content may_leave faults ends.Made name p0 p2 c0 c2 l0 l w0 w a b c d h cause sound formed told calm still quiet = absurd h
+completes content may_leave faults ends.Exists name p0 p2 c0 c2 l0 l w0 w a b c d h cause sound formed told calm still quiet = absurd h
+completes content may_leave faults (ends.Served end) name p0 p2 c0 c2 l0 l w0 w a b c d h cause sound formed told calm still quiet =
+    session_completes end (reopen h.0) l0 l w0 w _ a b c d h.1 cause formed told calm still
+completes content may_leave faults ends.DiskFault name p0 p2 c0 c2 l0 l w0 w a b c d h cause sound formed told calm still quiet = absurd (quiet h.1)
+completes content may_leave faults ends.NotAJournal name p0 p2 c0 c2 l0 l w0 w a b c d h cause sound formed told calm still quiet =
+    absurd (not_stays content may_leave name (IfKept (λ disk. IfSome (content disk) (λ bytes. ¬ HasHeader bytes))) p0 p2 sound h (sound_header content))
+completes content may_leave faults (ends.Damaged at) name p0 p2 c0 c2 l0 l w0 w a b c d h cause sound formed told calm still quiet =
+    absurd (not_stays content may_leave name (HasKept (λ disk. IfSome (content disk) (IsDamagedAt at))) p0 p2 sound h (λ place. sound_whole content place at))
+completes content may_leave faults ends.NoMemory name p0 p2 c0 c2 l0 l w0 w a b c d h cause sound formed told calm still quiet = inr refl

@@ -1,6 +1,14 @@
+pub mod Answering
+pub mod Causes
+pub mod Commands
+pub mod Endings
 pub mod Laws
+pub mod Making
 pub mod Output
+pub mod Places
+pub mod RunEnds
 pub mod Served
+pub mod Serving
 pub mod Session
 pub mod Top
 pub mod Words

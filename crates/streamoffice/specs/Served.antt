@@ -39,17 +39,16 @@ EndsBy OutputFault input replies rest left written =
     ⊎ (IsMalformed rest × StopsWithin (concat replies) MALFORMED_REPLY.now written)
 EndsBy NoMemory input replies rest left written = (left ≡ input) × (replies ≡ []) × (written ≡ [])
 
--- A session over this input, begun when these events had happened: the requests that it read, one behind another, a
--- reply to each, and how it ended. No more than 2^36 bytes were taken.
-pub record Serves (events : List Event) (end : SessionEnd) (input left written : List ℕ) : Type 0 where
+-- A session over this input, from one history to another: the requests that it read, one behind another, a reply to
+-- each, and how it ended. No more than 2^36 bytes were taken.
+pub record Serves (limit : ℕ) (events after : List Event) (end : SessionEnd) (input left written : List ℕ) : Type 0 where
   pub requests : List Request
   pub replies : List (List ℕ)
   pub rest : List ℕ
-  pub after : List Event
   pub reads : AreRequests input requests rest
-  pub answers : AreReplies events requests replies after
+  pub answers : AreReplies limit events requests replies after
   pub ends : EndsBy end input replies rest left written
-  pub limit : length input ≤ 2 ^ 36 + length left
+  pub taken : length input ≤ 2 ^ 36 + length left
 
 -- the sink has all bytes at its end, or where it failed a front of them that is not all
 abbrev pub IsWritten : Bool → List ℕ → List ℕ → List ℕ → Type 0

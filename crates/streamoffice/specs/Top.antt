@@ -1,11 +1,15 @@
 -- What the top call says of its devices.
 use Rattle.std.specs.Prelude.{◌≡◌, ◌⊎◌, ℕ, ◌<◌, ◌^◌, List, [], ◌++◌, length, Option, IfSome, IsSomeAnd}
+use Rattle.devices.specs.Cabinets.{Place}
 use Rattle.devices.specs.Faults.{Rose}
+use Rattle.journal.specs.JournalBytes.{HasHeader, IsDamagedAt, IsTaken, IsForeign}
 use Rattle.wire.specs.Messages.{Request, AreRequests, IsMalformed}
+use Rattle.streamoffice.specs.Places.{HasKept, bytes_found}
 use Rattle.streamoffice.specs.Served.{IsCutShort}
-use Rattle.streamoffice.specs.Session.{IsServed}
-use Rattle.streamoffice.specs.Words.{status_of, line_of}
-use Rattle.streamoffice.specs.declared.sessions.SessionEnd.{SessionEnd}
+use Rattle.streamoffice.specs.Making.{IsMakingEnd, Makes}
+use Rattle.streamoffice.specs.Serving.{ServesUnder}
+use Rattle.streamoffice.specs.Endings.{status_of, line_of}
+use Rattle.streamoffice.specs.declared.commands.RunEnd.{RunEnd}
 
 -- the sink of faults has the line at its end, or where it failed a front of it
 abbrev pub IsReported : List ℕ → Option (List ℕ) → Option (List ℕ) → ℕ → ℕ → Type 0
@@ -13,15 +17,42 @@ IsReported line before after faults_before faults_now =
     IfSome before (λ b. IsSomeAnd after (λ a. (part : List ℕ) × (a ≡ b ++ part)
     × ((part ≡ line) ⊎ (IsCutShort part line × Rose faults_before faults_now))))
 
--- a batch: a session from an empty history, its status, and its line
-abbrev pub RunsBatch : ℕ → Option (List ℕ) → Option (List ℕ) → Option (List ℕ) → Option (List ℕ)
-    → Option (List ℕ) → Option (List ℕ) → ℕ → ℕ → Type 0
-RunsBatch status left_before left_after written_before written_after told_before told_after faults_before faults_now =
-    (end : SessionEnd) × (status ≡ status_of end)
-    × IsServed [] end left_before left_after written_before written_after
-    × IsReported (line_of end) told_before told_after faults_before faults_now
+-- a run of `init`: how it ended, its status, its line, and what is under the name then
+pub record RunsInit {D : Type 0} (content : D → Option (List ℕ)) (may_leave : D → List ℕ → Type 0) (name : List ℕ) (status : ℕ)
+    (places_before places_after : Option (List ℕ → Place D)) (before now : ℕ)
+    (told_before told_after : Option (List ℕ)) (faults_before faults_now : ℕ) : Type 0 where
+  pub end : RunEnd
+  pub status_is : status ≡ status_of end
+  pub line_is : IsReported (line_of end) told_before told_after faults_before faults_now
+  pub ends : IsMakingEnd end before now
+  pub makes : Makes content may_leave end name places_before places_after
+
+-- A run of `batch`: how it ended, its status, its line, what was read and written, and what is under the name then.
+pub record RunsBatch {D : Type 0} (content : D → Option (List ℕ)) (may_leave : D → List ℕ → Type 0) (faults : D → ℕ)
+    (name : List ℕ) (status : ℕ) (places_before places_after : Option (List ℕ → Place D)) (before now : ℕ)
+    (left_before left_after written_before written_after : Option (List ℕ))
+    (told_before told_after : Option (List ℕ)) (faults_before faults_now : ℕ) : Type 0 where
+  pub end : RunEnd
+  pub status_is : status ≡ status_of end
+  pub line_is : IsReported (line_of end) told_before told_after faults_before faults_now
+  pub serves : ServesUnder content may_leave faults name end places_before places_after before now
+      left_before left_after written_before written_after
 
 -- an input of fewer than 2^36 bytes in which no message is malformed
 pub record IsWellFormed (input : List ℕ) : Type 0 where
   pub short : length input < 2 ^ 36
   pub whole : (requests : List Request) (rest : List ℕ) → AreRequests input requests rest → ¬ (IsMalformed rest)
+
+-- a journal that is not damaged
+pub record IsSound (bytes : List ℕ) : Type 0 where
+  pub header : HasHeader bytes
+  pub whole : (at : ℕ) → ¬ (IsDamagedAt at bytes)
+
+-- the name holds a journal that is not damaged
+abbrev pub HasSound : {D : Type 0} → (D → Option (List ℕ)) → List ℕ → Option (List ℕ → Place D) → Type 0
+HasSound content name places = IsSomeAnd places (λ p. HasKept (λ disk. IsSomeAnd (content disk) IsSound) (p name))
+
+-- under the name is what a journal is made of: nothing, or bytes that are no journal and not too many for a stopped making
+abbrev pub HasRoom : {D : Type 0} → (D → Option (List ℕ)) → List ℕ → Option (List ℕ → Place D) → Type 0
+HasRoom content name places =
+    IsSomeAnd places (λ p. IsSomeAnd (bytes_found content (p name)) (λ bytes. (¬ IsTaken bytes) × (¬ IsForeign bytes)))

@@ -1,33 +1,37 @@
--- The command's words, its statuses and its lines.
-use Rattle.std.specs.Prelude.{◌≡◌, ℕ, List, [], ◌∷◌, ◌++◌, codes, decimal}
-use Rattle.streamoffice.specs.declared.sessions.SessionEnd.{SessionEnd}
-use Rattle.streamoffice.specs.declared.sessions.SessionEnd.TheVariants.{End, Malformed, Long, InputFault, OutputFault, NoMemory}
+-- The command's words: what is asked, and of which journal.
+use Rattle.std.specs.Prelude.{◌≡◌, ◌≢◌, ℕ, List, [], ◌∷◌, ◌++◌, codes}
 
--- the one command that there is yet
-abbrev pub IsBatch : List (List ℕ) → Type 0
-IsBatch words = words ≡ codes "batch" ∷ []
+-- to make a journal of that name, or to serve requests over it
+pub data Asked : Type 0 where
+  Init : List ℕ → Asked
+  Batch : List ℕ → Asked
 
--- the status that an end has
-abbrev pub status_of : SessionEnd → ℕ
-status_of End = 0
-status_of InputFault = 2
-status_of OutputFault = 3
-status_of NoMemory = 6
-status_of (Malformed at) = 9
-status_of Long = 10
+-- the word for what is asked, and the name of the journal
+abbrev pub command_word : Asked → List ℕ
+command_word (Init name) = codes "init"
+command_word (Batch name) = codes "batch"
 
--- a line for the sink of faults
-abbrev pub line : List ℕ → List ℕ
-line text = codes "streamoffice: " ++ text ++ 10 ∷ []
+abbrev pub journal_of : Asked → List ℕ
+journal_of (Init name) = name
+journal_of (Batch name) = name
 
-abbrev pub usage_line : List ℕ
-usage_line = line (codes "usage: init, batch, serve, stations or trial")
+-- a value is not empty
+abbrev pub IsValue : List ℕ → Type 0
+IsValue value = value ≢ []
 
--- the line that an end has
-abbrev pub line_of : SessionEnd → List ℕ
-line_of End = []
-line_of InputFault = line (codes "input fault")
-line_of OutputFault = line (codes "output fault")
-line_of NoMemory = line (codes "out of memory")
-line_of (Malformed at) = line (codes "malformed at " ++ decimal at)
-line_of Long = line (codes "input too long")
+-- a value that is a word of its own does not begin with `-`
+abbrev pub IsWordOfItsOwn : List ℕ → Type 0
+IsWordOfItsOwn [] = ⊥
+IsWordOfItsOwn (code ∷ codes) = code ≢ 45
+
+-- the one option, `--journal name` or `--journal=name`
+abbrev pub AreOptions : List (List ℕ) → List ℕ → Type 0
+AreOptions [] name = ⊥
+AreOptions (word ∷ []) name = (word ≡ codes "--journal=" ++ name) × IsValue name
+AreOptions (word ∷ value ∷ []) name = (word ≡ codes "--journal") × (value ≡ name) × IsWordOfItsOwn name
+AreOptions (word ∷ value ∷ more ∷ rest) name = ⊥
+
+-- these words ask this, and nothing else
+abbrev pub IsAsked : List (List ℕ) → Asked → Type 0
+IsAsked [] asked = ⊥
+IsAsked (word ∷ options) asked = (word ≡ command_word asked) × AreOptions options (journal_of asked)

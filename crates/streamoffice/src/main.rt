@@ -1,14 +1,17 @@
 //! The program `streamoffice`: a records office for river gauging stations.
 #![tactic(auto)]
 
+mod answers;
+mod commands;
 mod laws;
 mod sessions;
 #[cfg(test)]
 mod tests;
 mod top;
+mod words;
 
 use crate::top::run_office;
-use devices::{StderrSink, StdinSource, StdoutSink};
+use devices::{FileCabinet, StderrSink, StdinSource, StdoutSink};
 use std::env;
 use std::process::ExitCode;
 
@@ -16,6 +19,7 @@ fn main(rt: HostRuntime) -> ExitCode {
     let mut input = StdinSource::new(rt.stdin());
     let mut output = StdoutSink::new(rt.stdout());
     let mut faults = StderrSink::new(rt.stderr());
+    let mut cabinet = FileCabinet::new(rt);
     let words = words_of(&rt);
     ExitCode::from(run_office(
         &rt,
@@ -24,6 +28,7 @@ fn main(rt: HostRuntime) -> ExitCode {
         &mut input,
         &mut output,
         &mut faults,
+        &mut cabinet,
     ))
 }
 

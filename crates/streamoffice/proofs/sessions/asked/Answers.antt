@@ -3,7 +3,7 @@ use Rattle.http_api.specs.Asks.{ask_of}
 use Rattle.http_api.specs.declared.asks.Ask.{Ask}
 use Rattle.http_api.specs.declared.asks.Denied.{Denied}
 use Rattle.http_api.specs.declared.asks.Denied.TheVariants.{NoRoute}
-use Rattle.streamoffice.specs.Session.{IsLawful}
+use Rattle.streamoffice.specs.Answering.{IsLawful}
 use Rattle.streamoffice.proofs.AskLemmas.{lawful_ask}
 use Rattle.streamoffice.proofs.sessions.asked.Goals as goal
 

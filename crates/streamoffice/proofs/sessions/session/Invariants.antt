@@ -1,7 +1,8 @@
-use Rattle.std.proofs.Common.{◌+◌, ◌-◌, ◌^◌, ◌≤◌, List}
+use Rattle.std.proofs.Common.{◌≡◌, ◌+◌, ◌-◌, ◌^◌, ◌≤◌, Bool, List}
 use Rattle.office.specs.History.{Event}
-use Rattle.office.specs.Kept.{Keeps}
+use Rattle.office.specs.Stands.{Stands}
 use Rattle.wire.specs.Incoming.{taken}
+use Rattle.streamoffice.specs.Causes.{HaveCauses}
 use Rattle.streamoffice.specs.Session.{IsUnderWay}
 use Rattle.streamoffice.proofs.sessions.session.Given as goal
 
@@ -10,11 +11,16 @@ abbrev pub invariant-loop-end : goal.invariant-loop-end
 invariant-loop-end g l =
     let left = g.S.Source.left in
     let written = g.K.Sink.written in
+    let faults = g.D.Disk.faults in
     record {
-      under_way : (events : List Event) → Keeps l.fn.office events
-          → IsUnderWay events l.office l.incoming (left l.fn.source) (left l.source) (written l.fn.sink) (written l.sink);
-      room : l.office.edits ≤ 2 ^ 63 + l.incoming.offset;
+      under_way : (told : Bool) (events : List Event) → Stands g.D.Disk.content g.D.Disk.may_leave told events l.fn.office
+          → IsUnderWay l.fn.office.journal.limit events
+          (λ h. Stands g.D.Disk.content g.D.Disk.may_leave told h l.office × HaveCauses events h (faults l.fn.office.journal.disk) (faults l.office.journal.disk))
+          l.incoming (left l.fn.source) (left l.source) (written l.fn.sink) (written l.sink);
+      journal_limit : l.office.journal.limit ≡ l.fn.office.journal.limit;
+      room : l.office.station.edits ≤ 2 ^ 63 + l.incoming.offset;
       limit : taken l.incoming ≤ 2 ^ 36;
+      disk_counted : faults l.fn.office.journal.disk ≤ faults l.office.journal.disk;
       input_counted : g.S.Source.faults l.fn.source ≤ g.S.Source.faults l.source;
       output_counted : g.K.Sink.faults l.fn.sink ≤ g.K.Sink.faults l.sink;
     }

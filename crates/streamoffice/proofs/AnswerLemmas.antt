@@ -1,0 +1,165 @@
+-- How asks are answered.
+use Rattle.std.proofs.Common.{◌≡◌, ◌⊎◌, ℕ, ◌+◌, ◌<◌, ◌≤◌, Bool, true, false, nat_lt, List, [], ◌∷◌, ◌++◌, length, Option, Some, None, is_some, Result, Ok, Err, OnOk, OnErr, is_err, refl, sym, ◌∙◌, ap, subst, inl, inr, ℤ, arith}
+use Rattle.std.proofs.lemmas.Bool.{lt-ltb, ltb-true}
+use Rattle.devices.specs.Faults.{Rose}
+use Rattle.records.specs.declared.edits.What.{What}
+use Rattle.records.specs.declared.edits.What.TheVariants.{PutReadings}
+use Rattle.http_api.specs.Replies.{edit_text, journal_full_text}
+use Rattle.http_api.specs.declared.asks.Ask.{Ask}
+use Rattle.http_api.specs.declared.asks.Ask.TheVariants.{Put}
+use Rattle.office.specs.Edits.{Edits, AfterFault}
+use Rattle.office.specs.History.{Event, accepted, doubt, after_edit, after_fault, faulted_count}
+use Rattle.office.specs.JournalOfEdits.{IsFull, journal_size}
+use Rattle.office.specs.Stands.{Stands}
+use Rattle.office.specs.declared.records_office.Office.{Office}
+use Rattle.office.specs.declared.records_office.Refusal.{Refusal}
+use Rattle.office.specs.declared.records_office.Refusal.TheVariants as refusals
+use Rattle.wire.specs.ReplyHead.{reply_bytes}
+use Rattle.wire.specs.declared.replies.Kind.TheVariants.{Json}
+use Rattle.wire.specs.declared.replies.TheConstants.{NO_MEMORY_REPLY}
+use Rattle.streamoffice.specs.Answering.{Answered, Answers, Leaves, IsRefused, told_bytes}
+use Rattle.streamoffice.specs.Causes.{HaveCauses}
+use Rattle.streamoffice.specs.Output.{IsReply, IsLeft, is_full, reply_to, history_after, edit_reply, edit_by, fault_reply}
+use Rattle.streamoffice.specs.declared.answers.Told.{Told}
+use Rattle.streamoffice.specs.declared.answers.Told.TheVariants as tells
+use Rattle.streamoffice.proofs.CauseLemmas.{causes_none, causes_one, count_accepted, count_faulted}
+use Rattle.streamoffice.proofs.OutputLemmas.{left_count}
+
+-- what an edit comes to by the room in the journal and the edit that is in doubt
+room : (limit size : ℕ) → ¬ (limit < size) → nat_lt limit size ≡ false
+room limit size h = by_test (nat_lt limit size) refl
+  where
+    by_test : (b : Bool) → nat_lt limit size ≡ b → nat_lt limit size ≡ false
+    by_test true e = absurd (h (omega (arith, ltb-true limit size e)))
+    by_test false e = e
+
+-- an edit that was accepted
+pub accepted_reply : (limit : ℕ) (events : List Event) (at raw : ℤ) (reply : List ℕ) (StandsFor : List Event → Type 0) (f f' : ℕ)
+    → ¬ (IsFull limit events (PutReadings at raw)) → doubt events ≡ None
+    → reply ≡ reply_bytes 200 Json None (edit_text (length (accepted events) + 1) false)
+    → StandsFor (after_edit events (PutReadings at raw)) → f ≤ f'
+    → (next : List Event) × IsReply limit events (Some (Put at raw)) reply next × StandsFor next × HaveCauses events next f f'
+accepted_reply limit events at raw reply StandsFor f f' fits calm is stands later =
+    let what = PutReadings at raw in
+    let free : is_full limit events what ≡ false = room limit (journal_size (accepted events ++ what ∷ [])) fits in
+    let same : reply_to limit events (Some (Put at raw)) ≡ reply_bytes 200 Json None (edit_text (length (accepted events) + 1) false) =
+    ap (λ (b : Bool). edit_reply b (doubt events) (length (accepted events) + 1)) free
+    ∙ ap (λ (o : Option What). edit_reply false o (length (accepted events) + 1)) calm in
+    let next : history_after limit events (Some (Put at raw)) ≡ after_edit events what =
+    ap (λ (b : Bool). edit_by b (doubt events) events what) free ∙ ap (λ (o : Option What). edit_by false o events what) calm in (
+      after_edit events what,
+      inl (is ∙ sym same, sym next),
+      stands,
+      causes_none events (after_edit events what) f f' (count_accepted events what) later,
+    )
+
+-- an edit at which the journal failed
+faulted_reply : {D : Type 0} {g : _} (content : D → Option (List ℕ)) (may_leave : D → List ℕ → Type 0) (told : Bool)
+    (limit : ℕ) (events : List Event) (at raw : ℤ) (office : Office D g) (in_doubt : Bool) (o : Option What) (f f' : ℕ)
+    → is_full limit events (PutReadings at raw) ≡ false → doubt events ≡ o
+    → AfterFault content may_leave told events (PutReadings at raw) in_doubt o office → f ≤ f' → (o ≡ None → Rose f f')
+    → (next : List Event) × IsReply limit events (Some (Put at raw)) (fault_reply in_doubt) next
+    × Stands content may_leave told next office × HaveCauses events next f f'
+faulted_reply content may_leave told limit events at raw office in_doubt None f f' free is stands later cause =
+    let what = PutReadings at raw in (
+      after_fault events what in_doubt,
+      inr (inl (free, is, (in_doubt, refl, refl))),
+      stands,
+      causes_one events (after_fault events what in_doubt) f f' (count_faulted events what in_doubt) (cause refl),
+    )
+faulted_reply content may_leave told limit events at raw office in_doubt (Some last) f f' free is stands later cause =
+    let what = PutReadings at raw in
+    let same : reply_to limit events (Some (Put at raw)) ≡ fault_reply true =
+    ap (λ (b : Bool). edit_reply b (doubt events) (length (accepted events) + 1)) free
+    ∙ ap (λ (o : Option What). edit_reply false o (length (accepted events) + 1)) is in
+    let next : history_after limit events (Some (Put at raw)) ≡ events =
+    ap (λ (b : Bool). edit_by b (doubt events) events what) free ∙ ap (λ (o : Option What). edit_by false o events what) is in (
+      events,
+      inl (ap fault_reply stands.0 ∙ sym same, sym next),
+      stands.1,
+      causes_none events events f f' refl later,
+    )
+
+-- there was no memory for the reply, and nothing has happened
+pub forgone : (limit : ℕ) (events : List Event) (at raw : ℤ) (reply : List ℕ) (StandsFor : List Event → Type 0) (f f' : ℕ)
+    → reply ≡ NO_MEMORY_REPLY.now → StandsFor events → f ≤ f'
+    → (next : List Event) × IsReply limit events (Some (Put at raw)) reply next × StandsFor next × HaveCauses events next f f'
+forgone limit events at raw reply StandsFor f f' is stands later =
+    (events, inr (inr (is, refl)), stands, causes_none events events f f' refl later)
+
+-- an edit that was refused
+pub refused_reply : {D : Type 0} {g : _} (content : D → Option (List ℕ)) (may_leave : D → List ℕ → Type 0) (told : Bool)
+    (limit : ℕ) (events : List Event) (at raw : ℤ) (office : Office D g) (refusal : Refusal) (reply : List ℕ) (f f' : ℕ)
+    → Edits content may_leave told limit events (PutReadings at raw) office (Err refusal) → IsRefused refusal reply → f ≤ f'
+    → ((in_doubt : Bool) → refusal ≡ refusals.JournalFault in_doubt → doubt events ≡ None → Rose f f')
+    → (next : List Event) × IsReply limit events (Some (Put at raw)) reply next
+    × Stands content may_leave told next office × HaveCauses events next f f'
+refused_reply content may_leave told limit events at raw office refusals.NoMemory reply f f' edits is later cause =
+    forgone limit events at raw reply (λ h. Stands content may_leave told h office) f f' is edits later
+refused_reply content may_leave told limit events at raw office refusals.JournalFull reply f f' edits (inr is) later cause =
+    forgone limit events at raw reply (λ h. Stands content may_leave told h office) f f' is edits.1 later
+refused_reply content may_leave told limit events at raw office refusals.JournalFull reply f f' edits (inl is) later cause =
+    let what = PutReadings at raw in
+    let full : is_full limit events what ≡ true = lt-ltb limit (journal_size (accepted events ++ what ∷ [])) edits.0 in
+    let same : reply_to limit events (Some (Put at raw)) ≡ reply_bytes 409 Json None journal_full_text =
+    ap (λ (b : Bool). edit_reply b (doubt events) (length (accepted events) + 1)) full in
+    let next : history_after limit events (Some (Put at raw)) ≡ events =
+    ap (λ (b : Bool). edit_by b (doubt events) events what) full in (
+      events,
+      inl (is ∙ sym same, sym next),
+      edits.1,
+      causes_none events events f f' refl later,
+    )
+refused_reply content may_leave told limit events at raw office (refusals.JournalFault in_doubt) reply f f' edits is later cause =
+    let free = room limit (journal_size (accepted events ++ PutReadings at raw ∷ [])) edits.0 in
+    let done = faulted_reply content may_leave told limit events at raw office in_doubt (doubt events) f f' free refl edits.1 later
+    (cause in_doubt refl) in (
+      done.0,
+      subst (λ (r : List ℕ). IsReply limit events (Some (Put at raw)) r done.0) (sym is) done.1,
+      done.2,
+      done.3,
+    )
+
+-- where no edit was in doubt, a fault has its cause
+pub rose_unless : (b : Bool) (o : Option What) (f f' : ℕ) → b ≡ is_some o → o ≡ None → (b ≡ true) ⊎ Rose f f' → Rose f f'
+rose_unless b o f f' is none (inl e) = absurd (cc)
+rose_unless b o f f' is none (inr h) = h
+
+-- what follows from a fact about an answer that is Ok
+pub on_ok : {X E : Type 0} (r : Result X E) (A B : Type 0) → (A → B) → OnOk r A → OnOk r B
+on_ok (Ok x) A B f a = f a
+on_ok (Err e) A B f a = tt
+
+pub on_err : {X E : Type 0} (r : Result X E) (A B : Type 0) → (A → B) → OnErr r A → OnErr r B
+on_err (Ok x) A B f a = tt
+on_err (Err e) A B f a = f a
+
+pub any_err : {X E : Type 0} (r : Result X E) (B : Type 0) → B → OnErr r B
+any_err (Ok x) B b = tt
+any_err (Err e) B b = b
+
+-- an answer that is no error is Ok
+pub ok_of : {X E : Type 0} (r : Result X E) (A : Type 0) → is_err r ≡ false → OnOk r A → A
+ok_of (Ok x) A is a = a
+ok_of (Err e) A is a = absurd (cc)
+
+-- an ask that is no edit was answered by the office's own reply, or there was no memory for it
+pub by_office : {X E : Type 0} (r : Result X E) (told : Told) (limit : ℕ) (Old New : List Event → Type 0) (ask : Option Ask) (reply : List ℕ) (f f' : ℕ)
+    → OnOk r (Answers limit Old ask reply New) → OnErr r (Leaves Old ask New)
+    → OnOk r (told ≡ tells.Made) → OnErr r (told ≡ tells.NoMemory) → f ≤ f'
+    → ((events : List Event) → faulted_count (history_after limit events ask) ≡ faulted_count events)
+    → Answered limit Old f ask (told_bytes told reply) New f'
+by_office (Ok x) told limit Old New ask reply f f' ok err made not later count events stands =
+    let done = ok events stands in (
+      history_after limit events ask,
+      inl (ap (λ (t : Told). told_bytes t reply) made ∙ done.0, refl),
+      done.1,
+      causes_none events (history_after limit events ask) f f' (count events) later,
+    )
+by_office (Err e) told limit Old New ask reply f f' ok err made not later count events stands =
+    let done = err events stands in (
+      done.0,
+      inr (inr (ap (λ (t : Told). told_bytes t reply) not, done.1)),
+      done.2,
+      causes_none events done.0 f f' (left_count events ask done.0 done.1) later,
+    )

@@ -1,0 +1,133 @@
+#!/usr/bin/env python3
+"""Makes real faults of a file system happen, and looks at what the program answers and keeps.
+
+    python3 tests/disk_faults.py PROGRAM
+
+It needs to mount small file systems in memory, so it is run by root or where `unshare --map-root-user --mount` is
+allowed. Each case states the status and the line that are wanted; the script ends with status 1 at the first that
+differs. It takes a few seconds.
+"""
+import os
+import pathlib
+import subprocess
+import sys
+import tempfile
+
+import journals
+
+FAULT = b'{"code":"JournalFault","in_doubt":'
+
+
+def run(program, words, data=b""):
+    done = subprocess.run([program, *words], input=data, capture_output=True, timeout=60)
+    return done.returncode, done.stdout, done.stderr.decode()
+
+
+def request(at):
+    return b"POST /first/%d/1.00 HTTP/1.1\r\nContent-Length: 0\r\n\r\n" % at
+
+
+def expect(what, wanted, got):
+    if wanted != got:
+        raise SystemExit(f"{what}: wanted {wanted}, got {got}")
+    print(f"{what}: status {got[0]}, {got[1].strip() or 'no line'}")
+
+
+def mount(place, options):
+    subprocess.run(["mount", "-t", "tmpfs", "-o", options, "tmpfs", place], check=True)
+
+
+def full_file_system(program, place):
+    """Readings until the file system is full, then with room again."""
+    mount(place, "size=300k")
+    journal = f"{place}/journal"
+    expect("init", (0, ""), run(program, ["init", "--journal", journal])[::2])
+    count = 12_000
+    status, output, line = run(
+        program, ["batch", "--journal", journal], b"".join(request(1_704_430_800 + 60 * n) for n in range(count))
+    )
+    expect("batch until the file system is full", (0, ""), (status, line))
+    accepted, faults = output.count(b'{"edit":'), output.count(FAULT)
+    in_doubt = output.count(FAULT + b"true")
+    if accepted + faults != count or accepted == 0 or faults == 0 or in_doubt != 0:
+        raise SystemExit(f"{accepted} accepted, {faults} refused, {in_doubt} of them in doubt, of {count}")
+    kept, _ = journals.read(pathlib.Path(journal).read_bytes())
+    if len(kept) != accepted:
+        raise SystemExit(f"{accepted} accepted and {len(kept)} kept")
+    print(f"    {accepted} accepted and kept, {faults} answered 503, none in doubt")
+    subprocess.run(["mount", "-o", "remount,size=600k", place], check=True)
+    status, output, line = run(program, ["batch", "--journal", journal], request(1))
+    expect("batch with room again", (0, ""), (status, line))
+    if b'{"edit":%d,' % (accepted + 1) not in output:
+        raise SystemExit(f"the next edit was answered {output!r}")
+    subprocess.run(["umount", place], check=True)
+
+
+def no_room_for_a_file(program, place):
+    """Not even the header fits."""
+    mount(place, "size=4k")
+    pathlib.Path(place, "other").write_bytes(bytes(4096))
+    journal = f"{place}/journal"
+    expect("init on a full file system", (4, "streamoffice: disk fault\n"), run(program, ["init", "--journal", journal])[::2])
+    pathlib.Path(place, "other").unlink()
+    expect("init with room again", (0, ""), run(program, ["init", "--journal", journal])[::2])
+    subprocess.run(["umount", place], check=True)
+
+
+def read_only(program, place):
+    """A journal that may only be read."""
+    mount(place, "size=300k")
+    journal = f"{place}/journal"
+    run(program, ["init", "--journal", journal])
+    run(program, ["batch", "--journal", journal], request(1))
+    before = pathlib.Path(journal).read_bytes()
+    subprocess.run(["mount", "-o", "remount,ro", place], check=True)
+    for command in ["init", "batch"]:
+        expect(
+            f"{command} on a read-only file",
+            (4, "streamoffice: disk fault\n"),
+            run(program, [command, "--journal", journal], request(2))[::2],
+        )
+    if pathlib.Path(journal).read_bytes() != before:
+        raise SystemExit("the journal has changed")
+    subprocess.run(["umount", place], check=True)
+
+
+def in_the_place_of_a_journal(program, place):
+    """A directory, nothing, and files that are no journal: not one byte of them changes."""
+    expect("init on a directory", (4, "streamoffice: disk fault\n"), run(program, ["init", "--journal", place])[::2])
+    expect("batch on a directory", (4, "streamoffice: disk fault\n"), run(program, ["batch", "--journal", place])[::2])
+    name = f"{place}/file"
+    expect("batch on nothing", (5, "streamoffice: not a journal\n"), run(program, ["batch", "--journal", name])[::2])
+    if os.path.exists(name):
+        raise SystemExit("batch made a file")
+    whole = journals.HEADER + journals.block(1, 1_704_430_800, 1_000_000)
+    for what, data, command, wanted in [
+        ("an empty file", b"", "batch", (5, "streamoffice: not a journal\n")),
+        ("another file", b"twenty bytes of text", "batch", (5, "streamoffice: not a journal\n")),
+        ("another file", b"twenty bytes of text", "init", (5, "streamoffice: not a journal\n")),
+        ("a journal", whole + b"\0", "init", (8, "streamoffice: journal exists\n")),
+        ("an open gate with nothing behind", journals.HEADER + b"\1", "batch", (5, "streamoffice: damaged at 16\n")),
+        ("a journal without its last gate", whole, "batch", (5, "streamoffice: damaged at 58\n")),
+        ("a record cut short", whole + whole[16:40], "batch", (5, "streamoffice: damaged at 58\n")),
+    ]:
+        pathlib.Path(name).write_bytes(data)
+        expect(f"{command} on {what}", wanted, run(program, [command, "--journal", name], request(2))[::2])
+        if pathlib.Path(name).read_bytes() != data:
+            raise SystemExit("the file has changed")
+
+
+def main():
+    if len(sys.argv) != 2:
+        raise SystemExit(__doc__)
+    if os.geteuid() != 0:
+        os.execvp("unshare", ["unshare", "--map-root-user", "--mount", sys.executable, *sys.argv])
+    program = str(pathlib.Path(sys.argv[1]).resolve())
+    for case in [full_file_system, no_room_for_a_file, read_only, in_the_place_of_a_journal]:
+        with tempfile.TemporaryDirectory() as place:
+            case(program, place)
+    print("every case as wanted, and nothing lost")
+
+
+if __name__ == "__main__":
+    main()

@@ -1,0 +1,116 @@
+#!/usr/bin/env python3
+"""Kills the program at random moments and looks at what it left.
+
+    python3 tests/killed_runs.py PROGRAM [--runs 200] [--folder .] [--seed 1]
+
+Each run begins from a new journal. A stream of readings is sent to `batch --journal`, and SIGKILL comes at a random
+moment while it answers. Then the journal must hold every edit whose reply was written, byte for byte and in order, and
+at most one more; and the program must open it again and give the next edit the next number. Prints a table of what was
+found, and ends with status 1 at the first run that is not so. 200 runs take about half a minute.
+
+A kill stops the program and not the disk: what the disk keeps at a power cut is what the sync calls ask for, and is not
+tested here.
+"""
+import argparse
+import collections
+import pathlib
+import random
+import subprocess
+import sys
+import tempfile
+import threading
+import time
+
+import journals
+
+REPLY = b'{"edit":'
+READINGS = 4000
+
+
+def request(at, raw):
+    return b"POST /first/%d/%d.%06d HTTP/1.1\r\nContent-Length: 0\r\n\r\n" % (at, raw // 1_000_000, raw % 1_000_000)
+
+
+def readings(chance):
+    """Instants and stages, in order of time."""
+    at = 1_704_430_800
+    for _ in range(READINGS):
+        at += chance.randrange(1, 900)
+        yield at, chance.randrange(0, 9_000_000)
+
+
+def feed(stream, data):
+    try:
+        stream.write(data)
+        stream.close()
+    except BrokenPipeError:
+        pass
+
+
+def killed_run(program, journal, chance):
+    """Kills one run; the readings that were sent, and how many were acknowledged."""
+    sent = list(readings(chance))
+    subprocess.run([program, "init", "--journal", journal], check=True)
+    process = subprocess.Popen(
+        [program, "batch", "--journal", journal], stdin=subprocess.PIPE, stdout=subprocess.PIPE
+    )
+    data = b"".join(request(at, raw) for at, raw in sent)
+    feeder = threading.Thread(target=feed, args=(process.stdin, data))
+    feeder.start()
+    stopper = threading.Timer(chance.uniform(0.0, 0.25), process.kill)
+    stopper.start()
+    replies = process.stdout.read()
+    process.wait()
+    stopper.cancel()
+    feeder.join()
+    return sent, replies.count(REPLY), process.returncode
+
+
+def check(program, journal, sent, acknowledged):
+    """What the journal holds beyond what was acknowledged, and the bytes behind its closed gate."""
+    kept, behind = journals.read(pathlib.Path(journal).read_bytes())
+    for number, found in enumerate(kept, 1):
+        wanted = journals.payload(number, *sent[number - 1])
+        if found != wanted:
+            raise SystemExit(f"record {number} is {found.hex()}, not {wanted.hex()}")
+    more = len(kept) - acknowledged
+    if more not in (0, 1):
+        raise SystemExit(f"{acknowledged} edits were acknowledged, and {len(kept)} are kept")
+    again = subprocess.run(
+        [program, "batch", "--journal", journal], input=request(1_704_430_800, 1_000_000), capture_output=True
+    )
+    if again.returncode != 0 or REPLY + b"%d," % (len(kept) + 1) not in again.stdout:
+        raise SystemExit(f"opened again: status {again.returncode}, {again.stdout!r}, {again.stderr!r}")
+    return more, behind
+
+
+def main():
+    words = argparse.ArgumentParser()
+    words.add_argument("program")
+    words.add_argument("--runs", type=int, default=200)
+    words.add_argument("--folder", default=".")
+    words.add_argument("--seed", type=int, default=1)
+    given = words.parse_args()
+    program = str(pathlib.Path(given.program).resolve())
+    chance = random.Random(given.seed)
+    table = collections.Counter()
+    most, least, total, ended = 0, READINGS, 0, 0
+    began = time.monotonic()
+    with tempfile.TemporaryDirectory(dir=given.folder) as place:
+        for number in range(given.runs):
+            journal = str(pathlib.Path(place) / f"journal-{number}")
+            sent, acknowledged, status = killed_run(program, journal, chance)
+            more, behind = check(program, journal, sent, acknowledged)
+            table[more, "nothing" if behind == 0 else "a part of a record" if behind < 42 else "a record"] += 1
+            most, least, total = max(most, acknowledged), min(least, acknowledged), total + acknowledged
+            ended += status == 0
+            pathlib.Path(journal).unlink()
+    print("kept beyond what was acknowledged | behind the closed gate | runs")
+    for (more, behind), runs in sorted(table.items()):
+        print(f"{more:>33} | {behind:<22} | {runs}")
+    print(f"{given.runs} runs, {ended} of them ended before the kill; {least} to {most} edits acknowledged, {total} in all")
+    print(f"{time.monotonic() - began:.1f} s; every acknowledged edit was kept, and each journal was opened again")
+
+
+if __name__ == "__main__":
+    sys.exit(main())

@@ -10,7 +10,7 @@ use Rattle.memchr.specs.Find.{IsFirstByte, is_byte}
 use Rattle.csv.specs.Reading.{strip_bom, is_bom}
 use Rattle.ratings.specs.Lines.{begins_with_feed, in_front, lines_of, without_return, numbered, is_kept, kept_lines}
 
-no_feed : (b : ℕ) → b ≢ 10 → (b == 10) ≡ false
+pub no_feed : (b : ℕ) → b ≢ 10 → (b == 10) ≡ false
 no_feed b h = by (b == 10) refl
   where
     by : (d : Bool) → (b == 10) ≡ d → (b == 10) ≡ false

@@ -26,6 +26,19 @@ pub rows_end : (c : Columns) (before : Option Row) → rows_of c before [] ≡ O
 unfolding rows_of
 rows_end c before = refl
 
+-- the row of a line, from that of its fields
+pub row_behind : (c : Columns) (before : Option Row) (n : ℕ) (line : List ℕ) (fs : List (List ℕ)) (x : Result Row RdbFault) → fs ≡ fields line → x ≡ row_of c n fs
+    → next_row c before (n, line) ≡ behind_read n before x
+row_behind c before n line fs x e h = ap (behind_read n before) (ap (row_of c n) (sym e) ∙ sym h)
+
+pub row_ok : (x r : Result Row RdbFault) → x ≡ r → IfOk r (λ row. x ≡ Ok row)
+row_ok x (Ok row) e = e
+row_ok x (Err f) e = tt
+
+pub row_err : (x r : Result Row RdbFault) → x ≡ r → IfErr r (λ fault. (fault ≡ faults.NoMemory) ⊎ (x ≡ Err fault))
+row_err x (Ok row) e = tt
+row_err x (Err f) e = inr e
+
 front_none : (x : Result (List Row) RdbFault) → rows_in_front [] x ≡ x
 front_none (Ok rows) = refl
 front_none (Err f) = refl

@@ -1,6 +1,7 @@
 -- The lines of an RDB text that count: each line is ended by LF or CR LF, the last may lack its end, and comments and
 -- empty lines are passed over but numbered.
-use Rattle.std.specs.Prelude.{ℕ, suc, Bool, false, not, ◌&&◌, ◌==◌, if◌then◌else◌, List, [], ◌∷◌, filter}
+use Rattle.std.specs.Prelude.{ℕ, suc, Bool, false, not, ◌&&◌, ◌==◌, if◌then◌else◌, List, [], ◌∷◌, ◌++◌, filter}
+use Rattle.std.specs.List.{flat_map}
 
 -- whether a text begins with LF
 abbrev pub begins_with_feed : List ℕ → Bool
@@ -38,3 +39,7 @@ is_kept (b ∷ line) = not (b == 35)
 -- the lines of a text that count, with their numbers
 abbrev pub kept_lines : ℕ → List ℕ → List (ℕ × List ℕ)
 kept_lines passed text = filter (λ line. is_kept line.1) (numbered passed (lines_of text))
+
+-- lines in one text, each ended by LF
+abbrev pub text_of_lines : List (ℕ × List ℕ) → List ℕ
+text_of_lines lines = flat_map (λ line. line.1 ++ 10 ∷ []) lines

@@ -4,10 +4,11 @@ ghost use Rattle.std.specs.Prelude.{◌≡◌, ◌≢◌, ◌⊎◌, ◌+◌, �
 ghost use Rattle.ratings.specs.Lines.{kept_lines, is_kept};
 ghost use Rattle.ratings.specs.Rdb as rdb;
 ghost use Rattle.ratings.specs.Rdb.{AreFirst, columns_of, fields, next_row, rdb_of, rows_of};
+ghost use Rattle.ratings.specs.Reading.{IsBefore};
 ghost use Rattle.ratings.specs.Table.{is_off_count};
 
-use crate::rdb_fields::Fields;
-use crate::rdb_lines::{next_line, without_mark};
+use crate::rdb_fields::FieldReader;
+use crate::rdb_lines::{Line, join_lines, next_line, without_mark};
 use crate::rdb_rows::{Columns, find_columns, put_behind, read_row};
 use crate::table::{MOST, Table, is_off_count};
 use fixed_units::{Micro, NoMemory};
@@ -75,40 +76,49 @@ pub fn read_rdb(alloc: Global, text: &[u8]) -> Result<Table, RdbFault>
     ensures ok { IfOk result (λ table. rdb_of text.now ≡ Ok table) }
     ensures err { IfErr result (λ fault. (fault ≡ RdbFault.NoMemory) ⊎ (rdb_of text.now ≡ Err fault)) }
 {
-    let Some(names) = next_line(without_mark(text), 0) else {
+    let text = without_mark(text);
+    let Some(names) = next_line(text, 0) else {
         return Err(RdbFault::NoNames);
     };
     let Some(formats) = next_line(names.behind, names.number) else {
         return Err(RdbFault::NoNames);
     };
-    let columns = read_columns(alloc, names.number, names.bytes)?;
-    let rows = read_rows(alloc, columns, formats.behind, formats.number)?;
+    let lines = join_lines(alloc, text)?;
+    let mut reader = FieldReader::new(alloc, lines.as_slice());
+    let columns = read_columns(&mut reader, &names)?;
+    reader.read_next()?;
+    let rows = read_rows(alloc, &mut reader, columns, formats.behind, formats.number)?;
     make_table(rows)
 }
 
-/// The places of the columns in the line of names.
-fn read_columns(alloc: Global, number: u64, names: &[u8]) -> Result<Columns, RdbFault>
-    requires kept { is_kept names.now ≡ true }
-    requires feeds { All (λ b. b ≢ 10) names.now }
-    ensures ok { IfOk result (λ columns. columns_of (fields names.now) ≡ Some columns) }
+/// The places of the columns in the line of names, which is the next one.
+fn read_columns(reader: &mut FieldReader<'_>, names: &Line<'_>) -> Result<Columns, RdbFault>
+    requires next { IsBefore reader.old
+        ((names.now.number, names.now.bytes.now) ∷ kept_lines names.now.number names.now.behind.now) }
+    requires kept { is_kept names.now.bytes.now ≡ true }
+    requires feeds { All (λ b. b ≢ 10) names.now.bytes.now }
+    ensures ok { IfOk result (λ columns. columns_of (fields names.now.bytes.now) ≡ Some columns) }
+    ensures behind { OnOk result (IsBefore reader.new (kept_lines names.now.number names.now.behind.now)) }
     ensures err { IfErr result (λ fault. (fault ≡ RdbFault.NoMemory)
-        ⊎ ((columns_of (fields names.now) ≡ None) × (fault ≡ RdbFault.NoColumn number))) }
+        ⊎ ((columns_of (fields names.now.bytes.now) ≡ None) × (fault ≡ RdbFault.NoColumn names.now.number))) }
 {
-    let fields = Fields::read(alloc, names)?;
-    match find_columns(&fields) {
+    reader.read_next()?;
+    match find_columns(&reader.fields) {
         Some(columns) => Ok(columns),
-        None => Err(RdbFault::NoColumn(number)),
+        None => Err(RdbFault::NoColumn(names.number)),
     }
 }
 
-/// The first rows of a text behind so many lines, one more than a table may have.
+/// The first rows of a text behind so many lines, which are the next ones, one more than a table may have.
 fn read_rows(
     alloc: Global,
+    reader: &mut FieldReader<'_>,
     columns: Columns,
     text: &[u8],
     passed: u64,
 ) -> Result<Vec<(Micro, Micro)>, RdbFault>
-    requires { passed + length text.now < 2 ^ 64 }
+    requires next { IsBefore reader.old (kept_lines passed text.now) }
+    requires counted { passed + length text.now < 2 ^ 64 }
     ensures ok { IfOk result (λ rows. AreFirst (rows_of columns None (kept_lines passed text.now)) rows.items) }
     ensures err { IfErr result (λ fault. (fault ≡ RdbFault.NoMemory)
         ⊎ (rows_of columns None (kept_lines passed text.now) ≡ Err fault)) }
@@ -118,7 +128,7 @@ fn read_rows(
     let mut rest = text;
     let mut number = passed;
     while let Some(line) = next_line(rest, number) {
-        let row = read_next(alloc, columns, before, line.number, line.bytes)?;
+        let row = read_next(reader, columns, before, &line)?;
         keep(&mut rows, &row)?;
         before = Some(row);
         rest = line.behind;
@@ -127,23 +137,25 @@ fn read_rows(
     Ok(rows)
 }
 
-/// The row of a line, behind the row before it.
+/// The row of the next line, behind the row before it.
 fn read_next(
-    alloc: Global,
+    reader: &mut FieldReader<'_>,
     columns: Columns,
     before: Option<(Micro, Micro)>,
-    number: u64,
-    line: &[u8],
+    line: &Line<'_>,
 ) -> Result<(Micro, Micro), RdbFault>
-    requires kept { is_kept line.now ≡ true }
-    requires feeds { All (λ b. b ≢ 10) line.now }
-    ensures ok { IfOk result (λ row. next_row columns before (number, line.now) ≡ Ok row) }
+    requires next { IsBefore reader.old
+        ((line.now.number, line.now.bytes.now) ∷ kept_lines line.now.number line.now.behind.now) }
+    requires kept { is_kept line.now.bytes.now ≡ true }
+    requires feeds { All (λ b. b ≢ 10) line.now.bytes.now }
+    ensures ok { IfOk result (λ row. next_row columns before (line.now.number, line.now.bytes.now) ≡ Ok row) }
+    ensures behind { OnOk result (IsBefore reader.new (kept_lines line.now.number line.now.behind.now)) }
     ensures err { IfErr result (λ fault. (fault ≡ RdbFault.NoMemory)
-        ⊎ (next_row columns before (number, line.now) ≡ Err fault)) }
+        ⊎ (next_row columns before (line.now.number, line.now.bytes.now) ≡ Err fault)) }
 {
-    let fields = Fields::read(alloc, line)?;
-    let row = read_row(columns, number, &fields)?;
-    put_behind(number, before, row)
+    reader.read_next()?;
+    let row = read_row(columns, line.number, &reader.fields)?;
+    put_behind(line.number, before, row)
 }
 
 /// Adds a row, unless there are more than a table may have already.

@@ -1,64 +1,44 @@
-//! The fields of a line of an RDB text, as the crate `csv` reads them.
+//! The fields of the lines of an RDB text, as the crate `csv` reads them.
 
-ghost use Rattle.std.specs.Prelude.{◌≡◌, ◌≢◌, ◌+◌, ◌<◌, [], ◌∷◌, drop, length, option_map, All, IfOk};
-ghost use Rattle.std.specs.Str.{bytes_eq};
-ghost use Rattle.csv.specs.Machine.{next_record};
-ghost use Rattle.csv.specs.Reading.{strip_bom};
-ghost use Rattle.csv.specs.Records.{fields_of, field_at};
-ghost use Rattle.csv.specs.declared.parser.State.TheVariants.{StartRecord};
-ghost use Rattle.ratings.specs.Rdb.{tab_config, fields_read, fields, field_in, column, is_field};
+ghost use Rattle.std.specs.Prelude.{◌≡◌, ◌≢◌, ℕ, true, List, ◌∷◌, length, option_map, All, OnOk};
+ghost use Rattle.csv.specs.Records.{field_at};
+ghost use Rattle.ratings.specs.Lines.{is_kept, text_of_lines};
+ghost use Rattle.ratings.specs.Rdb.{fields, field_in, column, is_field};
+ghost use Rattle.ratings.specs.Reading.{IsBefore};
 
-use csv::{ByteRecord, ReaderBuilder, Terminator};
+use csv::{ByteRecord, Reader, ReaderBuilder, Terminator};
 use fixed_units::NoMemory;
 use std::alloc::Global;
 use std::marker::Model;
 
-/// The fields of a line. A tab was put in front of it, so that bytes that look like a byte order mark stay bytes of its
-/// first field; the empty field before that tab is left out.
+/// The fields of a line.
 #[derive(Drop)]
 pub(crate) struct Fields {
     record: ByteRecord,
 }
 
 impl Model for Fields {
-    ghost use Rattle.std.specs.Prelude.{ℕ, List, drop};
+    ghost use Rattle.std.specs.Prelude.{ℕ, List};
     ghost use Rattle.csv.specs.Records.{fields_of};
 
     ghost Value = { List (List ℕ) };
 
-    ghost view = { λ f. drop 1 (fields_of f.record) };
+    ghost view = { λ f. fields_of f.record };
 }
 
 impl Fields {
-    /// The fields of a line.
-    pub fn read(alloc: Global, line: &[u8]) -> Result<Fields, NoMemory>
-        requires some { 0 < length line.now }
-        requires feeds { All (λ b. b ≢ 10) line.now }
-        ensures { IfOk result (λ f. f ≡ fields line.now) }
-    {
-        let mut text = Vec::new(alloc);
-        text.push(b'\t')?;
-        text.extend_from_slice(line)?;
-        Ok(Fields {
-            record: read_record(alloc, text.as_slice())?,
-        })
-    }
-
     /// How many fields there are.
     pub fn len(&self) -> usize
         ensures { result ≡ length self.now }
     {
-        self.record.len().saturating_sub(1)
+        self.record.len()
     }
 
     /// The field at a place, if there is one.
     pub fn get(&self, place: usize) -> Option<&[u8]>
         ensures { option_map (λ s. s.now) result ≡ field_at self.now place }
     {
-        if place >= self.len() {
-            return None;
-        }
-        self.record.get(place + 1)
+        self.record.get(place)
     }
 
     /// The field at a place, if there is such a place and a field there.
@@ -91,21 +71,43 @@ fn is_field(field: Option<&[u8]>, text: &[u8]) -> bool
     }
 }
 
-/// The first record of a text.
-fn read_record(alloc: Global, text: &[u8]) -> Result<ByteRecord, NoMemory>
-    ensures { IfOk result (λ r. fields_of r
-        ≡ fields_read (next_record tab_config StartRecord [] [] (strip_bom text.now))) }
-{
-    let mut reader = ReaderBuilder::new()
-        .has_headers(false)
-        .delimiter(b'\t')
-        .quoting(false)
-        .terminator(Terminator::Any(b'\n'))
-        .from_reader(alloc, text);
-    let mut record = ByteRecord::new(alloc);
-    match reader.read_byte_record(&mut record) {
-        Ok(true) => Ok(record),
-        Ok(false) => Ok(ByteRecord::new(alloc)),
-        Err(_) => Err(NoMemory),
+/// A reader of the fields of lines that stand in one text, with the fields of the line that it read last.
+#[derive(Drop)]
+pub(crate) struct FieldReader<'a> {
+    reader: Reader<&'a [u8]>,
+    /// The fields of the line that was read last; none before the first.
+    pub fields: Fields,
+}
+
+impl<'a> FieldReader<'a> {
+    /// A reader of the lines that [`join_lines`](crate::rdb_lines::join_lines) put in one text.
+    pub fn new(alloc: Global, joined: &'a [u8]) -> FieldReader<'a>
+        ensures { (lines : List (ℕ × List ℕ)) → joined.now ≡ 10 ∷ text_of_lines lines → IsBefore result lines }
+    {
+        FieldReader {
+            reader: ReaderBuilder::new()
+                .has_headers(false)
+                .flexible(true)
+                .delimiter(b'\t')
+                .quoting(false)
+                .terminator(Terminator::Any(b'\n'))
+                .from_reader(alloc, joined),
+            fields: Fields {
+                record: ByteRecord::new(alloc),
+            },
+        }
+    }
+
+    /// Reads the fields of the next line, where the reader is before one.
+    pub fn read_next(&mut self) -> Result<(), NoMemory>
+        ensures { (line : ℕ × List ℕ) (lines : List (ℕ × List ℕ)) → IsBefore self.old (line ∷ lines)
+            → is_kept line.1 ≡ true → All (λ b. b ≢ 10) line.1
+            → OnOk result ((self.new.fields ≡ fields line.1) × IsBefore self.new lines) }
+    {
+        match self.reader.read_byte_record(&mut self.fields.record) {
+            Ok(_) => Ok(()),
+            // Nothing but memory can fail over a slice.
+            Err(_) => Err(NoMemory),
+        }
     }
 }

@@ -187,7 +187,7 @@ fn rdb_tables(rt: HostRuntime) -> Result<(), Fail> {
 
 #[test]
 fn rdb_faults(rt: HostRuntime) -> Result<(), Fail> {
-    let cases: [(&[u8], RdbFault, u64); 15] = [
+    let cases: [(&[u8], RdbFault, u64); 17] = [
         (
             b"# rating\nINDEP\tSHIFT\tDEP\tSTOR\n16N\t16N\t16N\t1S\n1.00\t0.00\t10\t*\n2.00\t0.02\t30\t*\n",
             RdbFault::Shift(5),
@@ -197,6 +197,12 @@ fn rdb_faults(rt: HostRuntime) -> Result<(), Fail> {
         (b"\n# a\nDEP\n#\n", RdbFault::NoNames, 0),
         (b"#\nindep\tDEP\n-\n", RdbFault::NoColumn(2), 2),
         (b" INDEP\tDEP\n-\n", RdbFault::NoColumn(1), 1),
+        (
+            b"\xEF\xBB\xBF\xEF\xBB\xBFINDEP\tDEP\n-\n",
+            RdbFault::NoColumn(1),
+            1,
+        ),
+        (b"#\n\xEF\xBB\xBFINDEP\tDEP\n-\n", RdbFault::NoColumn(2), 2),
         (b"INDEP\tDEP\n-\n1\n", RdbFault::Number(3), 3),
         (b"INDEP\tDEP\n-\n1\t2\n\"2\"\t3\n", RdbFault::Number(4), 4),
         (b"INDEP\tDEP\n-\n1\t2\n2\t3\r", RdbFault::Number(4), 4),

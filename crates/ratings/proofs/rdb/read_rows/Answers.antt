@@ -15,6 +15,9 @@ returns-in_err-row-clause-err c =
 pub keep-requires : goal.keep-requires
 keep-requires c = reads_few c.args.columns (kept_lines c.args.passed c.args.text.now) c.loop-line.rows.items c.loop-line.before (kept_lines c.loop-line.number c.loop-line.rest.now) c.loop-line.invariant.reads
 
+pub read_next-requires-clause-next : goal.read_next-requires-clause-next
+read_next-requires-clause-next c = rw c.in-Some.ensures.lines at c.loop-line.invariant.next
+
 pub loop-line-preserved : goal.loop-line-preserved
 loop-line-preserved c =
     record {
@@ -22,6 +25,7 @@ loop-line-preserved c =
           reads_next c.args.columns (kept_lines c.args.passed c.args.text.now) c.loop-line.rows.items c.loop-line.before (kept_lines c.loop-line.number c.loop-line.rest.now)
           (c.in-Some.line.number, c.in-Some.line.bytes.now) (kept_lines c.in-Some.line.number c.in-Some.line.behind.now) c.in_ok-row.row c.keep.new.rows.items
           c.loop-line.invariant.reads c.in-Some.ensures.lines c.in_ok-row.ensures.ok c.in_ok-keep.ensures;
+      next = c.in_ok-row.ensures.behind;
       counted = omega (arith, c.in-Some.ensures.shorter);
     }
 

@@ -4,8 +4,7 @@ use Rattle.std.specs.Int.{w32, to_le_bytes}
 use Rattle.std.proofs.lemmas.List.{drop_at, drop-drop}
 use Rattle.records.specs.Payloads.{payload, encoded}
 use Rattle.records.specs.declared.edits.Record.{Record}
-use Rattle.journal.specs.JournalBytes.{IsNumbered, AreNumbered, IsClosed, IsDamagedAt, front}
-use Rattle.journal.specs.Gates.{HasNone}
+use Rattle.journal.specs.JournalBytes.{IsNumbered, AreNumbered, IsClosed, IsDamagedAt, front, HasNone}
 use Rattle.journal.proofs.Lengths.{none_other, found}
 use Rattle.journal.proofs.Stages.{front-push, length_front-push}
 

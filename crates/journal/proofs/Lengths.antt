@@ -8,8 +8,7 @@ use Rattle.records.specs.Reading.{number_at}
 use Rattle.records.specs.declared.edits.Record.{Record}
 use Rattle.records.proofs.Fields.{some_is, wide32, number_again}
 use Rattle.records.proofs.LawLemmas.{few_built_in, one_record, built_in_grammar}
-use Rattle.journal.specs.JournalBytes.{IsNumbered}
-use Rattle.journal.specs.Gates.{HasNone}
+use Rattle.journal.specs.JournalBytes.{IsNumbered, HasNone}
 
 -- a number in four bytes is one number
 pub same_length : (a b : ℕ) (x y : List ℕ) → a < 2 ^ 32 → b < 2 ^ 32 → to_le_bytes w32 a ++ x ≡ to_le_bytes w32 b ++ y → (a ≡ b) × (x ≡ y)

@@ -2,9 +2,9 @@
 use Rattle.std.specs.Prelude.{◌≡◌, ◌≢◌, ℕ, ◌+◌, ◌≤◌, Bool, true, false, List, [], ◌∷◌, ◌++◌, length, drop, slice_range, Option, IfSome, Result, Ok, Err, ⊤}
 use Rattle.std.specs.Int.{w32, to_le_bytes}
 use Rattle.devices.specs.Faults.{Rose}
-use Rattle.records.specs.Payloads.{payload, encoded}
+use Rattle.records.specs.Payloads.{payload}
 use Rattle.records.specs.declared.edits.Record.{Record}
-use Rattle.journal.specs.JournalBytes.{IsNumbered, IsClosed}
+use Rattle.journal.specs.JournalBytes.{IsNumbered, IsClosed, HasNone}
 use Rattle.journal.specs.declared.read_ahead.Unread.{Unread}
 use Rattle.journal.specs.declared.read_ahead.Unread.TheVariants.{Fault, NoRecord, NoMemory}
 
@@ -22,10 +22,6 @@ IsGate rest (Ok false) = IsClosed rest
 IsGate rest (Err Fault) = ⊤
 IsGate rest (Err NoRecord) = rest ≡ []
 IsGate rest (Err NoMemory) = ⊤
-
--- no record of that number stands here
-abbrev pub HasNone : ℕ → List ℕ → Type 0
-HasNone number behind = (piece : Record) (more : List ℕ) → IsNumbered number piece → behind ≢ encoded piece ++ more
 
 -- what stands behind an open gate: the length of a payload and that many bytes, or no record
 abbrev pub IsLength : List ℕ → Result ℕ Unread → Type 0

@@ -20,6 +20,10 @@ InitLeaves bytes after old_images new_images (Err Exists) = (after ≡ Some byte
 InitLeaves bytes after old_images new_images (Err NotAJournal) = (after ≡ Some bytes) × NothingNew old_images new_images
 InitLeaves bytes after old_images new_images (Err Fault) = IsSomeAnd after (Torn 0 17 bytes)
 
--- an image from before, of which any bytes may stand in the place of the first 17
-abbrev pub IsBegun : (List ℕ → Type 0) → List ℕ → Type 0
-IsBegun images = WasTorn 0 17 images
+-- what a stop at some moment of the call leaves: what it might have left before, where a journal was to be made perhaps
+-- with any bytes in the place of the first 17
+abbrev pub IsLeftByInit : {T : Type 0} → (List ℕ → Type 0) → Result T InitFault → List ℕ → Type 0
+IsLeftByInit images (Ok done) image = WasTorn 0 17 images image
+IsLeftByInit images (Err Exists) image = images image
+IsLeftByInit images (Err NotAJournal) image = images image
+IsLeftByInit images (Err Fault) image = WasTorn 0 17 images image

@@ -2,7 +2,7 @@
 
 ghost use Rattle.std.specs.Prelude.{◌≡◌, ◌≢◌, ◌≤◌, ℕ, List, length, slice_range, IfSome, Err};
 ghost use Rattle.devices.specs.Faults.{Rose};
-ghost use Rattle.journal.specs.Init.{InitAnswers, InitLeaves, IsBegun};
+ghost use Rattle.journal.specs.Init.{InitAnswers, InitLeaves, IsLeftByInit};
 ghost use Rattle.journal.specs.Moments.{LeavesOnly, OnlyReads};
 
 use crate::HEADER;
@@ -38,7 +38,7 @@ impl From<DiskFailed> for InitFault {
 pub fn init<D: Disk>(disk: &mut D) -> Result<(), InitFault>
     ensures answer { IfSome (D.content disk.old) (λ bytes. InitAnswers bytes result) }
     ensures left { IfSome (D.content disk.old) (λ bytes. InitLeaves bytes (D.content disk.new) (D.may_leave disk.old) (D.may_leave disk.new) result) }
-    ensures any_moment { LeavesOnly D.moment D.left_since disk.old disk.new (IsBegun (D.may_leave disk.old)) }
+    ensures any_moment { LeavesOnly D.moment D.left_since disk.old disk.new (IsLeftByInit (D.may_leave disk.old) result) }
     ensures counted { D.faults disk.old ≤ D.faults disk.new }
     ensures cause { result ≡ Err InitFault.Fault → Rose (D.faults disk.old) (D.faults disk.new) }
 {

@@ -1,6 +1,7 @@
 -- What an edit comes to, by where it ends.
 use Rattle.std.specs.Prelude.{◌≡◌, ℕ, ◌+◌, ◌-◌, ◌^◌, ◌<◌, ◌≤◌, Bool, true, false, if◌then◌else◌, List, [], ◌∷◌, ◌++◌, length, Option, Some, None, is_some, Result, Ok, Err}
 use Rattle.std.proofs.Common.{arith, refl, ap, sym, subst, inl, inr, ◌∙◌}
+use Rattle.std.proofs.lemmas.Bool.{lt-ltb, ltb-true}
 use Rattle.std.specs.Result.{IsErrAnd}
 use Rattle.records.specs.FirstPath.{IsFirstPath}
 use Rattle.records.specs.declared.edits.Record.{Record}
@@ -24,17 +25,20 @@ use Rattle.office.proofs.KeptLemmas.{keeps_fault}
 use Rattle.office.proofs.StandsLemmas.{holds_images, settled, settled_holds, size_next, stands_for}
 
 -- where the bytes of the edit do not fit, and where they do
-pub is_full : {D : Type 0} {g : _} (content : D → Option (List ℕ)) (may_leave : D → List ℕ → Type 0) (told : Bool) (events : List Event)
+pub does_pass : {D : Type 0} {g : _} (content : D → Option (List ℕ)) (may_leave : D → List ℕ → Type 0) (told : Bool) (events : List Event)
     (edit : What) (bytes : List ℕ) (o : Office D g) → IsEncoded (o.station.edits + 1) edit bytes
     → o.journal.limit < o.journal.gate + 1 + length bytes → Stands content may_leave told events o → IsFull o.journal.limit events edit
-is_full content may_leave told events edit bytes o e l s =
-    let size = size_next content may_leave told events edit bytes o s e in omega arith
+does_pass content may_leave told events edit bytes o e l s =
+    let size = size_next content may_leave told events edit bytes o s e in
+    lt-ltb o.journal.limit (journal_size (accepted events ++ edit ∷ [])) (omega arith)
 
 pub not_full : {D : Type 0} {g : _} (content : D → Option (List ℕ)) (may_leave : D → List ℕ → Type 0) (told : Bool) (events : List Event)
     (edit : What) (bytes : List ℕ) (o : Office D g) → IsEncoded (o.station.edits + 1) edit bytes
     → o.journal.gate + 1 + length bytes ≤ o.journal.limit → Stands content may_leave told events o → ¬ IsFull o.journal.limit events edit
 not_full content may_leave told events edit bytes o e l s =
-    λ h. let size = size_next content may_leave told events edit bytes o s e in omega arith
+    λ h.
+    let size = size_next content may_leave told events edit bytes o s e in
+    let past = ltb-true o.journal.limit (journal_size (accepted events ++ edit ∷ [])) h in omega arith
 
 -- where the journal was in doubt before
 doubted_step : {D : Type 0} {g : _} (content : D → Option (List ℕ)) (may_leave : D → List ℕ → Type 0) (told : Bool) (events : List Event)

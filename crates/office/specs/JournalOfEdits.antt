@@ -1,5 +1,5 @@
 -- The journal of accepted edits: the record of each, numbered from 1.
-use Rattle.std.specs.Prelude.{◌⊎◌, ℕ, ◌+◌, ◌<◌, List, [], ◌∷◌, ◌++◌, length, Option, Some, None, ⊤}
+use Rattle.std.specs.Prelude.{◌≡◌, ◌⊎◌, ℕ, ◌+◌, Bool, true, nat_lt, List, [], ◌∷◌, ◌++◌, length, Option, Some, None, ⊤}
 use Rattle.records.specs.FirstPath.{IsFirstPath, first_by, first_reference, first_site}
 use Rattle.records.specs.Payloads.{fields, kind, short_text, site_number}
 use Rattle.records.specs.declared.edits.Record.{Record}
@@ -45,5 +45,8 @@ abbrev pub journal_size : List What → ℕ
 journal_size edits = 17 + records_size 1 edits
 
 -- with this edit the journal would pass its limit
+abbrev pub is_full : ℕ → List Event → What → Bool
+is_full limit events edit = nat_lt limit (journal_size (accepted events ++ edit ∷ []))
+
 abbrev pub IsFull : ℕ → List Event → What → Type 0
-IsFull limit events edit = limit < journal_size (accepted events ++ edit ∷ [])
+IsFull limit events edit = is_full limit events edit ≡ true

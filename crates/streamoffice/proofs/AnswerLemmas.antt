@@ -1,6 +1,5 @@
 -- How asks are answered.
-use Rattle.std.proofs.Common.{◌≡◌, ◌⊎◌, ℕ, ◌+◌, ◌<◌, ◌≤◌, Bool, true, false, nat_lt, List, [], ◌∷◌, ◌++◌, length, Option, Some, None, is_some, Result, Ok, Err, OnOk, OnErr, is_err, refl, sym, ◌∙◌, ap, subst, inl, inr, ℤ, arith}
-use Rattle.std.proofs.lemmas.Bool.{lt-ltb, ltb-true}
+use Rattle.std.proofs.Common.{◌≡◌, ◌≢◌, ◌⊎◌, ℕ, ◌+◌, ◌<◌, ◌≤◌, Bool, true, false, List, [], ◌∷◌, ◌++◌, length, Option, Some, None, is_some, Result, Ok, Err, OnOk, OnErr, is_err, refl, sym, ◌∙◌, ap, subst, inl, inr, ℤ, arith}
 use Rattle.devices.specs.Faults.{Rose}
 use Rattle.records.specs.declared.edits.What.{What}
 use Rattle.records.specs.declared.edits.What.TheVariants.{PutReadings}
@@ -9,7 +8,7 @@ use Rattle.http_api.specs.declared.asks.Ask.{Ask}
 use Rattle.http_api.specs.declared.asks.Ask.TheVariants.{Put}
 use Rattle.office.specs.Edits.{Edits, AfterFault}
 use Rattle.office.specs.History.{Event, accepted, doubt, after_edit, after_fault, faulted_count}
-use Rattle.office.specs.JournalOfEdits.{IsFull, journal_size}
+use Rattle.office.specs.JournalOfEdits.{is_full, IsFull}
 use Rattle.office.specs.Stands.{Stands}
 use Rattle.office.specs.declared.records_office.Office.{Office}
 use Rattle.office.specs.declared.records_office.Refusal.{Refusal}
@@ -19,19 +18,16 @@ use Rattle.wire.specs.declared.replies.Kind.TheVariants.{Json}
 use Rattle.wire.specs.declared.replies.TheConstants.{NO_MEMORY_REPLY}
 use Rattle.streamoffice.specs.Answering.{Answered, Answers, Leaves, IsRefused, told_bytes}
 use Rattle.streamoffice.specs.Causes.{HaveCauses}
-use Rattle.streamoffice.specs.Output.{IsReply, IsLeft, is_full, reply_to, history_after, edit_reply, edit_by, fault_reply}
+use Rattle.streamoffice.specs.Output.{IsReply, IsLeft, reply_to, history_after, edit_reply, edit_by, fault_reply}
 use Rattle.streamoffice.specs.declared.answers.Told.{Told}
 use Rattle.streamoffice.specs.declared.answers.Told.TheVariants as tells
 use Rattle.streamoffice.proofs.CauseLemmas.{causes_none, causes_one, count_accepted, count_faulted}
 use Rattle.streamoffice.proofs.OutputLemmas.{left_count}
 
 -- what an edit comes to by the room in the journal and the edit that is in doubt
-room : (limit size : ℕ) → ¬ (limit < size) → nat_lt limit size ≡ false
-room limit size h = by_test (nat_lt limit size) refl
-  where
-    by_test : (b : Bool) → nat_lt limit size ≡ b → nat_lt limit size ≡ false
-    by_test true e = absurd (h (omega (arith, ltb-true limit size e)))
-    by_test false e = e
+room : (full : Bool) → full ≢ true → full ≡ false
+room true h = absurd (h refl)
+room false h = refl
 
 -- an edit that was accepted
 pub accepted_reply : (limit : ℕ) (events : List Event) (at raw : ℤ) (reply : List ℕ) (StandsFor : List Event → Type 0) (f f' : ℕ)
@@ -41,7 +37,7 @@ pub accepted_reply : (limit : ℕ) (events : List Event) (at raw : ℤ) (reply :
     → (next : List Event) × IsReply limit events (Some (Put at raw)) reply next × StandsFor next × HaveCauses events next f f'
 accepted_reply limit events at raw reply StandsFor f f' fits calm is stands later =
     let what = PutReadings at raw in
-    let free : is_full limit events what ≡ false = room limit (journal_size (accepted events ++ what ∷ [])) fits in
+    let free : is_full limit events what ≡ false = room (is_full limit events what) fits in
     let same : reply_to limit events (Some (Put at raw)) ≡ reply_bytes 200 Json None (edit_text (length (accepted events) + 1) false) =
     ap (λ (b : Bool). edit_reply b (doubt events) (length (accepted events) + 1)) free
     ∙ ap (λ (o : Option What). edit_reply false o (length (accepted events) + 1)) calm in
@@ -56,19 +52,20 @@ accepted_reply limit events at raw reply StandsFor f f' fits calm is stands late
 -- an edit at which the journal failed
 faulted_reply : {D : Type 0} {g : _} (content : D → Option (List ℕ)) (may_leave : D → List ℕ → Type 0) (told : Bool)
     (limit : ℕ) (events : List Event) (at raw : ℤ) (office : Office D g) (in_doubt : Bool) (o : Option What) (f f' : ℕ)
-    → is_full limit events (PutReadings at raw) ≡ false → doubt events ≡ o
+    → ¬ (IsFull limit events (PutReadings at raw)) → doubt events ≡ o
     → AfterFault content may_leave told events (PutReadings at raw) in_doubt o office → f ≤ f' → (o ≡ None → Rose f f')
     → (next : List Event) × IsReply limit events (Some (Put at raw)) (fault_reply in_doubt) next
     × Stands content may_leave told next office × HaveCauses events next f f'
-faulted_reply content may_leave told limit events at raw office in_doubt None f f' free is stands later cause =
+faulted_reply content may_leave told limit events at raw office in_doubt None f f' fits is stands later cause =
     let what = PutReadings at raw in (
       after_fault events what in_doubt,
-      inr (inl (free, is, (in_doubt, refl, refl))),
+      inr (inl (fits, is, (in_doubt, refl, refl))),
       stands,
       causes_one events (after_fault events what in_doubt) f f' (count_faulted events what in_doubt) (cause refl),
     )
-faulted_reply content may_leave told limit events at raw office in_doubt (Some last) f f' free is stands later cause =
+faulted_reply content may_leave told limit events at raw office in_doubt (Some last) f f' fits is stands later cause =
     let what = PutReadings at raw in
+    let free : is_full limit events what ≡ false = room (is_full limit events what) fits in
     let same : reply_to limit events (Some (Put at raw)) ≡ fault_reply true =
     ap (λ (b : Bool). edit_reply b (doubt events) (length (accepted events) + 1)) free
     ∙ ap (λ (o : Option What). edit_reply false o (length (accepted events) + 1)) is in
@@ -100,7 +97,7 @@ refused_reply content may_leave told limit events at raw office refusals.Journal
     forgone limit events at raw reply (λ h. Stands content may_leave told h office) f f' is edits.1 later
 refused_reply content may_leave told limit events at raw office refusals.JournalFull reply f f' edits (inl is) later cause =
     let what = PutReadings at raw in
-    let full : is_full limit events what ≡ true = lt-ltb limit (journal_size (accepted events ++ what ∷ [])) edits.0 in
+    let full : is_full limit events what ≡ true = edits.0 in
     let same : reply_to limit events (Some (Put at raw)) ≡ reply_bytes 409 Json None journal_full_text =
     ap (λ (b : Bool). edit_reply b (doubt events) (length (accepted events) + 1)) full in
     let next : history_after limit events (Some (Put at raw)) ≡ events =
@@ -111,8 +108,7 @@ refused_reply content may_leave told limit events at raw office refusals.Journal
       causes_none events events f f' refl later,
     )
 refused_reply content may_leave told limit events at raw office (refusals.JournalFault in_doubt) reply f f' edits is later cause =
-    let free = room limit (journal_size (accepted events ++ PutReadings at raw ∷ [])) edits.0 in
-    let done = faulted_reply content may_leave told limit events at raw office in_doubt (doubt events) f f' free refl edits.1 later
+    let done = faulted_reply content may_leave told limit events at raw office in_doubt (doubt events) f f' edits.0 refl edits.1 later
     (cause in_doubt refl) in (
       done.0,
       subst (λ (r : List ℕ). IsReply limit events (Some (Put at raw)) r done.0) (sym is) done.1,

@@ -4,6 +4,7 @@ use Rattle.std.specs.List.{concat}
 use Rattle.records.specs.declared.edits.What.{What}
 use Rattle.records.specs.declared.edits.What.TheVariants.{PutReadings}
 use Rattle.office.specs.History.{Event, doubt, faulted_count}
+use Rattle.office.specs.JournalOfEdits.{is_full}
 use Rattle.http_api.specs.declared.asks.Ask.{Ask}
 use Rattle.http_api.specs.declared.asks.Ask.TheVariants.{Put, Turn, DayOf}
 use Rattle.wire.specs.Messages.{Request, request_of, IsRequest, AreRequests}
@@ -11,7 +12,7 @@ use Rattle.wire.proofs.HeadLemmas.{request_unique_in, blank_no_request, malforme
 use Rattle.wire.specs.declared.replies.TheConstants.{NO_MEMORY_REPLY}
 use Rattle.httparse.specs.Grammar.{RequestHead}
 use Rattle.streamoffice.specs.Laws.{RepliesAreOutput, IsLast, ReadingIsUnique}
-use Rattle.streamoffice.specs.Output.{asked, reply_to, history_after, edit_by, is_full, IsReply, IsFaulted, AreReplies, output}
+use Rattle.streamoffice.specs.Output.{asked, reply_to, history_after, edit_by, IsReply, IsFaulted, AreReplies, output}
 use Rattle.streamoffice.proofs.CauseLemmas.{count_accepted, count_faulted, count_turn}
 use Rattle.streamoffice.proofs.OutputLemmas.{left_count}
 

@@ -1,9 +1,9 @@
 -- The office of one thread: what it replies to a request, and what has happened then.
-use Rattle.std.specs.Prelude.{◌≡◌, ℕ, ◌+◌, Bool, true, false, nat_lt, ◌⊎◌, List, [], ◌∷◌, ◌++◌, length, Option, Some, None, option_to_list}
+use Rattle.std.specs.Prelude.{◌≡◌, ℕ, ◌+◌, Bool, true, false, ◌⊎◌, List, [], ◌∷◌, ◌++◌, length, Option, Some, None, option_to_list}
 use Rattle.records.specs.declared.edits.What.{What}
 use Rattle.records.specs.declared.edits.What.TheVariants.{PutReadings}
 use Rattle.office.specs.History.{Event, accepted, doubt, pending_days, next_day, after_edit, after_fault, after_turn, DayAnswer, Pending, Computed, answer_at}
-use Rattle.office.specs.JournalOfEdits.{journal_size}
+use Rattle.office.specs.JournalOfEdits.{is_full, IsFull}
 use Rattle.http_api.specs.Asks.{ask_of}
 use Rattle.http_api.specs.Replies.{edit_text, turned_text, pending_text, value_text, no_route_text, journal_full_text, journal_fault_text}
 use Rattle.http_api.specs.declared.asks.Ask.{Ask}
@@ -16,10 +16,6 @@ use Rattle.wire.specs.declared.replies.TheConstants.{NO_MEMORY_REPLY}
 -- what a request asks, or nothing where it has no route
 abbrev pub asked : Request → Option Ask
 asked request = ask_of request.verb request.target
-
--- with the edit the journal would pass its limit in bytes
-abbrev pub is_full : ℕ → List Event → What → Bool
-is_full limit events what = nat_lt limit (journal_size (accepted events ++ what ∷ []))
 
 -- what has happened once an edit was answered: nothing where the journal is full or an edit is in doubt
 abbrev pub edit_by : Bool → Option What → List Event → What → List Event
@@ -73,7 +69,7 @@ output limit events (request ∷ requests) =
 abbrev pub IsFaulted : ℕ → List Event → Option Ask → List ℕ → List Event → Type 0
 IsFaulted limit events None reply next = ⊥
 IsFaulted limit events (Some (Put at raw)) reply next =
-    (is_full limit events (PutReadings at raw) ≡ false) × (doubt events ≡ None)
+    (¬ IsFull limit events (PutReadings at raw)) × (doubt events ≡ None)
     × ((in_doubt : Bool) × (reply ≡ fault_reply in_doubt) × (next ≡ after_fault events (PutReadings at raw) in_doubt))
 IsFaulted limit events (Some Turn) reply next = ⊥
 IsFaulted limit events (Some (DayOf day)) reply next = ⊥

@@ -1,7 +1,7 @@
 use Rattle.std.proofs.Common.{◌≡◌, ℕ, ◌+◌, ◌-◌, ◌^◌, ◌<◌, min, List, Option, IfSome, length, drop, slice_range, sym, ◌∙◌, subst, arith, length-drop}
 use Rattle.std.proofs.lemmas.Option.{IfSome_then}
 use Rattle.std.specs.Int.{w32, to_le_bytes}
-use Rattle.journal.specs.Gates.{HasNone}
+use Rattle.journal.specs.JournalBytes.{HasNone}
 use Rattle.journal.proofs.Lengths.{none_short, none_long, cut}
 use Rattle.journal.proofs.Stops.{both}
 use Rattle.journal.proofs.gates.payload_length.Goals as goal

@@ -1,6 +1,5 @@
 use Rattle.std.proofs.Common.{◌≡◌, ℕ, List, Some, IfSome, Option, sym, subst}
 use Rattle.devices.specs.Disks.{Only}
-use Rattle.journal.specs.Init.{IsBegun}
 use Rattle.journal.specs.JournalBytes.{empty_journal}
 use Rattle.journal.specs.Writing.{IsWritten, WasTorn}
 use Rattle.journal.proofs.Made.{made}
@@ -11,14 +10,14 @@ use Rattle.journal.proofs.making.init.Goals as goal
 pub returns-in_err-write_and_sync-clause-any_moment : goal.returns-in_err-write_and_sync-clause-any_moment
 returns-in_err-write_and_sync-clause-any_moment g c =
     let checked = c.check.ensures.disk in
-    joined g.D.Disk.moment g.D.Disk.left_since c.args.disk.now c.check.new.disk c.write_and_sync.new.disk _ _ (IsBegun (g.D.Disk.may_leave c.args.disk.now))
+    joined g.D.Disk.moment g.D.Disk.left_since c.args.disk.now c.check.new.disk c.write_and_sync.new.disk _ _ (WasTorn 0 17 (g.D.Disk.may_leave c.args.disk.now))
     checked.any_moment c.write_and_sync.ensures.any_moment (λ image left. (image, left, whole 0 17 image))
     (λ image left. (left.0, checked.images left.0 left.1, left.2))
 
 pub returns-clause-any_moment : goal.returns-clause-any_moment
 returns-clause-any_moment g c =
     let checked = c.check.ensures.disk in
-    joined g.D.Disk.moment g.D.Disk.left_since c.args.disk.now c.check.new.disk c.write_and_sync.new.disk _ _ (IsBegun (g.D.Disk.may_leave c.args.disk.now))
+    joined g.D.Disk.moment g.D.Disk.left_since c.args.disk.now c.check.new.disk c.write_and_sync.new.disk _ _ (WasTorn 0 17 (g.D.Disk.may_leave c.args.disk.now))
     checked.any_moment c.write_and_sync.ensures.any_moment (λ image left. (image, left, whole 0 17 image))
     (λ image left. (left.0, checked.images left.0 left.1, left.2))
 

@@ -4,7 +4,7 @@ use Rattle.std.proofs.Common.{arith, refl, ap, sym, subst, ◌∙◌}
 use Rattle.journal.specs.declared.keeping.AppendFault.{AppendFault}
 use Rattle.office.specs.Edits.{Edits, IsEncoded, refusal_of}
 use Rattle.office.specs.declared.records_office.Refusal.TheVariants.{NoMemory}
-use Rattle.office.proofs.EditLemmas.{is_full, not_full, doubted, fault_edited, edit_stands, same_leaves, append_leaves, does_not_fit, of_refusal}
+use Rattle.office.proofs.EditLemmas.{does_pass, not_full, doubted, fault_edited, edit_stands, same_leaves, append_leaves, does_not_fit, of_refusal}
 use Rattle.office.proofs.StandsLemmas.{settled, stands_kept}
 use Rattle.office.proofs.records_office.Office.edit.Goals as goal
 
@@ -14,7 +14,7 @@ returns-then-not-fits-clause-edited g c =
     let more : c.args.self.now.journal.limit < c.args.self.now.journal.gate + 1 + c.len.result =
     does_not_fit c.fits.result _ _ c.fits.ensures.1 c.if-not-fits.true in
     λ told events s. (
-      is_full g.D.Disk.content g.D.Disk.may_leave told events c.args.what c.in_ok-bytes.bytes c.args.self.now c.in_ok-bytes.ensures (omega arith) s,
+      does_pass g.D.Disk.content g.D.Disk.may_leave told events c.args.what c.in_ok-bytes.bytes c.args.self.now c.in_ok-bytes.ensures (omega arith) s,
       s,
     )
 

@@ -1,5 +1,5 @@
 -- How what a stop may leave goes on from call to call.
-use Rattle.std.proofs.Common.{inl, inr, ⊎_elim, ℕ, ◌≤◌, List, arith}
+use Rattle.std.proofs.Common.{inl, inr, ⊎_elim, ℕ, List, arith}
 use Rattle.std.proofs.Math.Nat.{le_refl}
 use Rattle.devices.specs.Disks.{Elapses}
 use Rattle.journal.specs.Moments.{LeavesOnly}

@@ -1,5 +1,5 @@
 -- What a stop at any moment of a call leaves.
-use Rattle.std.specs.Prelude.{◌≡◌, ◌⊎◌, ℕ, ◌≤◌, List, Option}
+use Rattle.std.specs.Prelude.{◌⊎◌, ℕ, ◌≤◌, List, Option}
 use Rattle.devices.specs.Disks.{IsUnchanged, NothingNew}
 
 -- A stop at any moment since the old one leaves an image that has P.

@@ -1,5 +1,5 @@
 -- How far a journal has been read that is being opened, and what its calls answer.
-use Rattle.std.specs.Prelude.{◌≡◌, ℕ, ◌+◌, ◌≤◌, Bool, true, false, List, [], ◌∷◌, ◌++◌, length, slice_range, Option, Some, None, IfSome, Result, Ok, Err, ⊤}
+use Rattle.std.specs.Prelude.{◌≡◌, ℕ, Bool, true, false, List, [], ◌∷◌, ◌++◌, length, Option, Some, None, IfSome, Result, Ok, Err}
 use Rattle.devices.specs.Faults.{Rose}
 use Rattle.records.specs.declared.edits.Record.{Record}
 use Rattle.journal.specs.JournalBytes.{HasHeader, AreNumbered, IsClosed, IsDamagedAt, front}

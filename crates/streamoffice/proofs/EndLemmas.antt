@@ -5,8 +5,7 @@ use Rattle.office.specs.History.{Event}
 use Rattle.wire.specs.declared.messages.Message.TheVariants as messages
 use Rattle.wire.specs.declared.replies.TheConstants.{MALFORMED_REPLY}
 use Rattle.wire.specs.Incoming.{Held, IsNext, Answers, IsWithinLimit}
-use Rattle.wire.specs.Incoming as incoming
-use Rattle.streamoffice.specs.Served.{IsCutShort, StopsWithin, AreWritten, IsUnread, Serves}
+use Rattle.streamoffice.specs.Served.{IsCutShort, StopsWithin, AreWritten, Serves}
 use Rattle.streamoffice.specs.Session.{IsServed, IsReadTo, IsUnderWay}
 use Rattle.streamoffice.specs.declared.sessions.SessionEnd.{SessionEnd}
 use Rattle.streamoffice.specs.declared.sessions.SessionEnd.TheVariants as ends
@@ -95,12 +94,6 @@ ends_at_end limit events P held held' l0 l l' w0 w u answers within =
           });
     }
 
--- what a source that failed leaves
-unread : (rest : List ℕ) (offset : ℕ) (seen after left : List ℕ) (offset' : ℕ)
-    → incoming.IsUnread rest offset seen after left offset' → IsUnread rest left
-unread rest offset seen after left offset' h =
-    record { seen = seen; taken = h.taken; none = h.none; short = h.short }
-
 -- the source failed
 pub ends_at_fault : (limit : ℕ) (events : List Event) (P : List Event → Type 0) (held held' : Held) (l0 l l' w0 w : Option (List ℕ))
     → IsUnderWay limit events P held l0 l w0 w → Answers held l messages.Failed held' l' → IsWithinLimit held l l'
@@ -119,7 +112,7 @@ ends_at_fault limit events P held held' l0 l l' w0 w u answers within =
             rest = held.ahead ++ b;
             reads = reads.reads;
             answers = u.answers;
-            ends = (unread (held.ahead ++ b) held.offset next.0.0 (held'.ahead ++ a) a held'.offset next.0.1, wrote);
+            ends = ((next.0.0, next.0.1), wrote);
             taken = taken_of input (held.offset + length (held.ahead ++ b)) (length a) reads.offset next.1;
           });
     }
@@ -149,8 +142,8 @@ ends_at_limit limit events P held held' l0 l l' w0 w u answers within =
             reads = reads.reads;
             answers = u.answers;
             ends = (
-              unread (held.ahead ++ b) held.offset next.0.0 (held'.ahead ++ a) a held'.offset next.0.1,
-              longest input (held.ahead ++ b) next.0.0 a held.offset reads.offset next.0.1.taken next.0.2,
+              (next.0.0, next.0.1),
+              longest input (held.ahead ++ b) next.0.0 a held.offset reads.offset next.0.1.taken next.0.3,
               wrote,
             );
             taken = taken_of input (held.offset + length (held.ahead ++ b)) (length a) reads.offset next.1;

@@ -2,7 +2,8 @@
 use Rattle.std.specs.Prelude.{◌≡◌, ◌≢◌, ◌⊎◌, ℕ, ◌+◌, ◌^◌, ◌<◌, ◌≤◌, Bool, true, false, Option, IfSome, IsSomeAnd, List, [], ◌∷◌, ◌++◌, length}
 use Rattle.std.specs.List.{concat}
 use Rattle.office.specs.History.{Event}
-use Rattle.wire.specs.Messages.{Request, AreRequests, IsMalformed, HasNoHead, is_blank}
+use Rattle.wire.specs.Incoming.{IsUnread}
+use Rattle.wire.specs.Messages.{Request, AreRequests, IsMalformed, is_blank}
 use Rattle.wire.specs.declared.replies.TheConstants.{MALFORMED_REPLY}
 use Rattle.streamoffice.specs.Output.{AreReplies}
 use Rattle.streamoffice.specs.declared.sessions.SessionEnd.{SessionEnd}
@@ -16,14 +17,6 @@ IsCutShort written whole = (more : List ℕ) × (more ≢ []) × (whole ≡ writ
 abbrev pub StopsWithin : List ℕ → List ℕ → List ℕ → Type 0
 StopsWithin so_far reply written = (part : List ℕ) × (written ≡ so_far ++ part) × IsCutShort part reply
 
--- Of the rest these bytes were taken. No head stands in them, and they are not as many as a head may have unless
--- they are CR and LF.
-pub record IsUnread (rest left : List ℕ) : Type 0 where
-  pub seen : List ℕ
-  pub taken : rest ≡ seen ++ left
-  pub none : HasNoHead seen
-  pub short : is_blank seen ≡ false → length seen < 8192
-
 -- How a session over an input ends: `rest` is what no request that was replied to took of the input, of which the
 -- source still has `left`, and `written` is all that the session wrote.
 abbrev pub EndsBy : SessionEnd → List ℕ → List (List ℕ) → List ℕ → List ℕ → List ℕ → Type 0
@@ -31,9 +24,9 @@ EndsBy End input replies rest left written = (is_blank rest ≡ true) × (left �
 EndsBy (Malformed at) input replies rest left written =
     IsMalformed rest × (length input ≡ at + length rest) × (written ≡ concat replies ++ MALFORMED_REPLY.now)
 EndsBy Long input replies rest left written =
-    IsUnread rest left × (length input ≡ 2 ^ 36 + length left) × (written ≡ concat replies)
+    ((seen : List ℕ) × IsUnread rest seen left) × (length input ≡ 2 ^ 36 + length left) × (written ≡ concat replies)
 EndsBy InputFault input replies rest left written =
-    IsUnread rest left × (written ≡ concat replies)
+    ((seen : List ℕ) × IsUnread rest seen left) × (written ≡ concat replies)
 EndsBy OutputFault input replies rest left written =
     ((front : List (List ℕ)) × (last : List ℕ) × (replies ≡ front ++ last ∷ []) × StopsWithin (concat front) last written)
     ⊎ (IsMalformed rest × StopsWithin (concat replies) MALFORMED_REPLY.now written)

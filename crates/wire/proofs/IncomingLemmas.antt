@@ -12,7 +12,7 @@ use Rattle.wire.specs.declared.framing.Head.{Head}
 use Rattle.wire.specs.declared.incoming.Front.TheVariants as fronts
 use Rattle.wire.specs.Found.{IsHeadAt}
 use Rattle.wire.specs.Messages.{is_blank, HasNoHead, IsRequest, IsMalformed}
-use Rattle.wire.specs.Incoming.{Held, Passes, IsUnread}
+use Rattle.wire.specs.Incoming.{Held, Passes, IsUnread, Stays}
 use Rattle.wire.specs.Looking.{IsRequestAt, IsBlankWindow, Looks, HasGrown}
 use Rattle.wire.proofs.HeadLemmas.{has_head, found_splits, head_has_length, malformed_head, malformed_no_head, not_blank_more, blank_no_head, blank_full_no_head}
 
@@ -178,26 +178,26 @@ not_blank_window seen more visible =
 -- no head stands in the bytes at hand, and all of them stay
 pub unread_ahead : (rest ahead after left between : List ℕ) (offset offset' : ℕ) → rest ≡ ahead ++ between → left ≡ between
     → HasNoHead ahead → length ahead < 8192 → after ≡ ahead ++ left → offset' ≡ offset
-    → IsUnread rest offset ahead after left offset'
+    → IsUnread rest ahead left × Stays rest offset after offset'
 unread_ahead rest ahead after left between offset offset' splits same none short stays moved =
-    let whole : rest ≡ ahead ++ left = splits ∙ ap (λ (xs : List ℕ). ahead ++ xs) (sym same) in record {
-      taken = whole;
-      none = none;
-      short = λ _. short;
-      stays = ([], refl, whole ∙ sym stays, omega (arith, moved));
-    }
+    let whole : rest ≡ ahead ++ left = splits ∙ ap (λ (xs : List ℕ). ahead ++ xs) (sym same) in (
+      record { taken = whole; none = none; short = λ _. short },
+      ([], refl, whole ∙ sym stays, omega (arith, moved)),
+    )
 
 -- blank bytes were skipped, and nothing is at hand
 pub unread_blank : (rest blank after left between : List ℕ) (offset offset' : ℕ) → rest ≡ blank ++ between → left ≡ between
     → is_blank blank ≡ true → after ≡ left → offset' ≡ offset + length blank
-    → IsUnread rest offset blank after left offset'
+    → IsUnread rest blank left × Stays rest offset after offset'
 unread_blank rest blank after left between offset offset' splits same skipped stays moved =
-    let whole : rest ≡ blank ++ left = splits ∙ ap (λ (xs : List ℕ). blank ++ xs) (sym same) in record {
-      taken = whole;
-      none = blank_no_head blank skipped;
-      short = λ visible. absurd (true≢false (sym skipped ∙ visible));
-      stays = (blank, skipped, whole ∙ ap (λ (xs : List ℕ). blank ++ xs) (sym stays), moved);
-    }
+    let whole : rest ≡ blank ++ left = splits ∙ ap (λ (xs : List ℕ). blank ++ xs) (sym same) in (
+      record {
+        taken = whole;
+        none = blank_no_head blank skipped;
+        short = λ visible. absurd (true≢false (sym skipped ∙ visible));
+      },
+      (blank, skipped, whole ∙ ap (λ (xs : List ℕ). blank ++ xs) (sym stays), moved),
+    )
 
 -- ---- the limit
 

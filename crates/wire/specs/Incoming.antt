@@ -21,12 +21,16 @@ Passes rest offset head after offset' =
     IsRequest rest head after × (offset' ≡ offset + length (print_request head))
 
 -- Of the rest these bytes were taken. No head stands in them, and they are not as many as a head may have
--- unless they are CR and LF. They stay at hand for the next call, but for CR and LF at their front.
-pub record IsUnread (rest : List ℕ) (offset : ℕ) (seen after left : List ℕ) (offset' : ℕ) : Type 0 where
+-- unless they are CR and LF.
+pub record IsUnread (rest seen left : List ℕ) : Type 0 where
   pub taken : rest ≡ seen ++ left
   pub none : HasNoHead seen
   pub short : is_blank seen ≡ false → length seen < 8192
-  pub stays : (blank : List ℕ) × (is_blank blank ≡ true) × (rest ≡ blank ++ after) × (offset' ≡ offset + length blank)
+
+-- the rest stays for the next call, but for CR and LF at its front
+abbrev pub Stays : List ℕ → ℕ → List ℕ → ℕ → Type 0
+Stays rest offset after offset' =
+    (blank : List ℕ) × (is_blank blank ≡ true) × (rest ≡ blank ++ after) × (offset' ≡ offset + length blank)
 
 -- The message for the rest of a stream that begins at the offset; then what is left of the rest, what of
 -- it the source still has, and the new offset. Want of memory skips a request; a source that fails and the
@@ -40,9 +44,9 @@ IsNext rest offset messages.NoMemory after left offset' =
 IsNext rest offset messages.End after left offset' = (is_blank rest ≡ true) × (left ≡ [])
 IsNext rest offset (messages.Malformed at) after left offset' = IsMalformed rest × (at ≡ offset)
 IsNext rest offset messages.Long after left offset' =
-    (seen : List ℕ) × IsUnread rest offset seen after left offset' × (offset + length seen ≡ 2 ^ 36)
+    (seen : List ℕ) × IsUnread rest seen left × Stays rest offset after offset' × (offset + length seen ≡ 2 ^ 36)
 IsNext rest offset messages.Failed after left offset' =
-    (seen : List ℕ) × IsUnread rest offset seen after left offset'
+    (seen : List ℕ) × IsUnread rest seen left × Stays rest offset after offset'
 
 -- what a reader answers where the source tells the bytes that are left
 abbrev pub Answers : Held → Option (List ℕ) → Message → Held → Option (List ℕ) → Type 0

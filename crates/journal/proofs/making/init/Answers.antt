@@ -1,8 +1,8 @@
-use Rattle.std.proofs.Common.{◌≡◌, ℕ, List, Some, IfSome, Option, sym, subst}
-use Rattle.devices.specs.Disks.{Only}
+use Rattle.std.proofs.Common.{ℕ, List, Option, subst}
+use Rattle.journal.specs.Init.{IsLeftByInit}
 use Rattle.journal.specs.JournalBytes.{empty_journal}
 use Rattle.journal.specs.Writing.{IsWritten, WasTorn}
-use Rattle.journal.proofs.Made.{made}
+use Rattle.journal.proofs.Made.{made, left_before, left_torn}
 use Rattle.journal.proofs.Moments.{joined}
 use Rattle.journal.proofs.Stops.{whole}
 use Rattle.journal.proofs.making.init.Goals as goal
@@ -10,9 +10,10 @@ use Rattle.journal.proofs.making.init.Goals as goal
 pub returns-in_err-write_and_sync-clause-any_moment : goal.returns-in_err-write_and_sync-clause-any_moment
 returns-in_err-write_and_sync-clause-any_moment g c =
     let checked = c.check.ensures.disk in
-    joined g.D.Disk.moment g.D.Disk.left_since c.args.disk.now c.check.new.disk c.write_and_sync.new.disk _ _ (WasTorn 0 17 (g.D.Disk.may_leave c.args.disk.now))
-    checked.any_moment c.write_and_sync.ensures.any_moment (λ image left. (image, left, whole 0 17 image))
-    (λ image left. (left.0, checked.images left.0 left.1, left.2))
+    let result = c.from_residual-in_err-write_and_sync.result in
+    joined g.D.Disk.moment g.D.Disk.left_since c.args.disk.now c.check.new.disk c.write_and_sync.new.disk _ _ (IsLeftByInit (g.D.Disk.may_leave c.args.disk.now) result)
+    checked.any_moment c.write_and_sync.ensures.any_moment (left_before (g.D.Disk.may_leave c.args.disk.now) result)
+    (λ image left. left_torn (g.D.Disk.may_leave c.args.disk.now) result image c.from_residual-in_err-write_and_sync.ensures.1 (left.0, checked.images left.0 left.1, left.2))
 
 pub returns-clause-any_moment : goal.returns-clause-any_moment
 returns-clause-any_moment g c =

@@ -1,4 +1,4 @@
-use Rattle.std.proofs.Common.{◌≡◌, ℕ, List, length}
+use Rattle.std.proofs.Common.{length}
 use Rattle.journal.specs.Writing.{WasTorn}
 use Rattle.journal.proofs.Moments.{stepped, joined}
 use Rattle.journal.proofs.Stops.{whole}

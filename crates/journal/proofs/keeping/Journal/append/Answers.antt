@@ -1,13 +1,12 @@
-use Rattle.std.proofs.Common.{rules, ◌≡◌, inl, inr, ℕ, ◌+◌, ◌≤◌, false, true, [], ◌∷◌, ◌++◌, List, length, Some, None, IfSome, refl, sym, ◌∙◌, ap, subst, arith, length-append}
+use Rattle.std.proofs.Common.{rules, ◌≡◌, inl, ℕ, ◌+◌, ◌≤◌, [], ◌∷◌, ◌++◌, List, length, Some, IfSome, refl, sym, ◌∙◌, ap, subst, arith, length-append}
 use Rattle.std.proofs.lemmas.Option.{IfSome_then}
-use Rattle.devices.specs.Disks.{Torn}
 use Rattle.records.specs.Payloads.{encoded}
 use Rattle.records.specs.declared.edits.Record.{Record}
 use Rattle.journal.specs.JournalBytes.{IsJournalOf, StandsFor, front}
 use Rattle.journal.specs.Writing.{WasTorn}
 use Rattle.journal.proofs.Moments.{joined, widened}
 use Rattle.journal.proofs.Stages.{Staged, length_front-push}
-use Rattle.journal.proofs.Stops.{failed, succeeded, length_torn, length_written, length_kept, told_torn, told_written, here, first_images, first_done, first_content, second_images, second_done, durable}
+use Rattle.journal.proofs.Stops.{failed, succeeded, length_torn, length_kept, told_torn, told_written, here, first_images, first_done, first_content, second_images, second_done, durable}
 use Rattle.journal.proofs.keeping.Journal.append.Goals as goal
 
 below : (gate : ℕ) (old : List ℕ) → gate + 1 ≤ length old → gate ≤ length old

@@ -1,14 +1,12 @@
-use Rattle.std.proofs.Common.{rules, ◌≡◌, ℕ, ◌+◌, ◌≤◌, true, List, [], ◌∷◌, ◌++◌, length, drop, slice_range, Option, IfSome, Result, Ok, Err, refl, sym, ◌∙◌, ap, subst, arith, length-append}
-use Rattle.std.specs.Int.{w32, to_le_bytes}
-use Rattle.std.proofs.lemmas.Option.{IfSome_then}
+use Rattle.std.proofs.Common.{rules, ◌≡◌, ℕ, ◌+◌, true, List, [], ◌∷◌, ◌++◌, length, drop, slice_range, Option, IfSome, Result, Ok, Err, refl, sym, ◌∙◌, subst, arith, length-append}
 use Rattle.records.specs.declared.edits.Record.{Record}
 use Rattle.journal.specs.declared.opening.Opening.{Opening}
 use Rattle.journal.specs.declared.read_ahead.Unread.{Unread}
 use Rattle.journal.specs.declared.read_ahead.Unread.TheVariants.{Fault, NoRecord, NoMemory}
-use Rattle.journal.specs.JournalBytes.{IsNumbered, IsDamagedAt, front}
+use Rattle.journal.specs.JournalBytes.{IsNumbered, IsDamagedAt}
 use Rattle.journal.specs.Gates.{IsGate, IsLength, IsPayload}
 use Rattle.journal.specs.Reading.{HasRead, Finds}
-use Rattle.journal.proofs.Found.{Begins, closed, missing, nothing, another, one_more, next_gate}
+use Rattle.journal.proofs.Found.{Begins, nothing, another, one_more, next_gate}
 use Rattle.journal.proofs.Stages.{numbered-push}
 use Rattle.journal.proofs.Stops.{three, four, moved}
 use Rattle.journal.proofs.opening.Opening.read_on.Goals as goal

@@ -1,5 +1,5 @@
 use Rattle.std.proofs.Common.{◌≡◌, ℕ, ◌+◌, ◌^◌, ◌<◌, ◌≤◌, List, [], ◌++◌, length, take, refl, sym, ap, ◌∙◌, subst, arith}
-use Rattle.wire.specs.Incoming.{Held, IsNext, IsUnread}
+use Rattle.wire.specs.Incoming.{Held, IsNext, IsUnread, Stays}
 use Rattle.wire.specs.Messages.{HasNoHead}
 use Rattle.wire.proofs.HeadLemmas.{blank_no_head}
 use Rattle.wire.proofs.IncomingLemmas.{told_self, told_maps, told_joins, unread_ahead, within_rest}
@@ -80,9 +80,11 @@ returns-in-Long-clause-answer g c =
     told_joins (g.S.Source.left c.args.source.now) (g.S.Source.left c.loop-head.source) (g.S.Source.left c.fill.new.source)
     (λ b m. old.ahead ++ b ≡ now.ahead ++ m) (λ m a. a ≡ m)
     (λ b a.
-    (seen : List ℕ) × IsUnread (old.ahead ++ b) old.offset seen (new.ahead ++ a) a new.offset
+    (seen : List ℕ) × IsUnread (old.ahead ++ b) seen a × Stays (old.ahead ++ b) old.offset (new.ahead ++ a) new.offset
     × (old.offset + length seen ≡ 2 ^ 36))
-    (λ b m a p q. (now.ahead, unread_ahead (old.ahead ++ b) now.ahead (new.ahead ++ a) a m old.offset new.offset p q none short (stays a) moved, count))
+    (λ b m a p q.
+    let unread = unread_ahead (old.ahead ++ b) now.ahead (new.ahead ++ a) a m old.offset new.offset p q none short (stays a) moved in
+    (now.ahead, unread.0, unread.1, count))
     c.loop-head.invariant.rest c.in-Long.ensures.kept
 
 pub returns-in-Failed-clause-answer : goal.returns-in-Failed-clause-answer
@@ -96,8 +98,10 @@ returns-in-Failed-clause-answer g c =
     let moved : new.offset ≡ old.offset = ap (λ (h : Held). h.offset) c.in-Failed.ensures.filled ∙ c.loop-head.invariant.offset in
     told_joins (g.S.Source.left c.args.source.now) (g.S.Source.left c.loop-head.source) (g.S.Source.left c.fill.new.source)
     (λ b m. old.ahead ++ b ≡ now.ahead ++ m) (λ m a. a ≡ m)
-    (λ b a. (seen : List ℕ) × IsUnread (old.ahead ++ b) old.offset seen (new.ahead ++ a) a new.offset)
-    (λ b m a p q. (now.ahead, unread_ahead (old.ahead ++ b) now.ahead (new.ahead ++ a) a m old.offset new.offset p q none short (stays a) moved))
+    (λ b a. (seen : List ℕ) × IsUnread (old.ahead ++ b) seen a × Stays (old.ahead ++ b) old.offset (new.ahead ++ a) new.offset)
+    (λ b m a p q.
+    let unread = unread_ahead (old.ahead ++ b) now.ahead (new.ahead ++ a) a m old.offset new.offset p q none short (stays a) moved in
+    (now.ahead, unread.0, unread.1))
     c.loop-head.invariant.rest c.in-Failed.ensures.kept
 
 pub returns-in-Request-clause-within : goal.returns-in-Request-clause-within

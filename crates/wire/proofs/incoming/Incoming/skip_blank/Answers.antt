@@ -1,6 +1,6 @@
 use Rattle.std.proofs.Common.{◌≡◌, ℕ, ◌+◌, ◌-◌, ◌^◌, ◌≤◌, true, false, List, [], ◌++◌, length, drop, refl, sym, ap, ◌∙◌, subst, arith, append_assoc, length-append}
 use Rattle.std.proofs.lemmas.List.{length-take}
-use Rattle.wire.specs.Incoming.{Held, taken, IsUnread}
+use Rattle.wire.specs.Incoming.{Held, taken, IsUnread, Stays}
 use Rattle.wire.specs.Messages.{is_blank, IsMalformed}
 use Rattle.wire.proofs.IncomingLemmas.{told_self, told_maps, told_joins, blank-append, blank_window_more, malformed_behind, unread_blank, within_skipped}
 use Rattle.wire.proofs.incoming.Incoming.skip_blank.Goals as goal
@@ -87,15 +87,12 @@ returns-in-Long-clause-answer g c =
     told_joins (g.S.Source.left c.args.source.now) (g.S.Source.left c.loop-self.source) (g.S.Source.left c.fill.new.source)
     (λ b m. old.ahead ++ b ≡ so_far.0 ++ (now.ahead ++ m)) (λ m a. a ≡ m)
     (λ b a.
-    (seen : List ℕ) × IsUnread (old.ahead ++ b) old.offset seen (new.ahead ++ a) a new.offset
+    (seen : List ℕ) × IsUnread (old.ahead ++ b) seen a × Stays (old.ahead ++ b) old.offset (new.ahead ++ a) new.offset
     × (old.offset + length seen ≡ 2 ^ 36))
-    (λ b m a p q. (
-      seen,
-      unread_blank (old.ahead ++ b) seen (new.ahead ++ a) a m old.offset new.offset
-          (p ∙ sym (append_assoc so_far.0 now.ahead m)) q (blank-append so_far.0 now.ahead so_far.2 blank)
-          (ap (λ (h : Held). h.ahead ++ a) left) moved,
-      count,
-    ))
+    (λ b m a p q.
+    let unread = unread_blank (old.ahead ++ b) seen (new.ahead ++ a) a m old.offset new.offset
+    (p ∙ sym (append_assoc so_far.0 now.ahead m)) q (blank-append so_far.0 now.ahead so_far.2 blank)
+    (ap (λ (h : Held). h.ahead ++ a) left) moved in (seen, unread.0, unread.1, count))
     so_far.4 c.in-Long.ensures.kept
 
 pub returns-in-Failed-clause-answer : goal.returns-in-Failed-clause-answer
@@ -118,13 +115,11 @@ returns-in-Failed-clause-answer g c =
     told_joins (g.S.Source.left c.args.source.now) (g.S.Source.left c.loop-self.source) (g.S.Source.left c.fill.new.source)
     (λ b m. old.ahead ++ b ≡ so_far.0 ++ (now.ahead ++ m)) (λ m a. a ≡ m)
     (λ b a.
-    (seen : List ℕ) × IsUnread (old.ahead ++ b) old.offset seen (new.ahead ++ a) a new.offset)
-    (λ b m a p q. (
-      seen,
-      unread_blank (old.ahead ++ b) seen (new.ahead ++ a) a m old.offset new.offset
-          (p ∙ sym (append_assoc so_far.0 now.ahead m)) q (blank-append so_far.0 now.ahead so_far.2 blank)
-          (ap (λ (h : Held). h.ahead ++ a) left) moved,
-    ))
+    (seen : List ℕ) × IsUnread (old.ahead ++ b) seen a × Stays (old.ahead ++ b) old.offset (new.ahead ++ a) new.offset)
+    (λ b m a p q.
+    let unread = unread_blank (old.ahead ++ b) seen (new.ahead ++ a) a m old.offset new.offset
+    (p ∙ sym (append_assoc so_far.0 now.ahead m)) q (blank-append so_far.0 now.ahead so_far.2 blank)
+    (ap (λ (h : Held). h.ahead ++ a) left) moved in (seen, unread.0, unread.1))
     so_far.4 c.in-Failed.ensures.kept
 
 pub returns-clause-answer : goal.returns-clause-answer

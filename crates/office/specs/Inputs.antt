@@ -1,6 +1,6 @@
 -- The inputs in force: a fold over the accepted edits.
 use Rattle.std.specs.Prelude.{List, [], fold, ℤ, All}
-use Rattle.fixed_units.specs.Quantities.{IsStage, IsStamp}
+use Rattle.fixed_units.specs.Quantities.{IsStage}
 use Rattle.fixed_units.specs.RoundingArray.{stage_array}
 use Rattle.fixed_units.specs.declared.readings.Reading.{Reading}
 use Rattle.fixed_units.specs.declared.readings.Flag.TheVariants.{Usable}

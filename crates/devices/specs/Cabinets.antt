@@ -27,40 +27,47 @@ abbrev pub AllStay : {D : Type 0} → (List ℕ → Place D) → (List ℕ → P
 AllStay before after = (other : List ℕ) → after other ≡ before other
 
 -- The disk that is given is the one that was kept, but that its count of faults is 0: it has the same content, a stop may
--- leave the same, and it had the same calls.
+-- leave the same, and it had the same calls. Its clock goes on: it is the same moment, and a stop since any moment might
+-- have left the same.
 pub record IsSameDisk {D : Type 0}
-    (content : D → Option (List ℕ)) (may_leave : D → List ℕ → Type 0) (calls : D → List Bool) (old new : D) : Type 0 where
+    (content : D → Option (List ℕ)) (may_leave : D → List ℕ → Type 0) (moment : D → ℕ) (left_since : D → ℕ → List ℕ → Type 0)
+    (calls : D → List Bool) (old new : D) : Type 0 where
   pub same : content new ≡ content old
   pub images : NothingNew (may_leave old) (may_leave new)
   pub again : NothingNew (may_leave new) (may_leave old)
+  pub moment_is : moment new ≡ moment old
+  pub since : (from : ℕ) → NothingNew (left_since old from) (left_since new from)
+  pub since_again : (from : ℕ) → NothingNew (left_since new from) (left_since old from)
   pub listed : calls new ≡ calls old
 
--- a disk that was made: it has no bytes, and a stop leaves none
+-- a disk that was made: it has no bytes, a stop leaves none, and at no moment so far did a stop leave any
 pub record IsEmptyDisk {D : Type 0}
-    (content : D → Option (List ℕ)) (may_leave : D → List ℕ → Type 0) (disk : D) : Type 0 where
+    (content : D → Option (List ℕ)) (may_leave : D → List ℕ → Type 0) (left_since : D → ℕ → List ℕ → Type 0) (disk : D) : Type 0 where
   pub none : content disk ≡ Some []
   pub images : Only [] (may_leave disk)
+  pub since : (from : ℕ) → Only [] (left_since disk from)
 
 -- what stood under the name is given, or a disk is made where none stood
-abbrev pub IsGiven : {D : Type 0} → (D → Option (List ℕ)) → (D → List ℕ → Type 0) → (D → List Bool) → Bool → Place D → D → Type 0
-IsGiven content may_leave calls make Free disk = (make ≡ true) × IsEmptyDisk content may_leave disk
-IsGiven content may_leave calls make (Kept held) disk = IsSameDisk content may_leave calls held disk
-IsGiven content may_leave calls make Out disk = (make ≡ true) × IsEmptyDisk content may_leave disk
+abbrev pub IsGiven : {D : Type 0} → (D → Option (List ℕ)) → (D → List ℕ → Type 0) → (D → ℕ) → (D → ℕ → List ℕ → Type 0) → (D → List Bool)
+    → Bool → Place D → D → Type 0
+IsGiven content may_leave moment left_since calls make Free disk = (make ≡ true) × IsEmptyDisk content may_leave left_since disk
+IsGiven content may_leave moment left_since calls make (Kept held) disk = IsSameDisk content may_leave moment left_since calls held disk
+IsGiven content may_leave moment left_since calls make Out disk = (make ≡ true) × IsEmptyDisk content may_leave left_since disk
 
-abbrev pub Opens : {D : Type 0} → (D → Option (List ℕ)) → (D → List ℕ → Type 0) → (D → List Bool)
+abbrev pub Opens : {D : Type 0} → (D → Option (List ℕ)) → (D → List ℕ → Type 0) → (D → ℕ) → (D → ℕ → List ℕ → Type 0) → (D → List Bool)
     → List ℕ → Bool → (List ℕ → Place D) → (List ℕ → Place D) → Opened D → Type 0
-Opens content may_leave calls name make before after (Disk disk) =
-    IsGiven content may_leave calls make (before name) disk × (after name ≡ Out) × OthersStay name before after
-Opens content may_leave calls name make before after Absent =
+Opens content may_leave moment left_since calls name make before after (Disk disk) =
+    IsGiven content may_leave moment left_since calls make (before name) disk × (after name ≡ Out) × OthersStay name before after
+Opens content may_leave moment left_since calls name make before after Absent =
     (make ≡ false) × (is_kept (before name) ≡ false) × AllStay before after
-Opens content may_leave calls name make before after Failed = AllStay before after
+Opens content may_leave moment left_since calls name make before after Failed = AllStay before after
 
 -- a cabinet that tells what it has goes on telling it; one that tells nothing goes on telling nothing
-abbrev pub IsOpened : {D : Type 0} → (D → Option (List ℕ)) → (D → List ℕ → Type 0) → (D → List Bool)
+abbrev pub IsOpened : {D : Type 0} → (D → Option (List ℕ)) → (D → List ℕ → Type 0) → (D → ℕ) → (D → ℕ → List ℕ → Type 0) → (D → List Bool)
     → List ℕ → Bool → Option (List ℕ → Place D) → Option (List ℕ → Place D) → Opened D → Type 0
-IsOpened content may_leave calls name make None after opened = after ≡ None
-IsOpened content may_leave calls name make (Some before) after opened =
-    IsSomeAnd after (λ a. Opens content may_leave calls name make before a opened)
+IsOpened content may_leave moment left_since calls name make None after opened = after ≡ None
+IsOpened content may_leave moment left_since calls name make (Some before) after opened =
+    IsSomeAnd after (λ a. Opens content may_leave moment left_since calls name make before a opened)
 
 -- no disk is absent that was to be made
 abbrev pub IsAsked : {D : Type 0} → Bool → Opened D → Type 0

@@ -26,9 +26,10 @@ pub trait Cabinet {
     /// How many faults there were. The count never falls and stands still at the end of a `u64`.
     ghost faults: { Self → ℕ };
 
-    /// Takes out the disk under a name. Where there is none, makes a disk of length 0 if `make` says so.
+    /// Takes out the disk under a name, which goes on by its clock. Where there is none, makes a disk of length 0 if `make`
+    /// says so.
     fn open(&mut self, name: &str, make: bool) -> Opened<Self::Disk>
-        ensures opened { IsOpened Self.Disk.content Self.Disk.may_leave Self.Disk.calls name.now make (places self.old) (places self.new) result }
+        ensures opened { IsOpened Self.Disk.content Self.Disk.may_leave Self.Disk.moment Self.Disk.left_since Self.Disk.calls name.now make (places self.old) (places self.new) result }
         ensures asked { IsAsked make result }
         ensures fresh { IsFresh Self.Disk.faults result }
         ensures counted { faults self.old ≤ faults self.new }

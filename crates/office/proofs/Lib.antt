@@ -16,4 +16,5 @@ pub mod PendingLemmas
 pub mod ReplayLemmas
 pub mod StandsLemmas
 pub mod StationLemmas
+pub mod StopsLemmas
 pub mod TurnLemmas

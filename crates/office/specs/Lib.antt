@@ -13,3 +13,4 @@ pub mod Opened
 pub mod Ready
 pub mod Replay
 pub mod Stands
+pub mod Stops

@@ -6,6 +6,7 @@ pub mod FaultLemmas
 pub mod LawLemmas
 pub mod MakingLemmas
 pub mod OutputLemmas
+pub mod PassingLemmas
 pub mod PlaceLemmas
 pub mod ServingLemmas
 pub mod SessionLemmas

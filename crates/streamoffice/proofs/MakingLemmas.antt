@@ -1,18 +1,20 @@
 -- How the making of a journal ends.
-use Rattle.std.proofs.Common.{◌≡◌, ℕ, ◌≤◌, Bool, true, List, [], Option, Some, None, IfSome, IsSomeAnd, Result, Ok, Err, refl, sym, ◌∙◌, ap, subst, inl, inr}
-use Rattle.devices.specs.Cabinets.{Place, Free, Kept, Out, AllStay, IsGiven, IsOpened, IsKept, IsCounted}
+use Rattle.std.proofs.Common.{◌≡◌, ℕ, ◌≤◌, Bool, true, List, [], Option, Some, None, IfSome, Result, Ok, Err, refl, sym, subst, inl, inr, ⊎_elim, arith}
+use Rattle.devices.specs.Cabinets.{Place, Free, Kept, Out, IsEmptyDisk, IsGiven, IsOpened, IsKept, IsCounted}
 use Rattle.devices.specs.Disks.{NothingNew}
 use Rattle.devices.specs.Faults.{Rose}
 use Rattle.devices.specs.declared.cabinets.Opened.TheVariants as opens
-use Rattle.journal.specs.Init.{InitAnswers, InitLeaves}
+use Rattle.journal.proofs.Moments.{widened}
+use Rattle.journal.proofs.Stops.{whole}
+use Rattle.journal.specs.Init.{InitAnswers, InitLeaves, IsLeftByInit}
+use Rattle.journal.specs.Moments.{LeavesOnly}
 use Rattle.journal.specs.declared.making.InitFault.{InitFault}
 use Rattle.journal.specs.declared.making.InitFault.TheVariants as making
-use Rattle.streamoffice.specs.Making.{MakesOn, MakesAt, Makes, IsMakingEnd}
-use Rattle.streamoffice.specs.Places.{HasKept, bytes_found, images_found}
+use Rattle.streamoffice.specs.Making.{MakesOn, IsLeftByMaking, MakesAt, Makes, IsMakingEnd}
 use Rattle.streamoffice.specs.RunEnds.{making_end}
 use Rattle.streamoffice.specs.declared.commands.RunEnd.{RunEnd}
 use Rattle.streamoffice.specs.declared.commands.RunEnd.TheVariants as ends
-use Rattle.streamoffice.proofs.PlaceLemmas.{opened_and_kept, all_stay, rose_kept}
+use Rattle.streamoffice.proofs.PlaceLemmas.{opened_and_kept, leaves_kept, all_stay, rose_kept}
 
 -- the end says what `init` answered
 made_by : {D T : Type 0} (content : D → Option (List ℕ)) (may_leave : D → List ℕ → Type 0) (bytes : List ℕ) (images : List ℕ → Type 0)
@@ -45,45 +47,106 @@ making_ends {T} made end f f' is cause = subst (λ (e : RunEnd). IsMakingEnd e f
     by_answer (Err making.Fault) cause = cause refl
 
 -- no more images may be left than these
-widened : {D : Type 0} (content : D → Option (List ℕ)) (may_leave : D → List ℕ → Type 0) (bytes : List ℕ)
+more_images : {D : Type 0} (content : D → Option (List ℕ)) (may_leave : D → List ℕ → Type 0) (bytes : List ℕ)
     (few many : List ℕ → Type 0) (end : RunEnd) (disk : D) → NothingNew many few
     → MakesOn content may_leave bytes few end disk → MakesOn content may_leave bytes many end disk
-widened content may_leave bytes few many ends.Made disk wider h = h
-widened content may_leave bytes few many ends.Exists disk wider h = (h.0, (h.1.0, λ image left. wider image (h.1.1 image left)))
-widened content may_leave bytes few many ends.NotAJournal disk wider h = (h.0, (h.1.0, λ image left. wider image (h.1.1 image left)))
-widened content may_leave bytes few many ends.DiskFault disk wider h = h
-widened content may_leave bytes few many (ends.Served end) disk wider h = absurd h
-widened content may_leave bytes few many (ends.Damaged at) disk wider h = absurd h
-widened content may_leave bytes few many ends.NoMemory disk wider h = absurd h
+more_images content may_leave bytes few many ends.Made disk wider h = h
+more_images content may_leave bytes few many ends.Exists disk wider h = (h.0, (h.1.0, λ image left. wider image (h.1.1 image left)))
+more_images content may_leave bytes few many ends.NotAJournal disk wider h = (h.0, (h.1.0, λ image left. wider image (h.1.1 image left)))
+more_images content may_leave bytes few many ends.DiskFault disk wider h = h
+more_images content may_leave bytes few many (ends.Served end) disk wider h = absurd h
+more_images content may_leave bytes few many (ends.Damaged at) disk wider h = absurd h
+more_images content may_leave bytes few many ends.NoMemory disk wider h = absurd h
 
-widened_if : {D : Type 0} (content : D → Option (List ℕ)) (may_leave : D → List ℕ → Type 0) (o : Option (List ℕ))
+more_images_if : {D : Type 0} (content : D → Option (List ℕ)) (may_leave : D → List ℕ → Type 0) (o : Option (List ℕ))
     (few many : List ℕ → Type 0) (end : RunEnd) (disk : D) → NothingNew many few
     → IfSome o (λ bytes. MakesOn content may_leave bytes few end disk) → IfSome o (λ bytes. MakesOn content may_leave bytes many end disk)
-widened_if content may_leave None few many end disk wider h = tt
-widened_if content may_leave (Some bytes) few many end disk wider h = widened content may_leave bytes few many end disk wider h
+more_images_if content may_leave None few many end disk wider h = tt
+more_images_if content may_leave (Some bytes) few many end disk wider h = more_images content may_leave bytes few many end disk wider h
+
+-- what a stop leaves of the making, by its end
+left_by : {T : Type 0} (images : List ℕ → Type 0) (made : Result T InitFault) (image : List ℕ)
+    → IsLeftByInit images made image → IsLeftByMaking images (making_end made) image
+left_by images (Ok done) image h = h
+left_by images (Err making.Exists) image h = h
+left_by images (Err making.NotAJournal) image h = h
+left_by images (Err making.Fault) image h = h
+
+pub leaves_on : {D T : Type 0} (moment : D → ℕ) (left_since : D → ℕ → List ℕ → Type 0) (images : List ℕ → Type 0) (made : Result T InitFault)
+    (end : RunEnd) (old new : D) → end ≡ making_end made → LeavesOnly moment left_since old new (IsLeftByInit images made)
+    → LeavesOnly moment left_since old new (IsLeftByMaking images end)
+leaves_on moment left_since images made end old new is leaves =
+    subst (λ (e : RunEnd). LeavesOnly moment left_since old new (IsLeftByMaking images e)) (sym is)
+    (widened moment left_since old new (IsLeftByInit images made) (IsLeftByMaking images (making_end made)) leaves (left_by images made))
+
+-- of more images a stop may leave more
+left_more : (few many : List ℕ → Type 0) (end : RunEnd) (image : List ℕ) → NothingNew many few
+    → IsLeftByMaking few end image → IsLeftByMaking many end image
+left_more few many ends.Made image wider h = (h.0, wider h.0 h.1, h.2)
+left_more few many ends.Exists image wider h = wider image h
+left_more few many ends.NotAJournal image wider h = wider image h
+left_more few many ends.DiskFault image wider h = (h.0, wider h.0 h.1, h.2)
+left_more few many (ends.Served end) image wider h = absurd h
+left_more few many (ends.Damaged at) image wider h = absurd h
+left_more few many ends.NoMemory image wider h = absurd h
+
+-- what might have been left before may be left at each end that a making has
+left_before : {D : Type 0} (content : D → Option (List ℕ)) (may_leave : D → List ℕ → Type 0) (bytes : List ℕ) (images all : List ℕ → Type 0)
+    (end : RunEnd) (left : D) (image : List ℕ) → MakesOn content may_leave bytes images end left → all image → IsLeftByMaking all end image
+left_before content may_leave bytes images all ends.Made left image makes h = (image, h, whole 0 17 image)
+left_before content may_leave bytes images all ends.Exists left image makes h = h
+left_before content may_leave bytes images all ends.NotAJournal left image makes h = h
+left_before content may_leave bytes images all ends.DiskFault left image makes h = (image, h, whole 0 17 image)
+left_before content may_leave bytes images all (ends.Served end) left image makes h = absurd makes
+left_before content may_leave bytes images all (ends.Damaged at) left image makes h = absurd makes
+left_before content may_leave bytes images all ends.NoMemory left image makes h = absurd makes
+
+-- a disk that was made left no bytes before
+leaves_made : {D : Type 0} (content : D → Option (List ℕ)) (may_leave : D → List ℕ → Type 0) (moment : D → ℕ)
+    (left_since : D → ℕ → List ℕ → Type 0) (end : RunEnd) (disk left : D) → IsEmptyDisk content may_leave left_since disk
+    → MakesOn content may_leave [] (λ image. image ≡ []) end left
+    → LeavesOnly moment left_since disk left (IsLeftByMaking (may_leave disk) end)
+    → (image : List ℕ) → left_since left 0 image → IsLeftByMaking (λ image. image ≡ []) end image
+leaves_made content may_leave moment left_since end disk left empty makes leaves image k =
+    ⊎_elim
+    (λ was. left_before content may_leave [] (λ image. image ≡ []) (λ image. image ≡ []) end left image makes (empty.since 0 image was))
+    (λ now. left_more (may_leave disk) (λ image. image ≡ []) end image empty.images now)
+    (leaves.before 0 image (omega arith) k)
 
 -- what was made on the disk that was given is made at its place
-made_at : {D : Type 0} (content : D → Option (List ℕ)) (may_leave : D → List ℕ → Type 0) (calls : D → List Bool) (end : RunEnd)
-    (disk left : D) → IfSome (content disk) (λ bytes. MakesOn content may_leave bytes (may_leave disk) end left)
-    → (place : Place D) → IsGiven content may_leave calls true place disk → MakesAt content may_leave end place (Kept left)
-made_at content may_leave calls end disk left makes Free given =
-    inr (widened_if content may_leave (Some []) (may_leave disk) (images_found may_leave Free) end left given.1.images
-    (subst (λ (o : Option (List ℕ)). IfSome o (λ bytes. MakesOn content may_leave bytes (may_leave disk) end left)) given.1.none makes))
-made_at content may_leave calls end disk left makes (Kept held) given =
-    inr (widened_if content may_leave (content held) (may_leave disk) (may_leave held) end left given.images
-    (subst (λ (o : Option (List ℕ)). IfSome o (λ bytes. MakesOn content may_leave bytes (may_leave disk) end left)) given.same makes))
-made_at content may_leave calls end disk left makes Out given =
-    inr (widened_if content may_leave (Some []) (may_leave disk) (images_found may_leave Out) end left given.1.images
-    (subst (λ (o : Option (List ℕ)). IfSome o (λ bytes. MakesOn content may_leave bytes (may_leave disk) end left)) given.1.none makes))
+module _ {D : Type 0} (content : D → Option (List ℕ)) (may_leave : D → List ℕ → Type 0) (moment : D → ℕ)
+    (left_since : D → ℕ → List ℕ → Type 0) (calls : D → List Bool) (end : RunEnd) (disk left : D)
+    (makes : IfSome (content disk) (λ bytes. MakesOn content may_leave bytes (may_leave disk) end left))
+    (leaves : LeavesOnly moment left_since disk left (IsLeftByMaking (may_leave disk) end)) where
+  on_made : IsEmptyDisk content may_leave left_since disk → MakesOn content may_leave [] (λ image. image ≡ []) end left
+  on_made empty =
+      more_images content may_leave [] (may_leave disk) (λ image. image ≡ []) end left empty.images
+      (subst (λ (o : Option (List ℕ)). IfSome o (λ bytes. MakesOn content may_leave bytes (may_leave disk) end left)) empty.none makes)
 
-pub makes_kept : {D : Type 0} (content : D → Option (List ℕ)) (may_leave : D → List ℕ → Type 0) (calls : D → List Bool) (end : RunEnd)
+  made_at : (place : Place D) → IsGiven content may_leave moment left_since calls true place disk
+      → MakesAt content may_leave moment left_since end place (Kept left)
+  made_at Free given =
+      inr (on_made given.1, leaves_made content may_leave moment left_since end disk left given.1 (on_made given.1) leaves)
+  made_at (Kept held) given =
+      inr (
+        more_images_if content may_leave (content held) (may_leave disk) (may_leave held) end left given.images
+            (subst (λ (o : Option (List ℕ)). IfSome o (λ bytes. MakesOn content may_leave bytes (may_leave disk) end left)) given.same makes),
+        leaves_kept content may_leave moment left_since calls held disk left (IsLeftByMaking (may_leave disk) end) (IsLeftByMaking (may_leave held) end)
+            given leaves (λ image h. left_more (may_leave disk) (may_leave held) end image given.images h),
+      )
+  made_at Out given =
+      inr (on_made given.1, leaves_made content may_leave moment left_since end disk left given.1 (on_made given.1) leaves)
+
+pub makes_kept : {D : Type 0} (content : D → Option (List ℕ)) (may_leave : D → List ℕ → Type 0) (moment : D → ℕ)
+    (left_since : D → ℕ → List ℕ → Type 0) (calls : D → List Bool) (end : RunEnd)
     (name : List ℕ) (p0 p1 p2 : Option (List ℕ → Place D)) (disk left : D)
-    → IsOpened content may_leave calls name true p0 p1 (opens.Disk disk) → IsKept name left p1 p2
+    → IsOpened content may_leave moment left_since calls name true p0 p1 (opens.Disk disk) → IsKept name left p1 p2
     → IfSome (content disk) (λ bytes. MakesOn content may_leave bytes (may_leave disk) end left)
-    → Makes content may_leave end name p0 p2
-makes_kept content may_leave calls end name p0 p1 p2 disk left opened kept makes =
-    opened_and_kept content may_leave calls name true p0 p1 p2 disk left (λ before after. MakesAt content may_leave end before after)
-    opened kept (made_at content may_leave calls end disk left makes)
+    → LeavesOnly moment left_since disk left (IsLeftByMaking (may_leave disk) end)
+    → Makes content may_leave moment left_since end name p0 p2
+makes_kept content may_leave moment left_since calls end name p0 p1 p2 disk left opened kept makes leaves =
+    opened_and_kept content may_leave moment left_since calls name true p0 p1 p2 disk left (λ before after. MakesAt content may_leave moment left_since end before after)
+    opened kept (made_at content may_leave moment left_since calls end disk left makes leaves)
 
 pub ends_kept : (end : RunEnd) (f f' c0 c1 c2 : ℕ) → IsMakingEnd end f f' → f ≡ 0 → c0 ≤ c1 → IsCounted f' c1 c2 → IsMakingEnd end c0 c2
 ends_kept ends.Made f f' c0 c1 c2 h fresh later counted = tt
@@ -95,10 +158,11 @@ ends_kept (ends.Damaged at) f f' c0 c1 c2 h fresh later counted = absurd h
 ends_kept ends.NoMemory f f' c0 c1 c2 h fresh later counted = absurd h
 
 -- the cabinet failed
-pub makes_failed : {D : Type 0} (content : D → Option (List ℕ)) (may_leave : D → List ℕ → Type 0) (calls : D → List Bool)
+pub makes_failed : {D : Type 0} (content : D → Option (List ℕ)) (may_leave : D → List ℕ → Type 0) (moment : D → ℕ)
+    (left_since : D → ℕ → List ℕ → Type 0) (calls : D → List Bool)
     (name : List ℕ) (p0 p1 : Option (List ℕ → Place D))
-    → IsOpened content may_leave calls name true p0 p1 opens.Failed → Makes content may_leave ends.DiskFault name p0 p1
-makes_failed content may_leave calls name None p1 opened = tt
-makes_failed content may_leave calls name (Some b) None opened = absurd opened
-makes_failed content may_leave calls name (Some b) (Some a) opened =
-    all_stay name b a (λ before after. MakesAt content may_leave ends.DiskFault before after) opened (inl (refl, refl))
+    → IsOpened content may_leave moment left_since calls name true p0 p1 opens.Failed → Makes content may_leave moment left_since ends.DiskFault name p0 p1
+makes_failed content may_leave moment left_since calls name None p1 opened = tt
+makes_failed content may_leave moment left_since calls name (Some b) None opened = absurd opened
+makes_failed content may_leave moment left_since calls name (Some b) (Some a) opened =
+    all_stay name b a (λ before after. MakesAt content may_leave moment left_since ends.DiskFault before after) opened (inl (refl, refl))

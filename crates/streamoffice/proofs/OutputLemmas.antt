@@ -3,6 +3,8 @@ use Rattle.std.proofs.Common.{◌≡◌, ℕ, List, [], ◌∷◌, ◌++◌, Opt
 use Rattle.std.specs.List.{concat}
 use Rattle.httparse.specs.Grammar.{RequestHead}
 use Rattle.office.specs.History.{Event, faulted_count}
+use Rattle.office.specs.Stops.{Extends}
+use Rattle.office.proofs.StopsLemmas.{extends_none, extends_turn}
 use Rattle.http_api.specs.declared.asks.Ask.{Ask}
 use Rattle.http_api.specs.declared.asks.Ask.TheVariants.{Put, Turn, DayOf}
 use Rattle.wire.specs.Messages.{Request, request_of, IsRequest, AreRequests}
@@ -42,6 +44,9 @@ left_alone events (Some (Put at raw)) = refl
 left_alone events (Some Turn) = inl refl
 left_alone events (Some (DayOf day)) = refl
 
+same_extends : (events next : List Event) → next ≡ events → Extends events next
+same_extends events next e = subst (λ (h : List Event). Extends events h) (sym e) (extends_none events)
+
 -- and adds no fault
 pub left_count : (events : List Event) (ask : Option Ask) (next : List Event) → IsLeft events ask next → faulted_count next ≡ faulted_count events
 left_count events None next e = ap faulted_count e
@@ -49,3 +54,11 @@ left_count events (Some (Put at raw)) next e = ap faulted_count e
 left_count events (Some Turn) next (inl e) = ap faulted_count e
 left_count events (Some Turn) next (inr e) = ap faulted_count e ∙ count_turn events
 left_count events (Some (DayOf day)) next e = ap faulted_count e
+
+-- and the history goes on
+pub left_extends : (events : List Event) (ask : Option Ask) (next : List Event) → IsLeft events ask next → Extends events next
+left_extends events None next e = same_extends events next e
+left_extends events (Some (Put at raw)) next e = same_extends events next e
+left_extends events (Some Turn) next (inl e) = same_extends events next e
+left_extends events (Some Turn) next (inr e) = subst (λ (h : List Event). Extends events h) (sym e) (extends_turn events)
+left_extends events (Some (DayOf day)) next e = same_extends events next e

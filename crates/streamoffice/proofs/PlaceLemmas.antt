@@ -1,45 +1,60 @@
 -- How a disk is taken out of a cabinet and kept again.
-use Rattle.std.proofs.Common.{◌≡◌, ◌≢◌, ℕ, ◌+◌, ◌-◌, ◌^◌, ◌<◌, ◌≤◌, min, nat_lt, Bool, true, false, if◌then◌else◌, List, [], Option, Some, None, IfSome, IsSomeAnd, refl, sym, ◌∙◌, ap, subst, arith}
+use Rattle.std.proofs.Common.{◌≡◌, ℕ, ◌<◌, ◌≤◌, Bool, false, if◌then◌else◌, List, Option, Some, None, IfSome, IsSomeAnd, sym, ◌∙◌, ap, subst, inl, inr, ⊎_elim, arith}
 use Rattle.std.proofs.lemmas.Bool.{lt-ltb}
-use Rattle.devices.specs.Cabinets.{Place, Free, Kept, Out, is_kept, OthersStay, AllStay, IsGiven, IsOpened, IsKept, IsCounted}
-use Rattle.devices.specs.Disks.{NothingNew, Only}
+use Rattle.devices.specs.Cabinets.{Place, Free, Kept, Out, OthersStay, AllStay, IsSameDisk, IsGiven, IsOpened, IsKept, IsCounted}
 use Rattle.devices.specs.Failures.{one_more}
 use Rattle.devices.specs.Faults.{Rose}
-use Rattle.devices.specs.declared.cabinets.Opened.{Opened}
 use Rattle.devices.specs.declared.cabinets.Opened.TheVariants as opens
+use Rattle.journal.specs.Moments.{LeavesOnly}
 
 -- a disk that was given leaves its place
-pub taken_out : {D : Type 0} (content : D → Option (List ℕ)) (may_leave : D → List ℕ → Type 0) (calls : D → List Bool)
+pub taken_out : {D : Type 0} (content : D → Option (List ℕ)) (may_leave : D → List ℕ → Type 0) (moment : D → ℕ)
+    (left_since : D → ℕ → List ℕ → Type 0) (calls : D → List Bool)
     (name : List ℕ) (make : Bool) (p0 p1 : Option (List ℕ → Place D)) (disk : D)
-    → IsOpened content may_leave calls name make p0 p1 (opens.Disk disk) → IfSome p1 (λ places. places name ≡ Out)
-taken_out content may_leave calls name make None None disk opened = tt
-taken_out content may_leave calls name make None (Some a) disk opened = absurd (cc)
-taken_out content may_leave calls name make (Some b) None disk opened = absurd opened
-taken_out content may_leave calls name make (Some b) (Some a) disk opened = opened.1
+    → IsOpened content may_leave moment left_since calls name make p0 p1 (opens.Disk disk) → IfSome p1 (λ places. places name ≡ Out)
+taken_out content may_leave moment left_since calls name make None None disk opened = tt
+taken_out content may_leave moment left_since calls name make None (Some a) disk opened = absurd (cc)
+taken_out content may_leave moment left_since calls name make (Some b) None disk opened = absurd opened
+taken_out content may_leave moment left_since calls name make (Some b) (Some a) disk opened = opened.1
 
 -- what was given, what is kept, and the other names, where the cabinet tells all
-pub opened_and_kept : {D : Type 0} (content : D → Option (List ℕ)) (may_leave : D → List ℕ → Type 0) (calls : D → List Bool)
+pub opened_and_kept : {D : Type 0} (content : D → Option (List ℕ)) (may_leave : D → List ℕ → Type 0) (moment : D → ℕ)
+    (left_since : D → ℕ → List ℕ → Type 0) (calls : D → List Bool)
     (name : List ℕ) (make : Bool) (p0 p1 p2 : Option (List ℕ → Place D)) (disk left : D) (P : Place D → Place D → Type 0)
-    → IsOpened content may_leave calls name make p0 p1 (opens.Disk disk) → IsKept name left p1 p2
-    → ((place : Place D) → IsGiven content may_leave calls make place disk → P place (Kept left))
+    → IsOpened content may_leave moment left_since calls name make p0 p1 (opens.Disk disk) → IsKept name left p1 p2
+    → ((place : Place D) → IsGiven content may_leave moment left_since calls make place disk → P place (Kept left))
     → IfSome p0 (λ b. IsSomeAnd p2 (λ a. P (b name) (a name) × OthersStay name b a))
-opened_and_kept content may_leave calls name make None p1 p2 disk left P opened kept follows = tt
-opened_and_kept content may_leave calls name make (Some b) None p2 disk left P opened kept follows = absurd opened
-opened_and_kept content may_leave calls name make (Some b) (Some m) None disk left P opened kept follows = absurd kept
-opened_and_kept {D} content may_leave calls name make (Some b) (Some m) (Some a) disk left P opened kept follows = (
+opened_and_kept content may_leave moment left_since calls name make None p1 p2 disk left P opened kept follows = tt
+opened_and_kept content may_leave moment left_since calls name make (Some b) None p2 disk left P opened kept follows = absurd opened
+opened_and_kept content may_leave moment left_since calls name make (Some b) (Some m) None disk left P opened kept follows = absurd kept
+opened_and_kept {D} content may_leave moment left_since calls name make (Some b) (Some m) (Some a) disk left P opened kept follows = (
   subst (λ (p : Place D). P (b name) p) (sym kept.0) (follows (b name) opened.0),
   λ other ne. kept.1 other ne ∙ opened.2 other ne,
 )
 
 -- a disk that is not made was there
-pub was_kept : {D : Type 0} (content : D → Option (List ℕ)) (may_leave : D → List ℕ → Type 0) (calls : D → List Bool)
+pub was_kept : {D : Type 0} (content : D → Option (List ℕ)) (may_leave : D → List ℕ → Type 0) (moment : D → ℕ)
+    (left_since : D → ℕ → List ℕ → Type 0) (calls : D → List Bool)
     (place : Place D) (disk left : D) (P : Place D → Place D → Type 0)
-    → IsGiven content may_leave calls false place disk
-    → ((held : D) → content disk ≡ content held → NothingNew (may_leave held) (may_leave disk) → P (Kept held) (Kept left))
+    → IsGiven content may_leave moment left_since calls false place disk
+    → ((held : D) → IsSameDisk content may_leave moment left_since calls held disk → P (Kept held) (Kept left))
     → P place (Kept left)
-was_kept content may_leave calls Free disk left P given follows = absurd (cc (given.0))
-was_kept content may_leave calls (Kept held) disk left P given follows = follows held given.same given.images
-was_kept content may_leave calls Out disk left P given follows = absurd (cc (given.0))
+was_kept content may_leave moment left_since calls Free disk left P given follows = absurd (cc (given.0))
+was_kept content may_leave moment left_since calls (Kept held) disk left P given follows = follows held given
+was_kept content may_leave moment left_since calls Out disk left P given follows = absurd (cc (given.0))
+
+-- what a stop leaves of a disk that was given, it leaves of the one that was kept
+pub leaves_kept : {D : Type 0} (content : D → Option (List ℕ)) (may_leave : D → List ℕ → Type 0) (moment : D → ℕ)
+    (left_since : D → ℕ → List ℕ → Type 0) (calls : D → List Bool) (held disk left : D) (P Q : List ℕ → Type 0)
+    → IsSameDisk content may_leave moment left_since calls held disk → LeavesOnly moment left_since disk left P
+    → ((image : List ℕ) → P image → Q image) → LeavesOnly moment left_since held left Q
+leaves_kept content may_leave moment left_since calls held disk left P Q given leaves wider = record {
+  later = omega (arith, given.moment_is, leaves.later);
+  each = λ image k. wider image (leaves.each image (subst (λ (n : ℕ). left_since left n image) (sym given.moment_is) k));
+  before = λ since image le k.
+      ⊎_elim (λ was. inl (given.since since image was)) (λ now. inr (wider image now))
+      (leaves.before since image (omega (arith, given.moment_is, le)) k);
+}
 
 -- where nothing has changed
 pub all_stay : {D : Type 0} (name : List ℕ) (b a : List ℕ → Place D) (P : Place D → Place D → Type 0)

@@ -1,5 +1,5 @@
 -- How a session goes on, message by message.
-use Rattle.std.proofs.Common.{◌≡◌, ℕ, ◌+◌, ◌^◌, ◌≤◌, Bool, if◌then◌else◌, true, false, List, [], ◌∷◌, ◌++◌, length, Option, Some, None, IfSome, IsSomeAnd, refl, sym, ◌∙◌, ap, subst, inl, inr, append_assoc, append-nil, length-append, arith}
+use Rattle.std.proofs.Common.{◌≡◌, ℕ, ◌+◌, ◌^◌, ◌≤◌, Bool, if◌then◌else◌, true, false, List, [], ◌∷◌, ◌++◌, length, Option, Some, None, IfSome, IsSomeAnd, refl, sym, ◌∙◌, ap, subst, inl, inr, append-nil, length-append, arith}
 use Rattle.std.specs.List.{concat}
 use Rattle.office.specs.History.{Event}
 use Rattle.http_api.specs.Asks.{ask_of}
@@ -13,15 +13,15 @@ use Rattle.wire.specs.Incoming.{Held, taken, Answers}
 use Rattle.wire.specs.Incoming as incoming
 use Rattle.wire.specs.Messages.{Request, request_of}
 use Rattle.streamoffice.specs.Answering.{Answered}
-use Rattle.streamoffice.specs.Causes.{HaveCauses}
 use Rattle.streamoffice.specs.Output.{asked, IsReply, AreReplies}
+use Rattle.streamoffice.specs.Passing.{Passes}
 use Rattle.streamoffice.specs.Served.{AreWritten}
 use Rattle.streamoffice.specs.Session.{IsServed, IsReadTo, IsUnderWay, GoesOn}
 use Rattle.streamoffice.specs.declared.sessions.SessionEnd.{SessionEnd}
 use Rattle.streamoffice.specs.declared.sessions.SessionEnd.TheVariants as ends
-use Rattle.streamoffice.proofs.CauseLemmas.{causes_more}
 use Rattle.streamoffice.proofs.EndLemmas.{IsTold, wrote_whole, wrote_part}
 use Rattle.streamoffice.proofs.OutputLemmas.{requests_more, replies_more, concat-more, left_alone}
+use Rattle.streamoffice.proofs.PassingLemmas.{passes_more}
 
 -- what was read moves on by a request
 read_more : (input : List ℕ) (requests : List Request) (rest : List ℕ) (offset : ℕ) (head : RequestHead) (after : List ℕ) (offset' : ℕ) (request : Request)
@@ -246,15 +246,18 @@ after_skip false end limit events P held held' l0 l l' w0 w w' is u answers few 
     subst (λ (e : Option SessionEnd). GoesOn limit events e P held' l0 l' w0 w') (sym is)
     (fails_skipped limit events P held held' l0 l l' w0 w w' u answers few put)
 
--- A request is answered by what it asks, and the faults that join the history have their causes.
-pub answered_by : (limit limit' : ℕ) (Old New : List Event → Type 0) (events : List Event) (f0 f f' : ℕ) (ask : Option Ask) (verb : Verb)
+-- A request is answered by what it asks, and the history passes on to what follows.
+pub answered_by : {D : Type 0} (moment : D → ℕ) (left_since : D → ℕ → List ℕ → Type 0) (faults : D → ℕ) (told : Bool)
+    (limit limit' : ℕ) (Old New : List Event → Type 0) (events : List Event) (first old new : D) (ask : Option Ask) (verb : Verb)
     (target target' reply : List ℕ)
-    → limit' ≡ limit → ask ≡ ask_of verb target' → target' ≡ target → Answered limit' Old f ask reply New f'
-    → Replies limit (λ mid. Old mid × HaveCauses events mid f0 f) (ask_of verb target) reply (λ mid. New mid × HaveCauses events mid f0 f')
-answered_by limit limit' Old New events f0 f f' ask verb target target' reply at is same answered mid stood =
+    → limit' ≡ limit → ask ≡ ask_of verb target' → target' ≡ target
+    → Answered limit' Old ask reply New (λ h next. Passes moment left_since faults told h next old new)
+    → Replies limit (λ mid. Old mid × Passes moment left_since faults told events mid first old) (ask_of verb target) reply
+    (λ mid. New mid × Passes moment left_since faults told events mid first new)
+answered_by moment left_since faults told limit limit' Old New events first old new ask verb target target' reply at is same answered mid stood =
     let done = answered mid stood.0 in (
       done.0,
       subst (λ (n : ℕ). IsReply n mid (ask_of verb target) reply done.0) at
           (subst (λ (a : Option Ask). IsReply limit' mid a reply done.0) (is ∙ ap (ask_of verb) same) done.1),
-      (done.2, causes_more events mid done.0 f0 f f' stood.1 done.3),
+      (done.2, passes_more moment left_since faults told events mid done.0 first old new stood.1 done.3),
     )

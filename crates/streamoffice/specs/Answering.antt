@@ -11,16 +11,15 @@ use Rattle.http_api.specs.Replies.{reply_body, reply_status, journal_full_text}
 use Rattle.http_api.specs.declared.asks.Ask.{Ask}
 use Rattle.http_api.specs.declared.asks.Ask.TheVariants.{Put, Turn, DayOf}
 use Rattle.http_api.specs.declared.replies.Reply.{Reply}
-use Rattle.streamoffice.specs.Causes.{HaveCauses}
 use Rattle.streamoffice.specs.Output.{IsReply, IsLeft, reply_to, history_after, fault_reply}
 use Rattle.streamoffice.specs.declared.answers.Told.{Told}
 use Rattle.streamoffice.specs.declared.answers.Told.TheVariants as told
 
--- an ask was answered with this reply: whatever the office stood for, it stands for what follows
-abbrev pub Answered : ℕ → (List Event → Type 0) → ℕ → Option Ask → List ℕ → (List Event → Type 0) → ℕ → Type 0
-Answered limit StoodFor before ask reply StandsFor now =
+-- an ask was answered with this reply: whatever the office stood for, it stands for what follows, and passed on to it so
+abbrev pub Answered : ℕ → (List Event → Type 0) → Option Ask → List ℕ → (List Event → Type 0) → (List Event → List Event → Type 0) → Type 0
+Answered limit StoodFor ask reply StandsFor Passed =
     (events : List Event) → StoodFor events
-    → (next : List Event) × IsReply limit events ask reply next × StandsFor next × HaveCauses events next before now
+    → (next : List Event) × IsReply limit events ask reply next × StandsFor next × Passed events next
 
 -- an edit that is asked for is one
 abbrev pub IsLawful : Option Ask → Type 0

@@ -5,6 +5,7 @@ pub mod Endings
 pub mod Laws
 pub mod Making
 pub mod Output
+pub mod Passing
 pub mod Places
 pub mod RunEnds
 pub mod Served

@@ -1,9 +1,11 @@
 -- What a run of `init` comes to.
 use Rattle.std.specs.Prelude.{◌≡◌, ◌⊎◌, ℕ, List, Option, Some, IfSome, IsSomeAnd, ⊤}
-use Rattle.devices.specs.Cabinets.{Place, OthersStay}
+use Rattle.devices.specs.Cabinets.{Place, Free, Kept, Out, OthersStay}
 use Rattle.devices.specs.Disks.{Only, Torn, NothingNew}
 use Rattle.devices.specs.Faults.{Rose}
 use Rattle.journal.specs.JournalBytes.{IsTaken, IsForeign, empty_journal}
+use Rattle.journal.specs.Moments.{LeavesOnly}
+use Rattle.journal.specs.Writing.{WasTorn}
 use Rattle.streamoffice.specs.Places.{HasKept, bytes_found, images_found}
 use Rattle.streamoffice.specs.declared.commands.RunEnd.{RunEnd}
 use Rattle.streamoffice.specs.declared.commands.RunEnd.TheVariants.{Made, Served, Exists, DiskFault, NotAJournal, Damaged, NoMemory}
@@ -33,14 +35,35 @@ IsMakingEnd (Served end) before now = ⊥
 IsMakingEnd (Damaged at) before now = ⊥
 IsMakingEnd NoMemory before now = ⊥
 
--- the disk that was found or made is under its name; but where the cabinet failed the place is as before
-abbrev pub MakesAt : {D : Type 0} → (D → Option (List ℕ)) → (D → List ℕ → Type 0) → RunEnd → Place D → Place D → Type 0
-MakesAt content may_leave end before after =
+-- What a stop at some moment of the making leaves, where it might have left these images before: one of them, where a
+-- journal was to be made perhaps with any bytes in the place of the first 17.
+abbrev pub IsLeftByMaking : (List ℕ → Type 0) → RunEnd → List ℕ → Type 0
+IsLeftByMaking images Made image = WasTorn 0 17 images image
+IsLeftByMaking images Exists image = images image
+IsLeftByMaking images NotAJournal image = images image
+IsLeftByMaking images DiskFault image = WasTorn 0 17 images image
+IsLeftByMaking images (Served end) image = ⊥
+IsLeftByMaking images (Damaged at) image = ⊥
+IsLeftByMaking images NoMemory image = ⊥
+
+-- a stop at any moment of a run leaves an image that has P: of a disk that was under the name, at any moment since then,
+-- and of one that was made, at any moment of its own
+abbrev pub LeavesAt : {D : Type 0} → (D → ℕ) → (D → ℕ → List ℕ → Type 0) → (List ℕ → Type 0) → Place D → D → Type 0
+LeavesAt moment left_since P Free disk = (image : List ℕ) → left_since disk 0 image → P image
+LeavesAt moment left_since P (Kept held) disk = LeavesOnly moment left_since held disk P
+LeavesAt moment left_since P Out disk = (image : List ℕ) → left_since disk 0 image → P image
+
+-- The disk that was found or made is under its name, as its end says, and so is what a stop at any moment of the run left.
+-- But where the cabinet failed the place is as before.
+abbrev pub MakesAt : {D : Type 0} → (D → Option (List ℕ)) → (D → List ℕ → Type 0) → (D → ℕ) → (D → ℕ → List ℕ → Type 0)
+    → RunEnd → Place D → Place D → Type 0
+MakesAt content may_leave moment left_since end before after =
     ((end ≡ DiskFault) × (after ≡ before))
-    ⊎ HasKept (λ disk. IfSome (bytes_found content before) (λ bytes. MakesOn content may_leave bytes (images_found may_leave before) end disk)) after
+    ⊎ HasKept (λ disk. IfSome (bytes_found content before) (λ bytes. MakesOn content may_leave bytes (images_found may_leave before) end disk)
+    × LeavesAt moment left_since (IsLeftByMaking (images_found may_leave before) end) before disk) after
 
 -- and under the other names nothing has changed
-abbrev pub Makes : {D : Type 0} → (D → Option (List ℕ)) → (D → List ℕ → Type 0) → RunEnd → List ℕ
-    → Option (List ℕ → Place D) → Option (List ℕ → Place D) → Type 0
-Makes content may_leave end name before after =
-    IfSome before (λ b. IsSomeAnd after (λ a. MakesAt content may_leave end (b name) (a name) × OthersStay name b a))
+abbrev pub Makes : {D : Type 0} → (D → Option (List ℕ)) → (D → List ℕ → Type 0) → (D → ℕ) → (D → ℕ → List ℕ → Type 0)
+    → RunEnd → List ℕ → Option (List ℕ → Place D) → Option (List ℕ → Place D) → Type 0
+Makes content may_leave moment left_since end name before after =
+    IfSome before (λ b. IsSomeAnd after (λ a. MakesAt content may_leave moment left_since end (b name) (a name) × OthersStay name b a))

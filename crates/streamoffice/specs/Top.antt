@@ -1,5 +1,5 @@
 -- What the top call says of its devices.
-use Rattle.std.specs.Prelude.{◌≡◌, ◌⊎◌, ℕ, ◌<◌, ◌^◌, List, [], ◌++◌, length, Option, IfSome, IsSomeAnd}
+use Rattle.std.specs.Prelude.{◌≡◌, ◌⊎◌, ℕ, ◌<◌, ◌^◌, List, ◌++◌, length, Option, IfSome, IsSomeAnd}
 use Rattle.devices.specs.Cabinets.{Place}
 use Rattle.devices.specs.Faults.{Rose}
 use Rattle.journal.specs.JournalBytes.{HasHeader, IsDamagedAt, IsTaken, IsForeign}
@@ -17,25 +17,29 @@ IsReported line before after faults_before faults_now =
     IfSome before (λ b. IsSomeAnd after (λ a. (part : List ℕ) × (a ≡ b ++ part)
     × ((part ≡ line) ⊎ (IsCutShort part line × Rose faults_before faults_now))))
 
--- a run of `init`: how it ended, its status, its line, and what is under the name then
-pub record RunsInit {D : Type 0} (content : D → Option (List ℕ)) (may_leave : D → List ℕ → Type 0) (name : List ℕ) (status : ℕ)
+-- A run of `init`: how it ended, its status, its line, what is under the name then, and what a stop at any moment of the
+-- run left there.
+pub record RunsInit {D : Type 0} (content : D → Option (List ℕ)) (may_leave : D → List ℕ → Type 0)
+    (moment : D → ℕ) (left_since : D → ℕ → List ℕ → Type 0) (name : List ℕ) (status : ℕ)
     (places_before places_after : Option (List ℕ → Place D)) (before now : ℕ)
     (told_before told_after : Option (List ℕ)) (faults_before faults_now : ℕ) : Type 0 where
   pub end : RunEnd
   pub status_is : status ≡ status_of end
   pub line_is : IsReported (line_of end) told_before told_after faults_before faults_now
   pub ends : IsMakingEnd end before now
-  pub makes : Makes content may_leave end name places_before places_after
+  pub makes : Makes content may_leave moment left_since end name places_before places_after
 
--- A run of `batch`: how it ended, its status, its line, what was read and written, and what is under the name then.
-pub record RunsBatch {D : Type 0} (content : D → Option (List ℕ)) (may_leave : D → List ℕ → Type 0) (faults : D → ℕ)
+-- A run of `batch`: how it ended, its status, its line, what was read and written, what is under the name then, and what
+-- a stop at any moment of the run left there.
+pub record RunsBatch {D : Type 0} (content : D → Option (List ℕ)) (may_leave : D → List ℕ → Type 0)
+    (moment : D → ℕ) (left_since : D → ℕ → List ℕ → Type 0) (faults : D → ℕ)
     (name : List ℕ) (status : ℕ) (places_before places_after : Option (List ℕ → Place D)) (before now : ℕ)
     (left_before left_after written_before written_after : Option (List ℕ))
     (told_before told_after : Option (List ℕ)) (faults_before faults_now : ℕ) : Type 0 where
   pub end : RunEnd
   pub status_is : status ≡ status_of end
   pub line_is : IsReported (line_of end) told_before told_after faults_before faults_now
-  pub serves : ServesUnder content may_leave faults name end places_before places_after before now
+  pub serves : ServesUnder content may_leave moment left_since faults name end places_before places_after before now
       left_before left_after written_before written_after
 
 -- an input of fewer than 2^36 bytes in which no message is malformed

@@ -9,6 +9,7 @@ ghost use Rattle.wire.specs.declared.replies.Kind.TheVariants.{Json};
 ghost use Rattle.http_api.specs.Replies.{reply_body, reply_status};
 ghost use Rattle.streamoffice.specs.Output.{fault_reply};
 ghost use Rattle.streamoffice.specs.Answering.{Answered, Answers, Leaves, IsLawful, IsMade, IsRefused, told_bytes};
+ghost use Rattle.streamoffice.specs.Passing.{Passes};
 
 use devices::Disk;
 use fixed_units::{Day, Micro, NoMemory, Second, Text};
@@ -102,8 +103,9 @@ pub(crate) fn answer<D: Disk>(office: &mut Office<D>, ask: Option<Ask>, texts: &
     requires lawful { IsLawful ask }
     requires room { office.old.station.edits < 2 ^ 64 - 1 }
     ensures answered { (told : Bool) → Answered office.old.journal.limit
-        (λ events. Stands D.content D.may_leave told events office.old) (D.faults office.old.journal.disk) ask (told_bytes result texts.new.reply)
-        (λ events. Stands D.content D.may_leave told events office.new) (D.faults office.new.journal.disk) }
+        (λ events. Stands D.content D.may_leave told events office.old) ask (told_bytes result texts.new.reply)
+        (λ events. Stands D.content D.may_leave told events office.new)
+        (λ events next. Passes D.moment D.left_since D.faults told events next office.old.journal.disk office.new.journal.disk) }
     ensures edits { office.new.station.edits ≤ office.old.station.edits + 1 }
     ensures limit { office.new.journal.limit ≡ office.old.journal.limit }
     ensures counted { D.faults office.old.journal.disk ≤ D.faults office.new.journal.disk }
@@ -119,8 +121,9 @@ fn answer_ask<D: Disk>(office: &mut Office<D>, ask: Ask, texts: &mut Texts) -> T
     requires lawful { IsLawful (Some ask) }
     requires room { office.old.station.edits < 2 ^ 64 - 1 }
     ensures answered { (told : Bool) → Answered office.old.journal.limit
-        (λ events. Stands D.content D.may_leave told events office.old) (D.faults office.old.journal.disk) (Some ask) (told_bytes result texts.new.reply)
-        (λ events. Stands D.content D.may_leave told events office.new) (D.faults office.new.journal.disk) }
+        (λ events. Stands D.content D.may_leave told events office.old) (Some ask) (told_bytes result texts.new.reply)
+        (λ events. Stands D.content D.may_leave told events office.new)
+        (λ events next. Passes D.moment D.left_since D.faults told events next office.old.journal.disk office.new.journal.disk) }
     ensures edits { office.new.station.edits ≤ office.old.station.edits + 1 }
     ensures limit { office.new.journal.limit ≡ office.old.journal.limit }
     ensures counted { D.faults office.old.journal.disk ≤ D.faults office.new.journal.disk }
@@ -138,8 +141,9 @@ fn put_reading<D: Disk>(office: &mut Office<D>, at: Second, raw: Micro, texts: &
     requires lawful { IsStamp at × IsStage raw }
     requires room { office.old.station.edits < 2 ^ 64 - 1 }
     ensures answered { (told : Bool) → Answered office.old.journal.limit
-        (λ events. Stands D.content D.may_leave told events office.old) (D.faults office.old.journal.disk) (Some (Ask.Put at raw)) (told_bytes result texts.new.reply)
-        (λ events. Stands D.content D.may_leave told events office.new) (D.faults office.new.journal.disk) }
+        (λ events. Stands D.content D.may_leave told events office.old) (Some (Ask.Put at raw)) (told_bytes result texts.new.reply)
+        (λ events. Stands D.content D.may_leave told events office.new)
+        (λ events next. Passes D.moment D.left_since D.faults told events next office.old.journal.disk office.new.journal.disk) }
     ensures edits { office.new.station.edits ≤ office.old.station.edits + 1 }
     ensures limit { office.new.journal.limit ≡ office.old.journal.limit }
     ensures counted { D.faults office.old.journal.disk ≤ D.faults office.new.journal.disk }

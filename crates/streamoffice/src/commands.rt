@@ -2,9 +2,10 @@
 
 ghost use Rattle.std.specs.Prelude.{◌≡◌, ◌≢◌, ◌≤◌, ◌⊎◌, List, IfSome, IsSomeAnd, OnOk, Ok, Err, ⊤};
 ghost use Rattle.devices.specs.Faults.{Rose};
+ghost use Rattle.journal.specs.Moments.{LeavesOnly};
 ghost use Rattle.journal.specs.declared.making.InitFault.{InitFault};
 ghost use Rattle.streamoffice.specs.Session.{HasCause};
-ghost use Rattle.streamoffice.specs.Making.{MakesOn, IsMakingEnd, Makes};
+ghost use Rattle.streamoffice.specs.Making.{MakesOn, IsLeftByMaking, IsMakingEnd, Makes};
 ghost use Rattle.streamoffice.specs.Serving.{ServesDisk, ServesUnder, usual_limit};
 ghost use Rattle.streamoffice.specs.RunEnds.{making_end, opening_end, IsEarly, RunCause};
 
@@ -35,7 +36,7 @@ pub enum RunEnd {
 
 /// Makes a journal of no records under a name.
 pub(crate) fn make_journal<C: Cabinet>(cabinet: &mut C, name: &str) -> RunEnd
-    ensures makes { Makes C.Disk.content C.Disk.may_leave result name.now (C.places cabinet.old) (C.places cabinet.new) }
+    ensures makes { Makes C.Disk.content C.Disk.may_leave C.Disk.moment C.Disk.left_since result name.now (C.places cabinet.old) (C.places cabinet.new) }
     ensures ends { IsMakingEnd result (C.faults cabinet.old) (C.faults cabinet.new) }
 {
     match cabinet.open(name, true) {
@@ -51,6 +52,7 @@ pub(crate) fn make_journal<C: Cabinet>(cabinet: &mut C, name: &str) -> RunEnd
 /// Makes a journal of no records on a disk.
 fn make_on<D: Disk>(disk: D) -> (RunEnd, D)
     ensures makes { IfSome (D.content disk) (λ bytes. MakesOn D.content D.may_leave bytes (D.may_leave disk) result.0 result.1) }
+    ensures any_moment { LeavesOnly D.moment D.left_since disk result.1 (IsLeftByMaking (D.may_leave disk) result.0) }
     ensures ends { IsMakingEnd result.0 (D.faults disk) (D.faults result.1) }
     ensures counted { D.faults disk ≤ D.faults result.1 }
 {
@@ -78,7 +80,7 @@ pub(crate) fn serve_batch<C: Cabinet, S: Source, K: Sink>(
     input: &mut S,
     output: &mut K,
 ) -> RunEnd
-    ensures serves { ServesUnder C.Disk.content C.Disk.may_leave C.Disk.faults name.now result (C.places cabinet.old) (C.places cabinet.new)
+    ensures serves { ServesUnder C.Disk.content C.Disk.may_leave C.Disk.moment C.Disk.left_since C.Disk.faults name.now result (C.places cabinet.old) (C.places cabinet.new)
         (C.faults cabinet.old) (C.faults cabinet.new) (S.left input.old) (S.left input.new) (K.written output.old) (K.written output.new) }
     ensures cause { RunCause result (S.faults input.old) (S.faults input.new) (K.faults output.old) (K.faults output.new) }
     ensures unserved { IsEarly result → (input.new ≡ input.old) × (output.new ≡ output.old) }
@@ -102,7 +104,7 @@ fn serve_disk<D: Disk, S: Source, K: Sink>(
     output: &mut K,
 ) -> (RunEnd, D)
     requires { D.faults disk ≡ 0 }
-    ensures serves { ServesDisk D.content D.may_leave D.faults result.0 disk result.1
+    ensures serves { ServesDisk D.content D.may_leave D.moment D.left_since D.faults result.0 disk result.1
         (S.left input.old) (S.left input.new) (K.written output.old) (K.written output.new) }
     ensures cause { RunCause result.0 (S.faults input.old) (S.faults input.new) (K.faults output.old) (K.faults output.new) }
     ensures unserved { IsEarly result.0 → (input.new ≡ input.old) × (output.new ≡ output.old) }

@@ -2,7 +2,7 @@ use Rattle.std.proofs.Common.{◌≡◌, ◌+◌, ◌-◌, ◌^◌, ◌≤◌, B
 use Rattle.office.specs.History.{Event}
 use Rattle.office.specs.Stands.{Stands}
 use Rattle.wire.specs.Incoming.{taken}
-use Rattle.streamoffice.specs.Causes.{HaveCauses}
+use Rattle.streamoffice.specs.Passing.{Passes}
 use Rattle.streamoffice.specs.Session.{IsUnderWay}
 use Rattle.streamoffice.proofs.sessions.session.Given as goal
 
@@ -15,7 +15,8 @@ invariant-loop-end g l =
     record {
       under_way : (told : Bool) (events : List Event) → Stands g.D.Disk.content g.D.Disk.may_leave told events l.fn.office
           → IsUnderWay l.fn.office.journal.limit events
-          (λ h. Stands g.D.Disk.content g.D.Disk.may_leave told h l.office × HaveCauses events h (faults l.fn.office.journal.disk) (faults l.office.journal.disk))
+          (λ h. Stands g.D.Disk.content g.D.Disk.may_leave told h l.office
+          × Passes g.D.Disk.moment g.D.Disk.left_since g.D.Disk.faults told events h l.fn.office.journal.disk l.office.journal.disk)
           l.incoming (left l.fn.source) (left l.source) (written l.fn.sink) (written l.sink);
       journal_limit : l.office.journal.limit ≡ l.fn.office.journal.limit;
       room : l.office.station.edits ≤ 2 ^ 63 + l.incoming.offset;

@@ -18,7 +18,7 @@ flying in_doubt (Published day ∷ behind) = in_doubt
 flying in_doubt (Faulted edit left_in_doubt ∷ behind) = in_flight in_doubt edit
 
 -- What a stop at some moment leaves while a history goes on from these events to those: the journal of the edits that were
--- accepted by then, or of these and one more, which was in doubt or in flight.
+-- accepted up to some point of it, or of these and one more, which was in doubt or in flight there.
 pub record IsLeftBetween (events after : List Event) (image : List ℕ) : Type 0 where
   pub since : List Event
   pub behind : List Event

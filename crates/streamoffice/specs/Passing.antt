@@ -6,7 +6,8 @@ use Rattle.office.specs.Stops.{Extends, IsLeftBetween}
 use Rattle.streamoffice.specs.Causes.{HaveCauses}
 
 -- The history has gone on from these events to those, and the faults that joined it have their causes. Where the disk tells
--- what it has, a stop at any moment left the journal of the edits that were accepted by then, or of these and one more.
+-- what it has, a stop at any moment left the journal of the edits that were accepted up to some point on the way, or of
+-- these and one more.
 pub record Passes {D : Type 0} (moment : D → ℕ) (left_since : D → ℕ → List ℕ → Type 0) (faults : D → ℕ) (told : Bool)
     (events after : List Event) (old new : D) : Type 0 where
   pub causes : HaveCauses events after (faults old) (faults new)

@@ -25,7 +25,7 @@ pub record IsLeftOn {D : Type 0} (content : D → Option (List ℕ)) (may_leave 
 
 -- The disk had the journal of these edits and is left with that of the history after them, where it tells its bytes. A stop
 -- at any moment left what it might have left before the journal was opened, or the journal of the edits that were accepted
--- by then, or of these and one more. No more faults are in the history than the disk had.
+-- up to some point of that history, or of these and one more. No more faults are in the history than the disk had.
 pub record Carries {D : Type 0} (content : D → Option (List ℕ)) (may_leave : D → List ℕ → Type 0)
     (moment : D → ℕ) (left_since : D → ℕ → List ℕ → Type 0) (faults : D → ℕ)
     (edits : List What) (after : List Event) (found left : D) : Type 0 where

@@ -37,8 +37,8 @@ pub enum SessionEnd {
 
 /// Serves the requests of a source until it ends. Where the office stands for a history, what is written is what the
 /// office of that history replies to what is read, and the office stands for what has happened then. Each edit is in the
-/// journal before it is replied to, and a stop at any moment leaves the journal of the edits that were accepted by then, or
-/// of these and one more.
+/// journal before it is replied to, and a stop at any moment leaves the journal of the edits that were accepted up to some
+/// point of the history, or of these and one more.
 pub fn session<D: Disk, S: Source, K: Sink>(
     alloc: Global,
     office: &mut Office<D>,

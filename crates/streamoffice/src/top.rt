@@ -48,8 +48,8 @@ pub fn run_office<R, S: Source, K: Sink, E: Sink, C: Cabinet>(
     ensures init_alone { (name : List ℕ) → IsAsked (map string_bytes words.now) (Init name) → (input.new ≡ input.old) × (output.new ≡ output.old) }
 
     // The headline: the bytes written are the office's replies to the bytes read, over the journal that was found, and
-    // what is left, at the end and by a stop at any moment, is the journal of the edits that were accepted by then, or of
-    // these and one more.
+    // what is left is the journal of the edits that were accepted. A stop at any moment of the run leaves what it might
+    // have left before, or the journal of those accepted up to some point, or of these and one more.
     ensures batch { (name : List ℕ) → IsAsked (map string_bytes words.now) (Batch name) → RunsBatch C.Disk.content C.Disk.may_leave C.Disk.moment C.Disk.left_since C.Disk.faults name result
         (C.places cabinet.old) (C.places cabinet.new) (C.faults cabinet.old) (C.faults cabinet.new)
         (S.left input.old) (S.left input.new) (K.written output.old) (K.written output.new)

@@ -1,9 +1,10 @@
 -- What an edit comes to.
-use Rattle.std.specs.Prelude.{◌≡◌, ℕ, ◌+◌, Bool, true, List, [], ◌∷◌, ◌++◌, length, Option, Some, None, Result, Ok, Err}
+use Rattle.std.specs.Prelude.{◌≡◌, ℕ, ◌+◌, Bool, true, false, List, [], ◌∷◌, ◌++◌, length, Option, Some, None, Result, Ok, Err}
 use Rattle.records.specs.FirstPath.{IsFirstPath}
 use Rattle.records.specs.Payloads.{encoded}
 use Rattle.records.specs.declared.edits.Record.{Record}
 use Rattle.records.specs.declared.edits.What.{What}
+use Rattle.journal.specs.Keeping.{AppendCalls}
 use Rattle.journal.specs.declared.keeping.AppendFault.{AppendFault}
 use Rattle.journal.specs.declared.keeping.AppendFault.TheVariants.{Full, Fault}
 use Rattle.office.specs.History.{Event, accepted, doubt, after_edit, after_fault}
@@ -46,3 +47,12 @@ refusal_of (Fault in_doubt) = JournalFault in_doubt
 -- the bytes are the record of the edit of that number, encoded, and the closed gate behind it
 abbrev pub IsEncoded : ℕ → What → List ℕ → Type 0
 IsEncoded number edit bytes = (piece : Record) × IsFirstPath number edit piece × (bytes ≡ encoded piece ++ 0 ∷ [])
+
+-- The calls of the disk in an edit: those of the append of its record, and none where it was not appended, as when the
+-- journal was in doubt before.
+abbrev pub EditCalls : Bool → Result ℕ Refusal → List Bool → Type 0
+EditCalls in_doubt (Ok number) calls = AppendCalls (Ok number) calls
+EditCalls in_doubt (Err NoMemory) calls = calls ≡ []
+EditCalls in_doubt (Err JournalFull) calls = calls ≡ []
+EditCalls true (Err (JournalFault left_in_doubt)) calls = calls ≡ []
+EditCalls false (Err (JournalFault left_in_doubt)) calls = AppendCalls {T = ℕ} (Err (Fault left_in_doubt)) calls

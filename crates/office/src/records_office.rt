@@ -5,6 +5,7 @@ ghost use Rattle.devices.specs.Disks.{IsUnchanged, IsDurable};
 ghost use Rattle.devices.specs.Faults.{Rose};
 ghost use Rattle.records.specs.Edits.{IsWhat};
 ghost use Rattle.journal.specs.Moments.{LeavesOnly};
+ghost use Rattle.journal.specs.Writing.{Lists};
 ghost use Rattle.office.specs.History.{Event, accepted, doubt, pending_days, next_day, after_turn};
 ghost use Rattle.office.specs.JournalOfEdits.{IsFull, StandsForEdits};
 ghost use Rattle.office.specs.Kept.{Keeps};
@@ -63,7 +64,7 @@ pub struct Office<D: Disk> {
 }
 
 impl<D: Disk> Office<D> {
-    ghost use Rattle.office.specs.Edits.{Edits, IsEncoded, in_flight};
+    ghost use Rattle.office.specs.Edits.{Edits, EditCalls, IsEncoded, in_flight};
     ghost use Rattle.office.specs.Opened.{IsOpened, IsNotOpened};
     ghost use Rattle.office.specs.Stands.{Stands};
     ghost use Rattle.office.specs.declared.records_office.Refusal.{Refusal};
@@ -83,10 +84,7 @@ impl<D: Disk> Office<D> {
         ensures refused_any_moment { IfErr result (λ refused. LeavesOnly D.moment D.left_since disk refused.disk (D.may_leave disk)) }
         ensures refused_counted { IfErr result (λ refused. D.faults disk ≤ D.faults refused.disk) }
     {
-        let mut opening = match journal::open(alloc, disk) {
-            Ok(opening) => opening,
-            Err(refused) => return Err(refused),
-        };
+        let mut opening = journal::open(alloc, disk)?;
         let mut station = StationRecord::new(alloc);
         if let Err(fault) = read_all(alloc, &mut opening, &mut station) {
             return Err(OpenRefused {
@@ -135,6 +133,8 @@ impl<D: Disk> Office<D> {
             → LeavesOnly D.moment D.left_since self.old.journal.disk self.new.journal.disk (StandsForEdits (accepted events) (in_flight (doubt events) what)) }
         ensures cause { (in_doubt : Bool) → result ≡ Err (Refusal.JournalFault in_doubt)
             → (self.old.journal.in_doubt ≡ true) ⊎ Rose (D.faults self.old.journal.disk) (D.faults self.new.journal.disk) }
+        ensures calls { Lists (D.content self.old.journal.disk) (D.calls self.old.journal.disk) (D.calls self.new.journal.disk) (D.faults self.new.journal.disk)
+            (EditCalls self.old.journal.in_doubt result) }
         ensures in_doubt { self.old.journal.in_doubt ≡ true → self.new.journal ≡ self.old.journal }
         ensures no_memory { result ≡ Err Refusal.NoMemory → self.new.journal ≡ self.old.journal }
         ensures untouched { result ≡ Err Refusal.JournalFull → self.new ≡ self.old }

@@ -18,76 +18,74 @@ use Rattle.streamoffice.specs.declared.commands.RunEnd.TheVariants.{Made, Served
 abbrev pub usual_limit : ℕ
 usual_limit = 536_870_912
 
--- a file, and whatever a stop may leave of it, stands for the edits that were accepted, or for these and the one in doubt
-pub record IsLeftOn {D : Type 0} (content : D → Option (List ℕ)) (may_leave : D → List ℕ → Type 0) (events : List Event) (disk : D) : Type 0 where
-  pub now : IsSomeAnd (content disk) (StandsForEdits (accepted events) (doubt events))
-  pub images : (image : List ℕ) → may_leave disk image → StandsForEdits (accepted events) (doubt events) image
+module _ {D : Type 0} (content : D → Option (List ℕ)) (may_leave : D → List ℕ → Type 0) where
+  -- a file, and whatever a stop may leave of it, stands for the edits that were accepted, or for these and the one in doubt
+  pub record IsLeftOn (events : List Event) (disk : D) : Type 0 where
+    pub now : IsSomeAnd (content disk) (StandsForEdits (accepted events) (doubt events))
+    pub images : (image : List ℕ) → may_leave disk image → StandsForEdits (accepted events) (doubt events) image
 
--- The disk had the journal of these edits and is left with that of the history after them, where it tells its bytes. A stop
--- at any moment left what it might have left before the journal was opened, or the journal of the edits that were accepted
--- up to some point of that history, or of these and one more. No more faults are in the history than the disk had.
-pub record Carries {D : Type 0} (content : D → Option (List ℕ)) (may_leave : D → List ℕ → Type 0)
-    (moment : D → ℕ) (left_since : D → ℕ → List ℕ → Type 0) (faults : D → ℕ)
-    (edits : List What) (after : List Event) (found left : D) : Type 0 where
-  pub journal : IfSome (content found) (λ bytes. IsJournalOfEdits edits bytes × IsLeftOn content may_leave after left)
-  pub any_moment : IfSome (content found) (λ bytes. LeavesOnly moment left_since found left
-      (λ image. may_leave found image ⊎ IsLeftBetween (reopen edits) after image))
-  pub causes : RoseBy (faulted_count after) 0 (faults left)
+module _ {D : Type 0} (content : D → Option (List ℕ)) (may_leave : D → List ℕ → Type 0)
+    (moment : D → ℕ) (left_since : D → ℕ → List ℕ → Type 0) where
+  -- a disk under the name, if there is one, has bytes with P, and all is as before
+  abbrev pub StaysWith : List ℕ → (Place D → Type 0) → Option (List ℕ → Place D) → Option (List ℕ → Place D) → Type 0
+  StaysWith name P places_before places_after =
+      IfSome places_before (λ b. IsSomeAnd places_after (λ a.
+      P (b name) × (HasTheSame content may_leave moment left_since (b name) (a name) × OthersStay name b a)))
 
--- what a batch over a disk comes to, whose counts of faults are given
-abbrev pub ServesDisk : {D : Type 0} → (D → Option (List ℕ)) → (D → List ℕ → Type 0) → (D → ℕ) → (D → ℕ → List ℕ → Type 0) → (D → ℕ) → RunEnd → D → D
-    → Option (List ℕ) → Option (List ℕ) → Option (List ℕ) → Option (List ℕ) → Type 0
-ServesDisk content may_leave moment left_since faults (Served end) found left left_before left_after written_before written_after =
-    (edits : List What)
-    × IsServed usual_limit (reopen edits) end left_before left_after written_before written_after
-    (λ after. Carries content may_leave moment left_since faults edits after found left)
-ServesDisk content may_leave moment left_since faults NotAJournal found left left_before left_after written_before written_after =
-    IfSome (content found) (λ bytes. ¬ HasHeader bytes) × IsLeftAlone content may_leave moment left_since found left
-ServesDisk content may_leave moment left_since faults (Damaged at) found left left_before left_after written_before written_after =
-    IfSome (content found) (IsDamagedAt at) × IsLeftAlone content may_leave moment left_since found left
-ServesDisk content may_leave moment left_since faults DiskFault found left left_before left_after written_before written_after =
-    Rose (faults found) (faults left) × IsLeftAlone content may_leave moment left_since found left
-ServesDisk content may_leave moment left_since faults NoMemory found left left_before left_after written_before written_after =
-    IsLeftAlone content may_leave moment left_since found left
-ServesDisk content may_leave moment left_since faults Made found left left_before left_after written_before written_after = ⊥
-ServesDisk content may_leave moment left_since faults Exists found left left_before left_after written_before written_after = ⊥
+module _ {D : Type 0} (content : D → Option (List ℕ)) (may_leave : D → List ℕ → Type 0)
+    (moment : D → ℕ) (left_since : D → ℕ → List ℕ → Type 0) (faults : D → ℕ) where
+  -- The disk had the journal of these edits and is left with that of the history after them, where it tells its bytes. A
+  -- stop at any moment left what it might have left before the journal was opened, or the journal of the edits that were
+  -- accepted up to some point of that history, or of these and one more. No more faults are in the history than the disk
+  -- had.
+  pub record Carries (edits : List What) (after : List Event) (found left : D) : Type 0 where
+    pub journal : IfSome (content found) (λ bytes. IsJournalOfEdits edits bytes × IsLeftOn content may_leave after left)
+    pub any_moment : IfSome (content found) (λ bytes. LeavesOnly moment left_since found left
+        (λ image. may_leave found image ⊎ IsLeftBetween (reopen edits) after image))
+    pub causes : RoseBy (faulted_count after) 0 (faults left)
 
--- the journal of these edits was found under the name, and that of the history after them is left there
-abbrev pub CarriesAt : {D : Type 0} → (D → Option (List ℕ)) → (D → List ℕ → Type 0) → (D → ℕ) → (D → ℕ → List ℕ → Type 0) → (D → ℕ) → List What → List Event
-    → Place D → Place D → Type 0
-CarriesAt content may_leave moment left_since faults edits after before now =
-    HasKept (λ found. HasKept (λ left. Carries content may_leave moment left_since faults edits after found left) now) before
+  -- what a batch over a disk comes to, whose counts of faults are given
+  abbrev pub ServesDisk : RunEnd → D → D → Option (List ℕ) → Option (List ℕ) → Option (List ℕ) → Option (List ℕ) → Type 0
+  ServesDisk (Served end) found left left_before left_after written_before written_after =
+      (edits : List What)
+      × IsServed usual_limit (reopen edits) end left_before left_after written_before written_after
+      (λ after. Carries edits after found left)
+  ServesDisk NotAJournal found left left_before left_after written_before written_after =
+      IfSome (content found) (λ bytes. ¬ HasHeader bytes) × IsLeftAlone content may_leave moment left_since found left
+  ServesDisk (Damaged at) found left left_before left_after written_before written_after =
+      IfSome (content found) (IsDamagedAt at) × IsLeftAlone content may_leave moment left_since found left
+  ServesDisk DiskFault found left left_before left_after written_before written_after =
+      Rose (faults found) (faults left) × IsLeftAlone content may_leave moment left_since found left
+  ServesDisk NoMemory found left left_before left_after written_before written_after =
+      IsLeftAlone content may_leave moment left_since found left
+  ServesDisk Made found left left_before left_after written_before written_after = ⊥
+  ServesDisk Exists found left left_before left_after written_before written_after = ⊥
 
--- both where the cabinet tells what it has; under the other names nothing has changed
-abbrev pub CarriesUnder : {D : Type 0} → (D → Option (List ℕ)) → (D → List ℕ → Type 0) → (D → ℕ) → (D → ℕ → List ℕ → Type 0) → (D → ℕ) → List ℕ → List What → List Event
-    → Option (List ℕ → Place D) → Option (List ℕ → Place D) → Type 0
-CarriesUnder content may_leave moment left_since faults name edits after places_before places_after =
-    IfSome places_before (λ b. IsSomeAnd places_after (λ a.
-    CarriesAt content may_leave moment left_since faults edits after (b name) (a name) × OthersStay name b a))
+  -- the journal of these edits was found under the name, and that of the history after them is left there
+  abbrev pub CarriesAt : List What → List Event → Place D → Place D → Type 0
+  CarriesAt edits after before now = HasKept (λ found. HasKept (λ left. Carries edits after found left) now) before
 
--- a disk under the name, if there is one, has bytes with P, and all is as before
-abbrev pub StaysWith : {D : Type 0} → (D → Option (List ℕ)) → (D → List ℕ → Type 0) → (D → ℕ) → (D → ℕ → List ℕ → Type 0) → List ℕ → (Place D → Type 0)
-    → Option (List ℕ → Place D) → Option (List ℕ → Place D) → Type 0
-StaysWith content may_leave moment left_since name P places_before places_after =
-    IfSome places_before (λ b. IsSomeAnd places_after (λ a.
-    P (b name) × (HasTheSame content may_leave moment left_since (b name) (a name) × OthersStay name b a)))
+  -- both where the cabinet tells what it has; under the other names nothing has changed
+  abbrev pub CarriesUnder : List ℕ → List What → List Event → Option (List ℕ → Place D) → Option (List ℕ → Place D) → Type 0
+  CarriesUnder name edits after places_before places_after =
+      IfSome places_before (λ b. IsSomeAnd places_after (λ a. CarriesAt edits after (b name) (a name) × OthersStay name b a))
 
--- What a batch over a cabinet comes to. Where its count of faults did not rise, no fault is in the history.
-abbrev pub ServesUnder : {D : Type 0} → (D → Option (List ℕ)) → (D → List ℕ → Type 0) → (D → ℕ) → (D → ℕ → List ℕ → Type 0) → (D → ℕ) → List ℕ → RunEnd
-    → Option (List ℕ → Place D) → Option (List ℕ → Place D) → ℕ → ℕ
-    → Option (List ℕ) → Option (List ℕ) → Option (List ℕ) → Option (List ℕ) → Type 0
-ServesUnder content may_leave moment left_since faults name (Served end) places_before places_after before now left_before left_after written_before written_after =
-    (edits : List What)
-    × IsServed usual_limit (reopen edits) end left_before left_after written_before written_after
-    (λ after. CarriesUnder content may_leave moment left_since faults name edits after places_before places_after
-    × ((faulted_count after ≡ 0) ⊎ Rose before now))
-ServesUnder content may_leave moment left_since faults name NotAJournal places_before places_after before now left_before left_after written_before written_after =
-    StaysWith content may_leave moment left_since name (IfKept (λ disk. IfSome (content disk) (λ bytes. ¬ HasHeader bytes))) places_before places_after
-ServesUnder content may_leave moment left_since faults name (Damaged at) places_before places_after before now left_before left_after written_before written_after =
-    StaysWith content may_leave moment left_since name (HasKept (λ disk. IfSome (content disk) (IsDamagedAt at))) places_before places_after
-ServesUnder content may_leave moment left_since faults name DiskFault places_before places_after before now left_before left_after written_before written_after =
-    StaysWith content may_leave moment left_since name (λ place. ⊤) places_before places_after × Rose before now
-ServesUnder content may_leave moment left_since faults name NoMemory places_before places_after before now left_before left_after written_before written_after =
-    StaysWith content may_leave moment left_since name (λ place. ⊤) places_before places_after
-ServesUnder content may_leave moment left_since faults name Made places_before places_after before now left_before left_after written_before written_after = ⊥
-ServesUnder content may_leave moment left_since faults name Exists places_before places_after before now left_before left_after written_before written_after = ⊥
+  -- What a batch over a cabinet comes to. Where its count of faults did not rise, no fault is in the history.
+  abbrev pub ServesUnder : List ℕ → RunEnd → Option (List ℕ → Place D) → Option (List ℕ → Place D) → ℕ → ℕ
+      → Option (List ℕ) → Option (List ℕ) → Option (List ℕ) → Option (List ℕ) → Type 0
+  ServesUnder name (Served end) places_before places_after before now left_before left_after written_before written_after =
+      (edits : List What)
+      × IsServed usual_limit (reopen edits) end left_before left_after written_before written_after
+      (λ after. CarriesUnder name edits after places_before places_after × ((faulted_count after ≡ 0) ⊎ Rose before now))
+  ServesUnder name NotAJournal places_before places_after before now left_before left_after written_before written_after =
+      StaysWith content may_leave moment left_since name (IfKept (λ disk. IfSome (content disk) (λ bytes. ¬ HasHeader bytes)))
+      places_before places_after
+  ServesUnder name (Damaged at) places_before places_after before now left_before left_after written_before written_after =
+      StaysWith content may_leave moment left_since name (HasKept (λ disk. IfSome (content disk) (IsDamagedAt at)))
+      places_before places_after
+  ServesUnder name DiskFault places_before places_after before now left_before left_after written_before written_after =
+      StaysWith content may_leave moment left_since name (λ place. ⊤) places_before places_after × Rose before now
+  ServesUnder name NoMemory places_before places_after before now left_before left_after written_before written_after =
+      StaysWith content may_leave moment left_since name (λ place. ⊤) places_before places_after
+  ServesUnder name Made places_before places_after before now left_before left_after written_before written_after = ⊥
+  ServesUnder name Exists places_before places_after before now left_before left_after written_before written_after = ⊥

@@ -80,7 +80,8 @@ pub(crate) fn serve_batch<C: Cabinet, S: Source, K: Sink>(
     input: &mut S,
     output: &mut K,
 ) -> RunEnd
-    ensures serves { ServesUnder C.Disk.content C.Disk.may_leave C.Disk.moment C.Disk.left_since C.Disk.faults name.now result (C.places cabinet.old) (C.places cabinet.new)
+    ensures serves { ServesUnder C.Disk.content C.Disk.may_leave C.Disk.moment C.Disk.left_since C.Disk.faults name.now result
+        (C.places cabinet.old) (C.places cabinet.new)
         (C.faults cabinet.old) (C.faults cabinet.new) (S.left input.old) (S.left input.new) (K.written output.old) (K.written output.new) }
     ensures cause { RunCause result (S.faults input.old) (S.faults input.new) (K.faults output.old) (K.faults output.new) }
     ensures unserved { IsEarly result → (input.new ≡ input.old) × (output.new ≡ output.old) }

@@ -42,7 +42,8 @@ pub fn run_office<R, S: Source, K: Sink, E: Sink, C: Cabinet>(
     ensures untouched { result ≡ 1 → (input.new ≡ input.old) × (output.new ≡ output.old) × (cabinet.new ≡ cabinet.old) }
     ensures usage_line { result ≡ 1 → IsReported usage_line (E.written faults.old) (E.written faults.new) (E.faults faults.old) (E.faults faults.new) }
 
-    ensures init { (name : List ℕ) → IsAsked (map string_bytes words.now) (Init name) → RunsInit C.Disk.content C.Disk.may_leave C.Disk.moment C.Disk.left_since name result
+    ensures init { (name : List ℕ) → IsAsked (map string_bytes words.now) (Init name)
+        → RunsInit C.Disk.content C.Disk.may_leave C.Disk.moment C.Disk.left_since name result
         (C.places cabinet.old) (C.places cabinet.new) (C.faults cabinet.old) (C.faults cabinet.new)
         (E.written faults.old) (E.written faults.new) (E.faults faults.old) (E.faults faults.new) }
     ensures init_alone { (name : List ℕ) → IsAsked (map string_bytes words.now) (Init name) → (input.new ≡ input.old) × (output.new ≡ output.old) }
@@ -50,7 +51,8 @@ pub fn run_office<R, S: Source, K: Sink, E: Sink, C: Cabinet>(
     // The headline: the bytes written are the office's replies to the bytes read, over the journal that was found, and
     // what is left is the journal of the edits that were accepted. A stop at any moment of the run leaves what it might
     // have left before, or the journal of those accepted up to some point, or of these and one more.
-    ensures batch { (name : List ℕ) → IsAsked (map string_bytes words.now) (Batch name) → RunsBatch C.Disk.content C.Disk.may_leave C.Disk.moment C.Disk.left_since C.Disk.faults name result
+    ensures batch { (name : List ℕ) → IsAsked (map string_bytes words.now) (Batch name)
+        → RunsBatch C.Disk.content C.Disk.may_leave C.Disk.moment C.Disk.left_since C.Disk.faults name result
         (C.places cabinet.old) (C.places cabinet.new) (C.faults cabinet.old) (C.faults cabinet.new)
         (S.left input.old) (S.left input.new) (K.written output.old) (K.written output.new)
         (E.written faults.old) (E.written faults.new) (E.faults faults.old) (E.faults faults.new) }
@@ -86,7 +88,8 @@ fn run_command<S: Source, K: Sink, C: Cabinet>(
     output: &mut K,
     cabinet: &mut C,
 ) -> RunEnd
-    ensures makes { (name : List ℕ) → asked_by command.entry ≡ Init name → Makes C.Disk.content C.Disk.may_leave C.Disk.moment C.Disk.left_since result name (C.places cabinet.old) (C.places cabinet.new) }
+    ensures makes { (name : List ℕ) → asked_by command.entry ≡ Init name
+        → Makes C.Disk.content C.Disk.may_leave C.Disk.moment C.Disk.left_since result name (C.places cabinet.old) (C.places cabinet.new) }
     ensures ends { (name : List ℕ) → asked_by command.entry ≡ Init name → IsMakingEnd result (C.faults cabinet.old) (C.faults cabinet.new) }
     ensures init_alone { (name : List ℕ) → asked_by command.entry ≡ Init name → (input.new ≡ input.old) × (output.new ≡ output.old) }
     ensures serves { (name : List ℕ) → asked_by command.entry ≡ Batch name

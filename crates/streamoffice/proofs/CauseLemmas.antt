@@ -1,9 +1,9 @@
 -- Faults that join a history have causes.
-use Rattle.std.proofs.Common.{◌≡◌, ◌⊎◌, ℕ, zero, suc, ◌+◌, ◌-◌, ◌^◌, ◌≤◌, min, List, [], ◌∷◌, ◌++◌, Option, Some, None, Bool, true, false, ℤ, refl, sym, ◌∙◌, ap, inl, inr, arith}
+use Rattle.std.proofs.Common.{◌≡◌, ℕ, ◌+◌, ◌≤◌, List, [], ◌∷◌, ◌++◌, Option, Some, None, Bool, ℤ, refl, ap, arith}
 use Rattle.records.specs.declared.edits.What.{What}
 use Rattle.office.specs.History.{Event, Accepted, Published, Faulted, faulted_count, reopen, after_turn, after_publication, next_day}
 use Rattle.devices.specs.Faults.{Rose}
-use Rattle.streamoffice.specs.Causes.{RoseBy, HaveCauses}
+use Rattle.streamoffice.specs.Causes.{HaveCauses}
 
 -- two stretches of a history, one behind the other
 pub causes_more : (events mid after : List Event) (f0 f f' : ℕ)

@@ -1,5 +1,5 @@
 -- Where no fault of the journal is in the history, none is replied.
-use Rattle.std.proofs.Common.{◌≡◌, ◌≢◌, ℕ, ◌+◌, ◌≤◌, Bool, true, false, if◌then◌else◌, List, [], ◌∷◌, ◌++◌, length, reverse, get_or, Option, Some, None, refl, sym, ◌∙◌, ap, subst, inl, inr, arith}
+use Rattle.std.proofs.Common.{◌≡◌, ◌≢◌, ℕ, ◌+◌, Bool, true, false, List, [], ◌∷◌, ◌++◌, length, reverse, get_or, Option, Some, None, refl, sym, ◌∙◌, ap, inl, inr, arith}
 use Rattle.std.specs.Fmt.{digits}
 use Rattle.std.proofs.lemmas.List.{reverse-append}
 use Rattle.records.specs.declared.edits.What.{What}
@@ -14,7 +14,7 @@ use Rattle.wire.specs.ReplyHead.{reply_bytes}
 use Rattle.wire.specs.declared.replies.Kind.TheVariants.{Json}
 use Rattle.wire.specs.declared.replies.TheConstants.{NO_MEMORY_REPLY}
 use Rattle.streamoffice.specs.Laws.{NoFaultIsTold, ToldNoFault}
-use Rattle.streamoffice.specs.Output.{asked, edit_reply, reply_to, fault_reply, turn_text, answer_text, IsReply, IsFaulted, AreReplies}
+use Rattle.streamoffice.specs.Output.{asked, edit_reply, reply_to, fault_reply, turn_text, answer_text, IsReply, AreReplies}
 use Rattle.streamoffice.proofs.CauseLemmas.{count_reopened}
 use Rattle.streamoffice.proofs.LawLemmas.{fault_adds, reply_count, replies_count, same_between}
 

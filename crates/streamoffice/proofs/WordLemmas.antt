@@ -1,5 +1,5 @@
 -- What words ask.
-use Rattle.std.proofs.Common.{◌≡◌, ◌≢◌, ℕ, ◌<◌, List, [], ◌∷◌, ◌++◌, length, codes, Option, Some, None, MatchOption, refl, sym, ◌∙◌, ap, subst, arith}
+use Rattle.std.proofs.Common.{◌≡◌, ◌≢◌, ℕ, List, [], ◌∷◌, ◌++◌, length, codes, Option, Some, None, MatchOption, refl, sym, ◌∙◌, ap, subst, arith}
 use Rattle.streamoffice.specs.Commands.{asked_by}
 use Rattle.streamoffice.specs.Words.{Asked, Init, Batch, IsAsked, AreOptions, command_word, journal_of}
 use Rattle.streamoffice.specs.declared.words.Command.{Command}

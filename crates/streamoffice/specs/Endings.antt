@@ -1,5 +1,5 @@
 -- The statuses of the program, and its lines.
-use Rattle.std.specs.Prelude.{◌≡◌, ℕ, List, [], ◌∷◌, ◌++◌, codes, decimal}
+use Rattle.std.specs.Prelude.{ℕ, List, [], ◌∷◌, ◌++◌, codes, decimal}
 use Rattle.streamoffice.specs.declared.sessions.SessionEnd.{SessionEnd}
 use Rattle.streamoffice.specs.declared.sessions.SessionEnd.TheVariants as ends
 use Rattle.streamoffice.specs.declared.commands.RunEnd.{RunEnd}

@@ -10,20 +10,19 @@ use Rattle.streamoffice.specs.Places.{HasKept, bytes_found, images_found}
 use Rattle.streamoffice.specs.declared.commands.RunEnd.{RunEnd}
 use Rattle.streamoffice.specs.declared.commands.RunEnd.TheVariants.{Made, Served, Exists, DiskFault, NotAJournal, Damaged, NoMemory}
 
--- Exactly where which end comes, over these bytes of which a stop might leave these images, and what the disk has then: a
--- journal of no records, or what it had. A fault may come in place of each, and leave any bytes in the place of the first
--- 17.
-abbrev pub MakesOn : {D : Type 0} → (D → Option (List ℕ)) → (D → List ℕ → Type 0) → List ℕ → (List ℕ → Type 0) → RunEnd → D → Type 0
-MakesOn content may_leave bytes images Made disk =
-    ((¬ IsTaken bytes) × (¬ IsForeign bytes)) × ((content disk ≡ Some empty_journal) × Only empty_journal (may_leave disk))
-MakesOn content may_leave bytes images Exists disk =
-    IsTaken bytes × ((content disk ≡ Some bytes) × NothingNew images (may_leave disk))
-MakesOn content may_leave bytes images NotAJournal disk =
-    IsForeign bytes × ((content disk ≡ Some bytes) × NothingNew images (may_leave disk))
-MakesOn content may_leave bytes images DiskFault disk = IsSomeAnd (content disk) (Torn 0 17 bytes)
-MakesOn content may_leave bytes images (Served end) disk = ⊥
-MakesOn content may_leave bytes images (Damaged at) disk = ⊥
-MakesOn content may_leave bytes images NoMemory disk = ⊥
+module _ {D : Type 0} (content : D → Option (List ℕ)) (may_leave : D → List ℕ → Type 0) where
+  -- Exactly where which end comes, over these bytes of which a stop might leave these images, and what the disk has then: a
+  -- journal of no records, or what it had. A fault may come in place of each, and leave any bytes in the place of the first
+  -- 17.
+  abbrev pub MakesOn : List ℕ → (List ℕ → Type 0) → RunEnd → D → Type 0
+  MakesOn bytes images Made disk =
+      ((¬ IsTaken bytes) × (¬ IsForeign bytes)) × ((content disk ≡ Some empty_journal) × Only empty_journal (may_leave disk))
+  MakesOn bytes images Exists disk = IsTaken bytes × ((content disk ≡ Some bytes) × NothingNew images (may_leave disk))
+  MakesOn bytes images NotAJournal disk = IsForeign bytes × ((content disk ≡ Some bytes) × NothingNew images (may_leave disk))
+  MakesOn bytes images DiskFault disk = IsSomeAnd (content disk) (Torn 0 17 bytes)
+  MakesOn bytes images (Served end) disk = ⊥
+  MakesOn bytes images (Damaged at) disk = ⊥
+  MakesOn bytes images NoMemory disk = ⊥
 
 -- the ends that there are, and the cause of a fault
 abbrev pub IsMakingEnd : RunEnd → ℕ → ℕ → Type 0
@@ -46,24 +45,25 @@ IsLeftByMaking images (Served end) image = ⊥
 IsLeftByMaking images (Damaged at) image = ⊥
 IsLeftByMaking images NoMemory image = ⊥
 
--- a stop at any moment of a run leaves an image that has P: of a disk that was under the name, at any moment since then,
--- and of one that was made, at any moment of its own
-abbrev pub LeavesAt : {D : Type 0} → (D → ℕ) → (D → ℕ → List ℕ → Type 0) → (List ℕ → Type 0) → Place D → D → Type 0
-LeavesAt moment left_since P Free disk = (image : List ℕ) → left_since disk 0 image → P image
-LeavesAt moment left_since P (Kept held) disk = LeavesOnly moment left_since held disk P
-LeavesAt moment left_since P Out disk = (image : List ℕ) → left_since disk 0 image → P image
+module _ {D : Type 0} (moment : D → ℕ) (left_since : D → ℕ → List ℕ → Type 0) where
+  -- a stop at any moment of a run leaves an image that has P: of a disk that was under the name, at any moment since then,
+  -- and of one that was made, at any moment of its own
+  abbrev pub LeavesAt : (List ℕ → Type 0) → Place D → D → Type 0
+  LeavesAt P Free disk = (image : List ℕ) → left_since disk 0 image → P image
+  LeavesAt P (Kept held) disk = LeavesOnly moment left_since held disk P
+  LeavesAt P Out disk = (image : List ℕ) → left_since disk 0 image → P image
 
--- The disk that was found or made is under its name, as its end says, and so is what a stop at any moment of the run left.
--- But where the cabinet failed the place is as before.
-abbrev pub MakesAt : {D : Type 0} → (D → Option (List ℕ)) → (D → List ℕ → Type 0) → (D → ℕ) → (D → ℕ → List ℕ → Type 0)
-    → RunEnd → Place D → Place D → Type 0
-MakesAt content may_leave moment left_since end before after =
-    ((end ≡ DiskFault) × (after ≡ before))
-    ⊎ HasKept (λ disk. IfSome (bytes_found content before) (λ bytes. MakesOn content may_leave bytes (images_found may_leave before) end disk)
-    × LeavesAt moment left_since (IsLeftByMaking (images_found may_leave before) end) before disk) after
+module _ {D : Type 0} (content : D → Option (List ℕ)) (may_leave : D → List ℕ → Type 0)
+    (moment : D → ℕ) (left_since : D → ℕ → List ℕ → Type 0) where
+  -- The disk that was found or made is under its name, as its end says, and so is what a stop at any moment of the run left.
+  -- But where the cabinet failed the place is as before.
+  abbrev pub MakesAt : RunEnd → Place D → Place D → Type 0
+  MakesAt end before after =
+      ((end ≡ DiskFault) × (after ≡ before))
+      ⊎ HasKept (λ disk. IfSome (bytes_found content before) (λ bytes. MakesOn content may_leave bytes (images_found may_leave before) end disk)
+      × LeavesAt moment left_since (IsLeftByMaking (images_found may_leave before) end) before disk) after
 
--- and under the other names nothing has changed
-abbrev pub Makes : {D : Type 0} → (D → Option (List ℕ)) → (D → List ℕ → Type 0) → (D → ℕ) → (D → ℕ → List ℕ → Type 0)
-    → RunEnd → List ℕ → Option (List ℕ → Place D) → Option (List ℕ → Place D) → Type 0
-Makes content may_leave moment left_since end name before after =
-    IfSome before (λ b. IsSomeAnd after (λ a. MakesAt content may_leave moment left_since end (b name) (a name) × OthersStay name b a))
+  -- and under the other names nothing has changed
+  abbrev pub Makes : RunEnd → List ℕ → Option (List ℕ → Place D) → Option (List ℕ → Place D) → Type 0
+  Makes end name before after =
+      IfSome before (λ b. IsSomeAnd after (λ a. MakesAt end (b name) (a name) × OthersStay name b a))

@@ -1,5 +1,5 @@
 -- The ends of runs, and their causes.
-use Rattle.std.specs.Prelude.{◌≡◌, ℕ, Result, Ok, Err, ⊤}
+use Rattle.std.specs.Prelude.{ℕ, Result, Ok, Err, ⊤}
 use Rattle.journal.specs.declared.making.InitFault.{InitFault}
 use Rattle.journal.specs.declared.making.InitFault.TheVariants as making
 use Rattle.journal.specs.declared.opening.OpenFault.{OpenFault}

@@ -1,5 +1,5 @@
 use Rattle.std.proofs.Common.{◌≡◌, ℕ, length, Bool, Some, None, Option, option_to_list, ℤ, refl, inr, ◌∙◌, ap}
-use Rattle.office.specs.History.{Event, after_turn, pending_days}
+use Rattle.office.specs.History.{after_turn, pending_days}
 use Rattle.office.specs.Stands.{Stands}
 use Rattle.http_api.specs.Replies.{turned_text}
 use Rattle.http_api.specs.declared.asks.Ask.TheVariants.{Turn}

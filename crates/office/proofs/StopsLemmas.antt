@@ -7,7 +7,7 @@ use Rattle.office.specs.Edits.{in_flight}
 use Rattle.office.specs.History.{Event, Accepted, Published, Faulted, accepted, doubt, after_edit, after_fault, after_publication, after_turn, next_day}
 use Rattle.office.specs.JournalOfEdits.{StandsForEdits}
 use Rattle.office.specs.Stands.{Stands}
-use Rattle.office.specs.Stops.{Extends, IsLeftBetween, flying}
+use Rattle.office.specs.Stops.{Extends, IsLeftBetween, edit_in_flight}
 use Rattle.office.specs.declared.records_office.Office.{Office}
 use Rattle.office.proofs.EditLemmas.{leaves_same}
 use Rattle.office.proofs.StandsLemmas.{holds_images}
@@ -27,13 +27,13 @@ pub extends_turn : (events : List Event) → Extends events (after_turn events)
 extends_turn events = extends_publication events (next_day events)
 
 -- what a stop leaves before these events come
-left_before : (events behind : List Event) (image : List ℕ) → StandsForEdits (accepted events) (flying (doubt events) behind) image
+left_before : (events behind : List Event) (image : List ℕ) → StandsForEdits (accepted events) (edit_in_flight (doubt events) behind) image
     → IsLeftBetween events (events ++ behind) image
 left_before events behind image h = record {
   since = [];
   behind = behind;
   after_is = ap (λ (e : List Event). e ++ behind) (sym (append-nil events));
-  stands = subst (λ (e : List Event). StandsForEdits (accepted e) (flying (doubt e) behind) image) (sym (append-nil events)) h;
+  stands = subst (λ (e : List Event). StandsForEdits (accepted e) (edit_in_flight (doubt e) behind) image) (sym (append-nil events)) h;
 }
 
 -- while nothing happens
@@ -58,19 +58,19 @@ left_doubted events edit last image is h =
     (subst (λ (o : Option What). StandsForEdits (accepted events) (in_flight o edit) image) is h))
 
 -- what more events may add
-flies_on : (edits : List What) (in_doubt : Option What) (behind more : List Event) (image : List ℕ)
-    → StandsForEdits edits (flying in_doubt behind) image → StandsForEdits edits (flying in_doubt (behind ++ more)) image
-flies_on edits None [] [] image h = h
-flies_on edits None [] (Accepted edit ∷ more) image h = inl h
-flies_on edits None [] (Published day ∷ more) image h = h
-flies_on edits None [] (Faulted edit left_in_doubt ∷ more) image h = inl h
-flies_on edits (Some last) [] [] image h = h
-flies_on edits (Some last) [] (Accepted edit ∷ more) image h = h
-flies_on edits (Some last) [] (Published day ∷ more) image h = h
-flies_on edits (Some last) [] (Faulted edit left_in_doubt ∷ more) image h = h
-flies_on edits in_doubt (Accepted edit ∷ behind) more image h = h
-flies_on edits in_doubt (Published day ∷ behind) more image h = h
-flies_on edits in_doubt (Faulted edit left_in_doubt ∷ behind) more image h = h
+in_flight_still : (edits : List What) (in_doubt : Option What) (behind more : List Event) (image : List ℕ)
+    → StandsForEdits edits (edit_in_flight in_doubt behind) image → StandsForEdits edits (edit_in_flight in_doubt (behind ++ more)) image
+in_flight_still edits None [] [] image h = h
+in_flight_still edits None [] (Accepted edit ∷ more) image h = inl h
+in_flight_still edits None [] (Published day ∷ more) image h = h
+in_flight_still edits None [] (Faulted edit left_in_doubt ∷ more) image h = inl h
+in_flight_still edits (Some last) [] [] image h = h
+in_flight_still edits (Some last) [] (Accepted edit ∷ more) image h = h
+in_flight_still edits (Some last) [] (Published day ∷ more) image h = h
+in_flight_still edits (Some last) [] (Faulted edit left_in_doubt ∷ more) image h = h
+in_flight_still edits in_doubt (Accepted edit ∷ behind) more image h = h
+in_flight_still edits in_doubt (Published day ∷ behind) more image h = h
+in_flight_still edits in_doubt (Faulted edit left_in_doubt ∷ behind) more image h = h
 
 -- what was left on the way to these events is left on the way to later ones
 pub left_longer : (events mid after : List Event) (image : List ℕ) → IsLeftBetween events mid image → Extends mid after
@@ -79,7 +79,7 @@ left_longer events mid after image h b = record {
   since = h.since;
   behind = h.behind ++ b.0;
   after_is = b.1 ∙ ap (λ (e : List Event). e ++ b.0) h.after_is ∙ append_assoc (events ++ h.since) h.behind b.0;
-  stands = flies_on (accepted (events ++ h.since)) (doubt (events ++ h.since)) h.behind b.0 image h.stands;
+  stands = in_flight_still (accepted (events ++ h.since)) (doubt (events ++ h.since)) h.behind b.0 image h.stands;
 }
 
 -- and what is left on the way from these events, on the way from earlier ones
@@ -92,7 +92,7 @@ left_earlier events mid after image a h =
       since = a.0 ++ h.since;
       behind = h.behind;
       after_is = h.after_is ∙ ap (λ (e : List Event). e ++ h.behind) same;
-      stands = subst (λ (e : List Event). StandsForEdits (accepted e) (flying (doubt e) h.behind) image) same h.stands;
+      stands = subst (λ (e : List Event). StandsForEdits (accepted e) (edit_in_flight (doubt e) h.behind) image) same h.stands;
     }
 
 -- an office that writes nothing

@@ -15,7 +15,8 @@ use Rattle.streamoffice.specs.Output.{IsReply, IsLeft, reply_to, history_after, 
 use Rattle.streamoffice.specs.declared.answers.Told.{Told}
 use Rattle.streamoffice.specs.declared.answers.Told.TheVariants as told
 
--- an ask was answered with this reply: whatever the office stood for, it stands for what follows, and passed on to it so
+-- An ask was answered with this reply: whatever the office stood for, it stands for what follows. `Passed` is what is said
+-- of the way from the one to the other.
 abbrev pub Answered : ℕ → (List Event → Type 0) → Option Ask → List ℕ → (List Event → Type 0) → (List Event → List Event → Type 0) → Type 0
 Answered limit StoodFor ask reply StandsFor Passed =
     (events : List Event) → StoodFor events

@@ -1,0 +1,239 @@
+//! Days worked by hand.
+ghost use Rattle.std.specs.Prelude.{◌≡◌, true, All, IsTrue};
+ghost use Rattle.fixed_units.specs.Quantities.{IsStage};
+ghost use Rattle.readings.specs.Readings.{IsRising};
+ghost use Rattle.daily_values.specs.DayInputs.{AreInputs};
+
+use daily_values::{
+    DayInputs, DayParts, DayValue, Figures, ReadingList, Sum, compute, from_scratch,
+};
+use fixed_units::{Flag, Micro, Published, Reading, RoundingArray, Second};
+use std::alloc::Global;
+use std::process::Abort;
+use std::test::Fail;
+
+// The day of the examples: 2024-01-05 at UTC-5.
+const START: i64 = 1_704_430_800;
+
+fn are_rising(readings: &[Reading]) -> bool
+    ensures { IsTrue result → IsRising readings.now }
+{
+    let mut rest = readings;
+    while let [left, right, ..] = rest {
+        if left.at.get() >= right.at.get() {
+            return false;
+        }
+        rest = &rest[1..];
+    }
+    true
+}
+
+fn are_stages(readings: &[Reading]) -> bool
+    ensures { IsTrue result → All (λ r. IsStage r.raw) readings.now }
+{
+    readings.iter().all(|r| (-100_000_000_000..=100_000_000_000).contains(&r.raw.get()))
+}
+
+fn are_inputs(inputs: &DayInputs) -> bool
+    ensures { IsTrue result → AreInputs inputs.now }
+{
+    let DayInputs::Day(parts) = inputs else {
+        return true;
+    };
+    let length = parts.until.get() - parts.from.get();
+    if parts.gap < 1 || parts.gap > 720 || length < 72_000 || length > 100_800 {
+        return false;
+    }
+    let window = parts.window.as_slice();
+    are_rising(window) && are_stages(window)
+}
+
+fn second(rt: &impl Abort, after_start: i32) -> Second {
+    Second::new(START + i64::from(after_start)).expect(rt, "an instant")
+}
+
+// The readings at these seconds after the start, of so many millionths of a foot.
+fn readings(rt: &impl Abort, alloc: Global, listed: &[(i32, i64)]) -> Result<Vec<Reading>, Fail> {
+    let mut readings = Vec::new(alloc);
+    for (after_start, raw) in listed {
+        readings.push(Reading {
+            at: second(rt, *after_start),
+            raw: Micro::new(*raw).expect(rt, "a stage"),
+            flag: Flag::Usable,
+        })?;
+    }
+    Ok(readings)
+}
+
+// The figures of a day of so many seconds.
+fn figures_of(
+    rt: &impl Abort,
+    alloc: Global,
+    gap: u32,
+    length: i32,
+    stage_array: RoundingArray,
+    listed: &[(i32, i64)],
+) -> Result<Figures, Fail> {
+    let inputs = DayInputs::Day(DayParts {
+        gap,
+        from: second(rt, 0),
+        until: second(rt, length),
+        window: ReadingList::from_vec(readings(rt, alloc, listed)?),
+        stage_array,
+    });
+    assert!(rt; are_inputs(&inputs));
+    let DayValue::Day(figures) = compute(&inputs) else {
+        panic!(rt; "a day with a window has figures");
+    };
+    Ok(figures)
+}
+
+// The seconds that are covered, twice the area, and the hundredths of the mean, of a day of so many seconds.
+fn expect_day(
+    rt: &impl Abort,
+    alloc: Global,
+    gap: u32,
+    length: i32,
+    listed: &[(i32, i64)],
+    want: (u32, i128, Option<i64>),
+) -> Result<(), Fail> {
+    let figures = figures_of(rt, alloc, gap, length, RoundingArray::STAGES, listed)?;
+    let sum = figures.stage();
+    let units = figures.stage_text().map(|published| published.units);
+    assert_eq!(rt; (sum.covered, sum.twice, units), want);
+    Ok(())
+}
+
+#[test]
+fn days_worked_by_hand(rt: HostRuntime) -> Result<(), Fail> {
+    let alloc = rt.alloc();
+    let mean = 2 * 1_500_000 * 86_400;
+    let noon = (43_200, 2_000_000);
+    // two pairs of exactly 12 hours
+    expect_day(
+        &rt,
+        alloc,
+        720,
+        86_400,
+        &[(0, 1_000_000), noon, (86_400, 1_000_000)],
+        (86_400, mean, Some(150)),
+    )?;
+    // the second half is not covered
+    expect_day(
+        &rt,
+        alloc,
+        720,
+        86_400,
+        &[(0, 1_000_000), noon],
+        (43_200, mean / 2, None),
+    )?;
+    // one second over the tolerance
+    expect_day(
+        &rt,
+        alloc,
+        720,
+        86_400,
+        &[(0, 1_000_000), (43_201, 2_000_000)],
+        (0, 0, None),
+    )?;
+    // the nearest readings on either side are too far from each other
+    expect_day(
+        &rt,
+        alloc,
+        720,
+        72_000,
+        &[(-21_600, 1_000_000), (93_600, 2_000_000)],
+        (0, 0, None),
+    )?;
+    // no pair touches the day
+    expect_day(
+        &rt,
+        alloc,
+        60,
+        86_400,
+        &[(-20, 5), (-10, 5), (86_410, 5), (86_420, 5)],
+        (0, 0, None),
+    )?;
+    // cut at the start, half a millionth below 0; cut at the end, half a millionth above 0
+    expect_day(
+        &rt,
+        alloc,
+        1,
+        86_400,
+        &[(-1, 0), (1, -1), (86_399, 0), (86_401, 1)],
+        (2, -2 + 1, None),
+    )?;
+    // half a hundredth below 0
+    expect_day(
+        &rt,
+        alloc,
+        720,
+        86_400,
+        &[(0, -5_000), (43_200, -5_000), (86_400, -5_000)],
+        (86_400, -10_000 * 86_400, Some(-1)),
+    )
+}
+
+#[test]
+fn a_mean_is_published_by_the_array_of_its_day(rt: HostRuntime) -> Result<(), Fail> {
+    let listed = [(0, 1_000_000), (43_200, 2_000_000), (86_400, 1_000_000)];
+    let array = RoundingArray::read(b"0111111111").expect(&rt, "a rounding array");
+    let figures = figures_of(&rt, rt.alloc(), 720, 86_400, array, &listed)?;
+    assert_eq!(rt;
+        figures.stage_text(),
+        Some(Published {
+            units: 2,
+            places: 0
+        })
+    );
+    Ok(())
+}
+
+// The value of the example day from all readings of a station.
+fn from_all(
+    rt: &impl Abort,
+    alloc: Global,
+    gap: u32,
+    readings: &[Reading],
+) -> Result<DayValue, Fail> {
+    assert!(rt; (1..=720).contains(&gap) && are_rising(readings) && are_stages(readings));
+    let from = second(rt, 0);
+    let until = second(rt, 86_400);
+    let length = until.get() - from.get();
+    assert!(rt; length == 86_400);
+    Ok(from_scratch::day_value(alloc, gap, RoundingArray::STAGES, from, until, readings)?)
+}
+
+#[test]
+fn from_the_whole_list(rt: HostRuntime) -> Result<(), Fail> {
+    let alloc = rt.alloc();
+    let listed = [
+        (-90_000, 7),
+        (-3_600, 1_000_000),
+        (0, 9),
+        (3_600, 2_000_000),
+        (90_001, 1_000_000),
+        (90_002, 7),
+    ];
+    let early = readings(&rt, alloc, &listed[..2])?;
+    assert_eq!(rt; from_all(&rt, alloc, 120, &early)?, DayValue::Empty);
+    let mut readings = readings(&rt, alloc, &listed)?;
+    if let Some(bad) = readings.get_mut(2) {
+        bad.flag = Flag::Erroneous;
+    }
+    let DayValue::Day(figures) = from_all(&rt, alloc, 120, &readings)? else {
+        panic!(rt; "a day with a reading has figures");
+    };
+    // the pair over the start is cut at half its rise; the one over the end is too long
+    let want = Sum {
+        twice: (1_500_000 + 2_000_000) * 3_600,
+        covered: 3_600,
+    };
+    assert_eq!(rt; (figures.length(), figures.stage()), (86_400, want));
+    Ok(())
+}
+
+#[test]
+fn no_window_no_figures(rt: HostRuntime) {
+    assert_eq!(rt; compute(&DayInputs::Empty), DayValue::Empty);
+}

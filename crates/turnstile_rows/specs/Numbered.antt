@@ -1,6 +1,5 @@
 -- Passes of a lock round numbers.
-use Rattle.std.specs.Prelude.{ℕ, List, Option}
-use Rattle.std.specs.declared.alloc.Global.{Global}
+use Rattle.std.specs.Prelude.{ℕ, Option}
 use Rattle.atomic_table.specs.declared.shared.Seat.{Seat}
 use Rattle.turnstile.specs.Passes.{IsPassOf}
 use Rattle.turnstile.specs.declared.parties.Party.{Party}

@@ -1,7 +1,6 @@
 //! Worked rows of the turnstile, with real threads.
 #![tactic(auto)]
 
-#[cfg(test)]
-mod numbers;
+pub mod numbers;
 #[cfg(test)]
 mod turns;

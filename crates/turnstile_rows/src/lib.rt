@@ -1,0 +1,6 @@
+//! Worked rows of the turnstile, with real threads.
+#![tactic(auto)]
+
+pub mod numbers;
+#[cfg(test)]
+mod turns;

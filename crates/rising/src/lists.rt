@@ -7,6 +7,12 @@ use crate::keys::Keyed;
 use crate::places::{count_before, stands_in};
 use std::alloc::{AllocError, Global};
 use std::marker::Model;
+use thiserror::Error;
+
+/// Nothing stands at the key.
+#[derive(Clone, Copy, Debug, PartialEq, Eq, Error)]
+#[error("nothing stands there")]
+pub struct NoEntry;
 
 /// Elements that strictly rise by their keys. Contracts see the list, and for how many more elements there is room.
 #[derive(Debug, Drop)]

@@ -1,6 +1,6 @@
 //! A rating table, read by straight lines both ways.
 
-ghost use Rattle.std.specs.Prelude.{◌≡◌, ◌⊎◌, ◌+◌, ◌<◌, ◌≤◌, take, drop, length, slice_index, None, Some, IfOk, IfErr, ◌<ℤ◌, ◌≤ℤ◌, AllPairs};
+ghost use Rattle.std.specs.Prelude.{◌≡◌, ◌+◌, ◌<◌, ◌≤◌, take, drop, length, slice_index, None, Some, unwrap_or, IfOk, IfErr, ◌<ℤ◌, ◌≤ℤ◌, AllPairs};
 ghost use Rattle.fixed_units.specs.Quantities.{IsMicro};
 ghost use Rattle.ratings.specs.Table as tables;
 ghost use Rattle.ratings.specs.Table.{IsTable, line_at, rows_upto, rows_above, rows_short, rows_reaching, fault_behind, order_fault, table_fault};
@@ -77,10 +77,10 @@ impl Table {
     ///
     /// # Errors
     ///
-    /// `Count` outside 2 to 10,000 rows, otherwise the first row at fault. `NoMemory` may come instead.
+    /// `Count` outside 2 to 10,000 rows, otherwise the first row at fault. `NoMemory` only where no row is.
     pub fn new(alloc: Global, rows: &[(Micro, Micro)]) -> Result<Table, TableFault>
         ensures ok { IfOk result (λ table. (table ≡ rows.now) × (table_fault rows.now ≡ None)) }
-        ensures err { IfErr result (λ fault. (fault ≡ TableFault.NoMemory) ⊎ (table_fault rows.now ≡ Some fault)) }
+        ensures err { IfErr result (λ fault. fault ≡ unwrap_or (table_fault rows.now) TableFault.NoMemory) }
     {
         if let Some(fault) = find_fault(rows) {
             return Err(fault);

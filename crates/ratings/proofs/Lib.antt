@@ -5,7 +5,6 @@ pub mod Parting
 pub mod PeriodLawLemmas
 pub mod PeriodLemmas
 pub mod RdbLemmas
-pub mod ReadingLemmas
 pub mod Selecting
 pub mod TableLawLemmas
 pub mod TableLemmas

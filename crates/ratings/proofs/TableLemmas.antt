@@ -7,7 +7,7 @@ use Rattle.std.proofs.lemmas.List.Elements.{All-cons, All-weaker}
 use Rattle.std.proofs.lemmas.List.Kept.{AllPairs-cons}
 use Rattle.ratings.specs.declared.table.TableFault.{TableFault}
 use Rattle.ratings.specs.declared.table.TableFault.TheVariants.{Count, NotRising, Falling}
-use Rattle.ratings.specs.Table.{Row, IsTable, fault_behind, or_else, is_off_count, order_fault, table_fault, rows_upto, rows_above, rows_short, rows_reaching}
+use Rattle.ratings.specs.Table.{Row, IsInOrder, IsTable, fault_behind, or_else, is_off_count, order_fault, table_fault, rows_upto, rows_above, rows_short, rows_reaching}
 use Rattle.ratings.proofs.Parting.{kept_passes}
 
 -- one row behind another
@@ -16,10 +16,6 @@ IsBelow r s = r.0 <ℤ s.0
 
 abbrev pub IsNoMore : Row → Row → Type 0
 IsNoMore r s = r.1 ≤ℤ s.1
-
-pub record IsInOrder (rows : List Row) : Type 0 where
-  pub rising : AllPairs IsBelow rows
-  pub never_falling : AllPairs IsNoMore rows
 
 pub record IsBehind (r s : Row) : Type 0 where
   pub rising : r.0 <ℤ s.0
@@ -59,12 +55,13 @@ none_in_order i (r ∷ s ∷ rows) h =
     let parts = none_behind (suc i) r s (order_fault (suc i) (s ∷ rows)) h in
     in_order_step r s rows parts.0 (none_in_order (suc i) (s ∷ rows) parts.1)
 
+pub in_order_table : (rows : List Row) → is_off_count (length rows) ≡ false → IsInOrder rows → IsTable rows
+in_order_table rows e order = record { most = grind arith; least = grind arith; rising = order.rising; never_falling = order.never_falling }
+
 table_step : (rows : List Row) (b : Bool) → (is_off_count (length rows)) ≡ b
     → cond b (Some Count) (order_fault 0 rows) ≡ None → IsTable rows
 table_step rows true e h = absurd (cc)
-table_step rows false e h =
-    let order = none_in_order 0 rows h in
-    record { most = grind arith; least = grind arith; rising = order.rising; never_falling = order.never_falling }
+table_step rows false e h = in_order_table rows e (none_in_order 0 rows h)
 
 pub none_table : (rows : List Row) → table_fault rows ≡ None → IsTable rows
 none_table rows h = table_step rows (is_off_count (length rows)) refl h

@@ -1,5 +1,5 @@
 -- What an RDB text of a rating is read as: the rows of a table, or its first fault with lines taken in order.
-use Rattle.std.specs.Prelude.{◌≡◌, ◌^◌, ℕ, suc, Bool, true, false, ◌&&◌, ◌==◌, if◌then◌else◌, List, [], ◌∷◌, ◌++◌, take, length, reverse, Option, None, Some, option_map, Result, Ok, Err, ℤ, pos, neg_ℤ, int_lt, int_le, codes}
+use Rattle.std.specs.Prelude.{◌≡◌, ◌^◌, ℕ, suc, Bool, true, false, ◌&&◌, ◌==◌, if◌then◌else◌, List, [], ◌∷◌, ◌++◌, length, reverse, Option, None, Some, option_map, Result, Ok, Err, ℤ, pos, neg_ℤ, int_lt, int_le, codes}
 use Rattle.std.specs.Ordering.{int_eq}
 use Rattle.std.specs.Str.{bytes_eq}
 use Rattle.csv.specs.Machine.{Read, next_record}
@@ -29,6 +29,14 @@ fields_read (Some read) = read.0
 -- the fields that the crate `csv` states for a line
 abbrev pub fields : List ℕ → List (List ℕ)
 fields line = fields_read (next_record tab_config state.StartRecord [] [] line)
+
+-- those of a text from the start of a field on, and those behind the tab that ends a field, if one does
+abbrev pub fields_from : List ℕ → List (List ℕ)
+fields_from text = fields_read (next_record tab_config state.StartField [] [] text)
+
+abbrev pub fields_behind : Option (List ℕ) → List (List ℕ)
+fields_behind None = []
+fields_behind (Some text) = fields_from text
 
 -- the place of the first column of a name
 abbrev pub column : List ℕ → List (List ℕ) → Option ℕ
@@ -152,10 +160,10 @@ rows_in (names ∷ formats ∷ lines) = rows_under (columns_of (fields names.1))
 abbrev pub rdb_of : List ℕ → Result (List Row) RdbFault
 rdb_of text = rows_in (kept_lines 0 (strip_bom text))
 
--- the first rows of those that were read, one more than a table may have
-abbrev pub AreFirst : Result (List Row) RdbFault → List Row → Type 0
-AreFirst (Err fault) first = ⊥
-AreFirst (Ok rows) first = first ≡ take 10_001 rows
+-- rows that were read: how many there are, and all of them where so many were kept
+abbrev pub AreRead : Result (List Row) RdbFault → List Row → ℕ → Type 0
+AreRead (Err fault) kept count = ⊥
+AreRead (Ok rows) kept count = (length rows ≡ count) × (length kept ≡ count → kept ≡ rows)
 
 -- the line of a fault, 0 where it is none of a line
 abbrev pub line_of : RdbFault → ℕ

@@ -11,6 +11,11 @@ use Rattle.ratings.specs.declared.table.TableFault.TheVariants.{Count, NotRising
 abbrev pub Row : Type 0
 Row = ℤ × ℤ
 
+-- rows are in order where their stages strictly rise and their discharges never fall
+pub record IsInOrder (rows : List Row) : Type 0 where
+  pub rising : AllPairs (λ r s. r.0 <ℤ s.0) rows
+  pub never_falling : AllPairs (λ r s. r.1 ≤ℤ s.1) rows
+
 -- a table has 2 to 10,000 rows, its stages strictly rise and its discharges never fall
 pub record IsTable (rows : List Row) : Type 0 where
   pub most : length rows ≤ 10_000

@@ -2,11 +2,12 @@
 
 ghost use Rattle.std.specs.Prelude.{◌≡◌, ◌+◌, ◌<◌, ◌≤◌, length, Some, pos, neg_ℤ, ◌^◌, option_map, reverse};
 ghost use Rattle.fixed_units.specs.Quantities.{IsMicro};
-ghost use Rattle.ratings.specs.Rdb as rdb;
-ghost use Rattle.ratings.specs.Rdb.{columns_of, quantity, trimmed, skip_spaces, stage_in, discharge_in, shift_in, shift_text, row_from, row_of, behind};
+ghost use Rattle.ratings.specs.Lines.{IsKept};
+ghost use Rattle.ratings.specs.Rdb.{columns_of, fields, field_in, quantity, trimmed, skip_spaces, stage_in, discharge_in, shift_in, shift_text, row_from, row_of, behind, next_row};
 
 use crate::rdb::RdbFault;
-use crate::rdb_fields::Fields;
+use crate::rdb_fields::{find_column, find_field};
+use crate::rdb_lines::Line;
 use fixed_units::{Micro, read_decimal};
 
 /// Where the columns stand that are read.
@@ -20,31 +21,50 @@ pub(crate) struct Columns {
     pub shift: Option<usize>,
 }
 
-/// The places of the columns among their names, if the two that are needed are there.
-pub(crate) fn find_columns(names: &Fields) -> Option<Columns>
-    ensures { result ≡ columns_of names.now }
+/// The places of the columns in the line of their names, if the two that are needed are there.
+pub(crate) fn find_columns(names: &[u8]) -> Option<Columns>
+    requires { IsKept names.now }
+    ensures { result ≡ columns_of (fields names.now) }
 {
-    let stage = names.position(b"INDEP")?;
-    let discharge = names.position(b"DEP")?;
+    let stage = find_column(names, b"INDEP")?;
+    let discharge = find_column(names, b"DEP")?;
     Some(Columns {
         stage,
         discharge,
-        shift: names.position(b"SHIFT"),
+        shift: find_column(names, b"SHIFT"),
     })
 }
 
-/// The row of the line of that number.
+/// The row of a line, behind the row before it.
 pub(crate) fn read_row(
     columns: Columns,
-    number: u64,
-    fields: &Fields,
+    before: Option<(Micro, Micro)>,
+    line: &Line<'_>,
 ) -> Result<(Micro, Micro), RdbFault>
-    ensures { result ≡ row_of columns number fields.now }
+    requires { IsKept line.now.bytes.now }
+    ensures { result ≡ next_row columns before (line.now.number, line.now.bytes.now) }
 {
-    let stage = read_stage(fields.get(columns.stage));
-    let discharge = read_discharge(fields.get(columns.discharge));
-    let shift = read_shift(fields.get_at(columns.shift));
-    make_row(number, stage, discharge, shift)
+    let row = read_numbers(columns, line)?;
+    put_behind(line.number, before, row)
+}
+
+/// The row of a line.
+fn read_numbers(columns: Columns, line: &Line<'_>) -> Result<(Micro, Micro), RdbFault>
+    requires { IsKept line.now.bytes.now }
+    ensures { result ≡ row_of columns line.now.number (fields line.now.bytes.now) }
+{
+    let stage = read_stage(find_field(line.bytes, columns.stage));
+    let discharge = read_discharge(find_field(line.bytes, columns.discharge));
+    let shift = read_shift(find_field_in(line.bytes, columns.shift));
+    make_row(line.number, stage, discharge, shift)
+}
+
+/// The field of a line at a place, if there is such a place and a field there.
+fn find_field_in(line: &[u8], place: Option<usize>) -> Option<&[u8]>
+    requires { IsKept line.now }
+    ensures { option_map (λ s. s.now) result ≡ field_in place (fields line.now) }
+{
+    find_field(line, place?)
 }
 
 /// A row of three numbers, of which the shift has to be 0.
@@ -67,7 +87,7 @@ fn make_row(
 }
 
 /// A row behind another one, above which its stage has to rise and below which its discharge may not fall.
-pub(crate) fn put_behind(
+fn put_behind(
     number: u64,
     before: Option<(Micro, Micro)>,
     row: (Micro, Micro),

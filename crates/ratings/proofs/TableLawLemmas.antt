@@ -12,20 +12,8 @@ use Rattle.fixed_units.proofs.RoundingLemmas.{line-start, line-end}
 use Rattle.ratings.specs.declared.table.Rated.TheVariants.{Value}
 use Rattle.ratings.specs.Table.{Row, IsTable, line_at, rated, rated_between, stage_of, stage_between, rows_upto, rows_above, rows_short, rows_reaching, last, first}
 use Rattle.ratings.proofs.TableLemmas.{IsBelow, IsNoMore}
-use Rattle.ratings.proofs.Selecting.{AllPairs-head, AllPairs-tail, All-back}
-use Rattle.ratings.proofs.Parting.{filter_all, filter_none}
-
-lt_yes : (x y : ℤ) → x <ℤ y → int_lt x y ≡ true
-lt_yes x y h = grind (arith, ints)
-
-lt_no : (x y : ℤ) → y ≤ℤ x → int_lt x y ≡ false
-lt_no x y h = grind (arith, ints)
-
-le_yes : (x y : ℤ) → x ≤ℤ y → int_le x y ≡ true
-le_yes x y h = grind (arith, ints)
-
-le_no : (x y : ℤ) → y <ℤ x → int_le x y ≡ false
-le_no x y h = grind (arith, ints)
+use Rattle.rising.proofs.Selecting.{filter_all, filter_none, AllPairs-head, AllPairs-tail, All-back}
+use Rattle.rising.proofs.Parting.{lt_yes, lt_no, le_yes, le_no}
 
 -- the rows in front of one, and those behind it
 front_of : (R : Row → Row → Type 0) (front : List Row) (r : Row) (back : List Row) → AllPairs R (front ++ r ∷ back) → All (λ x. R x r) front

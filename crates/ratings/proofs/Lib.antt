@@ -1,5 +1,4 @@
 pub mod FieldLemmas
-pub mod LineLemmas
 pub mod LineTextLemmas
 pub mod PeriodLawLemmas
 pub mod PeriodLemmas

@@ -1,5 +1,5 @@
 -- Laws of tables: what the rows around a stage or a discharge are.
-use Rattle.std.specs.Prelude.{◌≡◌, Bool, true, false, List, [], ◌∷◌, ◌++◌, ◌-◌, ℤ, pos, ◌<ℤ◌, ◌≤ℤ◌, ◌+ℤ◌, ◌-ℤ◌, ◌*ℤ◌, int_lt, int_le, Option, None, Some, filter, length, slice_get, All, AllPairs, Contains}
+use Rattle.std.specs.Prelude.{◌≡◌, Bool, true, false, List, [], ◌∷◌, ◌++◌, ◌-◌, ℤ, ◌<ℤ◌, ◌≤ℤ◌, int_lt, int_le, Option, None, Some, filter, length, slice_get, All, AllPairs, Contains}
 use Rattle.std.specs.Ordering.{int_eq}
 use Rattle.std.proofs.Common.{arith, refl, ap, sym, ◌∙◌, subst}
 use Rattle.std.proofs.lemmas.Int.{ints, by_lt_z}
@@ -7,10 +7,10 @@ use Rattle.std.proofs.lemmas.Bool.Decides.{Decides-int_eq}
 use Rattle.std.proofs.lemmas.List.{get_or_at, length-append, append_assoc}
 use Rattle.std.proofs.lemmas.Option.{slice_get_read}
 use Rattle.std.proofs.lemmas.List.Elements.{All-head, All-cons, All-nil, All-weaker, filter-append, Contains-append_right}
-use Rattle.fixed_units.specs.Rounding.{round}
-use Rattle.fixed_units.proofs.RoundingLemmas.{line-start, line-end}
+use Rattle.fixed_units.specs.Lines.{line_at}
+use Rattle.fixed_units.proofs.LineLemmas.{line-first, line-last}
 use Rattle.ratings.specs.declared.table.Rated.TheVariants.{Value}
-use Rattle.ratings.specs.Table.{Row, IsTable, line_at, rated, rated_between, stage_of, stage_between, rows_upto, rows_above, rows_short, rows_reaching, last, first}
+use Rattle.ratings.specs.Table.{Row, IsTable, rated, rated_between, stage_of, stage_between, rows_upto, rows_above, rows_short, rows_reaching, last, first}
 use Rattle.ratings.proofs.TableLemmas.{IsBelow, IsNoMore}
 use Rattle.rising.proofs.Selecting.{filter_all, filter_none, AllPairs-head, AllPairs-tail, All-back}
 use Rattle.rising.proofs.Parting.{lt_yes, lt_no, le_yes, le_no}
@@ -63,18 +63,10 @@ row_rated rows front back r h e =
     ap (λ l. rated l r.0) e ∙ ap (λ l. rated_between (last l) (first (rows_above r.0 (front ++ r ∷ back))) r.0) parts.0
     ∙ ap (λ o. rated_between o (first (rows_above r.0 (front ++ r ∷ back))) r.0) (last_at_end front r) ∙ on_row r (first (rows_above r.0 (front ++ r ∷ back)))
 
-line_from : (r s : Row) → r.0 <ℤ s.0 → line_at r s r.0 ≡ r.1
-line_from r s h =
-    let none : r.0 -ℤ r.0 ≡ pos 0 = omega (arith, ints) in
-    ap (λ z. r.1 +ℤ round ((s.1 -ℤ r.1) *ℤ z) (s.0 -ℤ r.0)) none ∙ line-start r.1 s.1 (s.0 -ℤ r.0) (omega (arith, ints))
-
-line_to : (r s : Row) → r.0 <ℤ s.0 → line_at r s s.0 ≡ s.1
-line_to r s h = line-end r.1 s.1 (s.0 -ℤ r.0) (omega (arith, ints))
-
 between_step : (r s : Row) (stage : ℤ) (b : Bool) → r.0 <ℤ s.0 → int_eq r.0 stage ≡ b → rated_between (Some r) (Some s) stage ≡ Value (line_at r s stage)
 between_step r s stage true h e =
     let same : r.0 ≡ stage = (Decides-int_eq r.0 stage).0 e in
-    let value : line_at r s stage ≡ r.1 = ap (line_at r s) (sym same) ∙ line_from r s h in
+    let value : line_at r s stage ≡ r.1 = ap (line_at r s) (sym same) ∙ line-first r s h in
     rw (e, value) refl
 between_step r s stage false h e = rw e refl
 
@@ -95,7 +87,7 @@ between_rated rows front back r s stage h e low high =
     (λ above.
     let same : stage ≡ s.0 = omega (arith, ints) in
     let whole : rows ≡ (front ++ r ∷ []) ++ s ∷ back = e ∙ sym (append_assoc front (r ∷ []) (s ∷ back)) in
-    ap (rated rows) same ∙ row_rated rows (front ++ r ∷ []) back s h whole ∙ ap Value (sym (line_to r s next) ∙ ap (line_at r s) (sym same)))
+    ap (rated rows) same ∙ row_rated rows (front ++ r ∷ []) back s h whole ∙ ap Value (sym (line-last r s next) ∙ ap (line_at r s) (sym same)))
 
 -- the first row that reaches a row's discharge has it
 record Reaches (rows : List Row) (r : Row) : Type 0 where

@@ -4,7 +4,8 @@ ghost use Rattle.std.specs.Prelude.{◌≡◌, ◌↔◌, true, List, ◌∷◌,
 ghost use Rattle.ratings.specs.declared.table.Rated.TheVariants.{Value};
 ghost use Rattle.ratings.specs.Periods.{AreApart, is_in_force, share};
 ghost use Rattle.ratings.specs.Spans.{Span};
-ghost use Rattle.ratings.specs.Table.{IsTable, Row, line_at, rated, stage_of};
+ghost use Rattle.fixed_units.specs.Lines.{line_at};
+ghost use Rattle.ratings.specs.Table.{IsTable, Row, rated, stage_of};
 
 /// Whatever two neighbouring rows a stage lies between, both of them included, its rated discharge is what the line
 /// between them has there; on a row it is that row's discharge.

@@ -7,15 +7,9 @@ ghost use Rattle.ratings.specs.Periods.{AreApart, begin, overlap, in_force, stan
 
 use crate::period::Period;
 use fixed_units::{NoMemory, Second};
-use rising::{RisingList, count_to};
+use rising::{NoEntry, RisingList, count_to};
 use std::alloc::Global;
 use std::marker::Model;
-use thiserror::Error;
-
-/// Nothing begins at that instant.
-#[derive(Clone, Copy, Debug, PartialEq, Eq, Error)]
-#[error("no entry")]
-pub struct NoEntry;
 
 /// Periods, rising by their starts, of which no two share an instant. Contracts see the list, and for how many more
 /// there is room.

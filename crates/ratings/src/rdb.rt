@@ -9,7 +9,7 @@ ghost use Rattle.ratings.specs.Table.{IsInOrder, is_off_count};
 
 use crate::rdb_lines::{next_line, without_mark};
 use crate::rdb_rows::{Columns, find_columns, read_row};
-use crate::table::{MOST, Table, is_off_count};
+use crate::table::{MOST_ROWS, Table, is_off_count};
 use fixed_units::{Micro, NoMemory};
 use std::alloc::Global;
 use thiserror::Error;
@@ -128,7 +128,7 @@ impl Rows {
         ensures kept { ((length self.old.kept.items ≡ self.old.count) × (self.new.kept.items ≡ self.old.kept.items ++ row.now ∷ []))
             ⊎ (self.new.kept.items ≡ self.old.kept.items) }
     {
-        if self.kept.len() == self.count && self.count < MOST {
+        if self.kept.len() == self.count && self.count < MOST_ROWS {
             // Want of memory is told after the last row, which may be at fault.
             let _added = self.kept.push(*row);
         }

@@ -1,14 +1,15 @@
 //! A row of an RDB text: its columns, its numbers and its place behind the row before it.
 
 ghost use Rattle.std.specs.Prelude.{◌≡◌, ◌+◌, ◌<◌, ◌≤◌, length, Some, pos, neg_ℤ, ◌^◌, option_map, reverse};
-ghost use Rattle.fixed_units.specs.Quantities.{IsMicro};
+ghost use Rattle.std.specs.Result.{result_ok};
+ghost use Rattle.fixed_units.specs.Decimals.{decimal_of};
 ghost use Rattle.ratings.specs.Lines.{IsKept};
-ghost use Rattle.ratings.specs.Rdb.{columns_of, fields, field_in, quantity, trimmed, skip_spaces, stage_in, discharge_in, shift_in, shift_text, row_from, row_of, behind, next_row};
+ghost use Rattle.ratings.specs.Rdb.{columns_of, fields, field_in, trimmed, skip_spaces, stage_in, discharge_in, shift_in, shift_text, row_from, row_of, behind, next_row};
 
 use crate::rdb::RdbFault;
 use crate::rdb_fields::{find_column, find_field};
 use crate::rdb_lines::Line;
-use fixed_units::{Micro, read_decimal};
+use fixed_units::{Micro, is_amount, is_discharge, is_stage, read_decimal};
 
 /// Where the columns stand that are read.
 #[derive(Clone, Copy, Debug)]
@@ -110,14 +111,16 @@ fn put_behind(
 fn read_stage(field: Option<&[u8]>) -> Option<Micro>
     ensures { result ≡ stage_in (option_map (λ s. s.now) field.entry) }
 {
-    read_quantity(trim_spaces(field?), -100_000_000_000, 100_000_000_000)
+    let stage = read_quantity(trim_spaces(field?))?;
+    is_stage(stage.get()).then_some(stage)
 }
 
 /// The discharge of a field, if it has one.
 fn read_discharge(field: Option<&[u8]>) -> Option<Micro>
     ensures { result ≡ discharge_in (option_map (λ s. s.now) field.entry) }
 {
-    read_quantity(trim_spaces(field?), 0, 10_000_000_000_000)
+    let discharge = read_quantity(trim_spaces(field?))?;
+    is_discharge(discharge.get()).then_some(discharge)
 }
 
 /// The shift of a field, if it has one: 0 where it is empty, or where there is no field.
@@ -134,20 +137,18 @@ fn read_shift(field: Option<&[u8]>) -> Option<Micro>
 fn read_shift_text(text: &[u8]) -> Option<Micro>
     ensures { result ≡ shift_text text.now }
 {
-    match text {
-        [] => Micro::new(0),
-        _ => read_quantity(text, -1_000_000_000, 1_000_000_000),
+    if text.is_empty() {
+        return Micro::new(0);
     }
+    let shift = read_quantity(text)?;
+    is_amount(shift.get()).then_some(shift)
 }
 
-/// The quantity from `low` to `high` millionths that a text states, if it states one.
-fn read_quantity(text: &[u8], low: i64, high: i64) -> Option<Micro>
-    ensures { result ≡ quantity low high text.now }
+/// The quantity that a text states, if it states one.
+fn read_quantity(text: &[u8]) -> Option<Micro>
+    ensures { result ≡ result_ok (decimal_of text.now) }
 {
-    match read_decimal(text) {
-        Ok(read) if low <= read.get() && read.get() <= high => Some(read),
-        _ => None,
-    }
+    read_decimal(text).ok()
 }
 
 /// A field without the spaces at both its ends.

@@ -1,20 +1,19 @@
 //! A rating table, read by straight lines both ways.
 
 ghost use Rattle.std.specs.Prelude.{◌≡◌, ◌+◌, ◌<◌, ◌≤◌, take, drop, length, slice_index, None, Some, unwrap_or, IfOk, IfErr, ◌<ℤ◌, ◌≤ℤ◌, AllPairs};
-ghost use Rattle.fixed_units.specs.Quantities.{IsMicro};
+ghost use Rattle.fixed_units.specs.Lines.{line_at};
 ghost use Rattle.ratings.specs.Table as tables;
-ghost use Rattle.ratings.specs.Table.{IsTable, line_at, rows_upto, rows_above, rows_short, rows_reaching, fault_behind, order_fault, table_fault};
+ghost use Rattle.ratings.specs.Table.{IsTable, rows_upto, rows_above, rows_short, rows_reaching, fault_behind, order_fault, table_fault};
 
-use crate::interpolation::value_on_line;
-use fixed_units::Micro;
+use fixed_units::{Micro, line_at};
 use std::alloc::{AllocError, Global};
 use std::marker::Model;
 use thiserror::Error;
 
 /// The least and the greatest number of rows of a table.
-const LEAST: usize = 2;
+pub const LEAST_ROWS: usize = 2;
 
-pub(crate) const MOST: usize = 10_000;
+pub const MOST_ROWS: usize = 10_000;
 
 /// Why rows are no table.
 #[derive(Clone, Copy, Debug, PartialEq, Eq, Error)]
@@ -160,6 +159,16 @@ fn count_short(rows: &[(Micro, Micro)], discharge: Micro) -> usize
     rows.partition_point(|row| row.1 < discharge)
 }
 
+/// What the straight line from one point to another has at `x`, rounded once.
+fn value_on_line(from: (Micro, Micro), to: (Micro, Micro), x: Micro) -> Micro
+    requires rising { from.0 <ℤ to.0 }
+    requires first { from.0 ≤ℤ x }
+    requires last { x ≤ℤ to.0 }
+    ensures { result ≡ line_at from to x }
+{
+    line_at((from.0.get(), from.1), (to.0.get(), to.1), x.get())
+}
+
 /// A row the other way round.
 fn turned(row: (Micro, Micro)) -> (Micro, Micro)
     ensures { result ≡ tables.turned row }
@@ -181,7 +190,7 @@ fn find_fault(rows: &[(Micro, Micro)]) -> Option<TableFault>
 pub(crate) fn is_off_count(count: usize) -> bool
     ensures { result ≡ tables.is_off_count count }
 {
-    count < LEAST || MOST < count
+    count < LEAST_ROWS || MOST_ROWS < count
 }
 
 /// The first row at fault against the one before it.

@@ -1,5 +1,5 @@
 -- Kept periods: a period put among them or taken out, and the one in force.
-use Rattle.std.specs.Prelude.{◌≡◌, ◌≢◌, Bool, true, false, cond, not, ◌&&◌, List, [], ◌∷◌, ◌-◌, suc, ℤ, ◌<ℤ◌, ◌≤ℤ◌, int_lt, int_le, Option, None, Some, IfSome, filter, find, length, slice_get, option_map, All, AllPairs}
+use Rattle.std.specs.Prelude.{◌≡◌, ◌≢◌, Bool, true, false, cond, not, ◌&&◌, List, [], ◌∷◌, ◌-◌, ℤ, ◌<ℤ◌, ◌≤ℤ◌, int_lt, int_le, Option, None, Some, IfSome, filter, find, length, slice_get, option_map, All, AllPairs}
 use Rattle.std.specs.Ordering.{int_eq}
 use Rattle.std.proofs.Common.{arith, refl, sym, ◌∙◌, get_or, subst}
 use Rattle.std.proofs.lemmas.Int.{ints}
@@ -12,6 +12,7 @@ use Rattle.rising.proofs.Selecting.{filter_none, AllPairs-head, AllPairs-tail, A
 use Rattle.rising.proofs.Parting.{lt_yes, lt_no, after_is_after}
 use Rattle.rising.proofs.Placing.{before_is_before, put_rises, without_rises, put_keeps, without_keeps}
 use Rattle.ratings.specs.Spans.{Span}
+use Rattle.ratings.proofs.TableLemmas.{last_behind}
 use Rattle.ratings.specs.Periods.{AreApart, begin, overlap, share, stands_in_the_way, is_before_end, is_in_force}
 
 abbrev pub IsEarlier : Span → Span → Type 0
@@ -140,11 +141,6 @@ ended from next at (Some u) then h k apart m =
     let e = before_its_end from next then h k in
     let f : int_lt next u ≡ false = rw e at apart in
     lt_no at u (omega (arith, ints))
-
-last_behind : (p q : Span) (kept : List Span) → last (p ∷ q ∷ kept) ≡ last (q ∷ kept)
-last_behind p q kept =
-    let e : length (p ∷ q ∷ kept) - 1 ≡ suc (length (q ∷ kept) - 1) = omega arith in
-    rw e refl
 
 kept_first : (at : ℤ) (p : Span) (kept qs : List Span) (q : Span) → AreApart (p ∷ kept) → filter (λ (r : Span). int_le r.from at) kept ≡ q ∷ qs → is_before_end at p.until ≡ false
 kept_first at p kept qs q h e =

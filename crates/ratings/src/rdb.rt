@@ -10,7 +10,7 @@ ghost use Rattle.ratings.specs.Table.{IsInOrder, is_off_count};
 use crate::rdb_lines::{next_line, without_mark};
 use crate::rdb_rows::{Columns, find_columns, read_row};
 use crate::table::{MOST_ROWS, Table, is_off_count};
-use fixed_units::{Micro, NoMemory};
+use fixed_units::Micro;
 use std::alloc::Global;
 use thiserror::Error;
 
@@ -18,36 +18,26 @@ use thiserror::Error;
 #[derive(Clone, Copy, Debug, PartialEq, Eq, Error)]
 pub enum RdbFault {
     /// There is no line of names, or no line of formats.
-    #[error("no names or no formats")]
+    #[error("there is no line of names, or no line of formats")]
     NoNames,
     /// The line of names lacks INDEP or DEP.
-    #[error("line {0}: a column is missing")]
+    #[error("the names in line {0} lack INDEP or DEP")]
     NoColumn(u64),
     /// The row of that line lacks a number, or has one out of range.
-    #[error("line {0}: no number")]
+    #[error("the row in line {0} lacks a number, or has one out of range")]
     Number(u64),
     /// The row of that line has a shift.
-    #[error("line {0}: a shift")]
+    #[error("the row in line {0} has a shift")]
     Shift(u64),
     /// The stage of that line's row does not rise, or its discharge falls.
-    #[error("line {0}: out of order")]
+    #[error("the stage in line {0} does not rise, or its discharge falls")]
     Order(u64),
     /// There are fewer than 2 rows, or more than 10,000.
-    #[error("not 2 to 10,000 rows")]
+    #[error("there are not 2 to 10,000 rows")]
     Count,
     /// There was no memory.
-    #[error("out of memory")]
+    #[error("there is no memory for the rows of a table")]
     NoMemory,
-}
-
-impl From<NoMemory> for RdbFault {
-    ghost use Rattle.ratings.specs.declared.rdb.RdbFault.TheVariants.{NoMemory};
-
-    ghost from_gives = { λ e f. f ≡ NoMemory };
-
-    fn from(_error: NoMemory) -> RdbFault {
-        RdbFault::NoMemory
-    }
 }
 
 impl RdbFault {

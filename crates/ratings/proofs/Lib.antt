@@ -1,11 +1,8 @@
 pub mod FieldLemmas
-pub mod LineLemmas
 pub mod LineTextLemmas
-pub mod Parting
 pub mod PeriodLawLemmas
 pub mod PeriodLemmas
 pub mod RdbLemmas
-pub mod ReadingLemmas
-pub mod Selecting
+pub mod StageLawLemmas
 pub mod TableLawLemmas
 pub mod TableLemmas

@@ -1,7 +1,7 @@
 -- The lines of a text: the first one and those behind it, and what is left without a byte order mark.
 use Rattle.std.specs.Prelude.{◌≡◌, ◌≢◌, Bool, true, false, cond, ◌&&◌, ◌==◌, List, [], ◌∷◌, ◌++◌, ℕ, suc, ◌+◌, ◌-◌, ◌<◌, ◌≤◌, None, Some, take, drop, length, filter, All}
 use Rattle.std.proofs.Common.{arith, refl, ap, sym, ◌∙◌, get_or, get_or-take, drop-cons}
-use Rattle.std.proofs.lemmas.List.{take-append-drop, length-take-le, length-drop, get_or_default, drop_all}
+use Rattle.std.proofs.lemmas.List.{take-append-drop, length-take-le, length-drop, take_all, get_or_default, drop_all}
 use Rattle.std.proofs.lemmas.Slice.Eq.{bytes_eq-Decides}
 use Rattle.std.specs.Str.{bytes_eq}
 use Rattle.std.proofs.lemmas.List.Elements.{All-head, All-tail, All-cons, All-nil}
@@ -10,18 +10,18 @@ use Rattle.memchr.specs.Find.{IsFirstByte, is_byte}
 use Rattle.csv.specs.Reading.{strip_bom, is_bom}
 use Rattle.ratings.specs.Lines.{begins_with_feed, in_front, lines_of, without_return, numbered, is_kept, kept_lines}
 
-pub no_feed : (b : ℕ) → b ≢ 10 → (b == 10) ≡ false
-no_feed b h = by (b == 10) refl
+pub no_byte : (b c : ℕ) → b ≢ c → (b == c) ≡ false
+no_byte b c h = by (b == c) refl
   where
-    by : (d : Bool) → (b == 10) ≡ d → (b == 10) ≡ false
+    by : (d : Bool) → (b == c) ≡ d → (b == c) ≡ false
     by true e = absurd (h (grind (arith, nat_tests)))
     by false e = e
 
 -- a step at a byte that ends no line
 lines_return : (b : ℕ) (text : List ℕ) (d : Bool) → b ≢ 10 → (b == 13) ≡ d → begins_with_feed text ≡ false → lines_of (b ∷ text) ≡ in_front b (lines_of text)
 unfolding lines_of
-lines_return b text true h e f = let g = no_feed b h in rw (g, e, f) refl
-lines_return b text false h e f = let g = no_feed b h in rw (g, e) refl
+lines_return b text true h e f = let g = no_byte b 10 h in rw (g, e, f) refl
+lines_return b text false h e f = let g = no_byte b 10 h in rw (g, e) refl
 
 feed_line : (post : List ℕ) → lines_of (10 ∷ post) ≡ [] ∷ lines_of post
 unfolding lines_of
@@ -29,8 +29,8 @@ feed_line post = refl
 
 last_byte : (b : ℕ) (post : List ℕ) (d : Bool) → b ≢ 10 → (b == 13) ≡ d → lines_of (b ∷ 10 ∷ post) ≡ cond d [] (b ∷ []) ∷ lines_of post
 unfolding lines_of
-last_byte b post true h e = let g = no_feed b h in rw (g, e) refl
-last_byte b post false h e = let g = no_feed b h in rw (g, e) refl
+last_byte b post true h e = let g = no_byte b 10 h in rw (g, e) refl
+last_byte b post false h e = let g = no_byte b 10 h in rw (g, e) refl
 
 no_lines : lines_of [] ≡ []
 unfolding lines_of
@@ -42,7 +42,7 @@ line_cut [] post h = feed_line post
 line_cut (b ∷ []) post h = last_byte b post (b == 13) (All-head (λ b. b ≢ 10) b [] h) refl
 line_cut (b ∷ c ∷ front) post h =
     let rest = line_cut (c ∷ front) post (All-tail (λ b. b ≢ 10) b (c ∷ front) h) in
-    let next = no_feed c (All-head (λ b. b ≢ 10) c front (All-tail (λ b. b ≢ 10) b (c ∷ front) h)) in
+    let next = no_byte c 10 (All-head (λ b. b ≢ 10) c front (All-tail (λ b. b ≢ 10) b (c ∷ front) h)) in
     lines_return b (c ∷ front ++ 10 ∷ post) (b == 13) (All-head (λ b. b ≢ 10) b (c ∷ front) h) refl next ∙ ap (in_front b) rest
 
 -- a text without LF is one line
@@ -50,7 +50,7 @@ pub line_alone : (b : ℕ) (text : List ℕ) → All (λ b. b ≢ 10) (b ∷ tex
 line_alone b [] h = lines_return b [] (b == 13) (All-head (λ b. b ≢ 10) b [] h) refl refl ∙ ap (in_front b) no_lines
 line_alone b (c ∷ text) h =
     let rest = line_alone c text (All-tail (λ b. b ≢ 10) b (c ∷ text) h) in
-    let next = no_feed c (All-head (λ b. b ≢ 10) c text (All-tail (λ b. b ≢ 10) b (c ∷ text) h)) in
+    let next = no_byte c 10 (All-head (λ b. b ≢ 10) c text (All-tail (λ b. b ≢ 10) b (c ∷ text) h)) in
     lines_return b (c ∷ text) (b == 13) (All-head (λ b. b ≢ 10) b (c ∷ text) h) refl next ∙ ap (in_front b) rest
 
 -- a line without its CR has no LF either
@@ -84,31 +84,44 @@ no_return_at_end (b ∷ c ∷ line) h =
     let same : length (b ∷ c ∷ line) - 1 ≡ suc (length (c ∷ line) - 1) = omega arith in
     ap (λ l. b ∷ l) (no_return_at_end (c ∷ line) (λ k e. h (omega arith) (rw same e)))
 
--- where the search found LF, and where it found none
-front_feeds : (text : List ℕ) (k : ℕ) → k ≤ length text → ((j : ℕ) → j < k → get_or text j 0 ≢ 10) → All (λ b. b ≢ 10) (take k text)
-front_feeds text k h other = λ j d l e.
+-- where a search found a byte, and where it found none
+front_bytes : (c : ℕ) (text : List ℕ) (k : ℕ) → k ≤ length text → ((j : ℕ) → j < k → get_or text j 0 ≢ c) → All (λ b. b ≢ c) (take k text)
+front_bytes c text k h other = λ j d l e.
     let n = length-take-le k text h in
     let m : j < k = omega arith in
     let within : j < length (take k text) = l in
     other j m (sym (get_or-take k text j 0 m) ∙ get_or_default (take k text) j 0 d within ∙ e)
 
+pub found_byte : (c : ℕ) (text : List ℕ) (k : ℕ) → IsFirstByte (is_byte c) text (Some k)
+    → (text ≡ take k text ++ c ∷ drop (k + 1) text) × All (λ b. b ≢ c) (take k text)
+found_byte c text k found =
+    let within : k < length text = found.0.high in
+    let here : get_or text k 0 ≡ c = (let at = found.1 in grind (arith, nat_tests)) in
+    let next : suc k ≡ k + 1 = omega arith in (
+      sym (take-append-drop k text) ∙ ap (λ l. take k text ++ l) (drop-cons text k 0 within ∙ ap (λ b. b ∷ drop (suc k) text) here ∙ ap (λ n. c ∷ drop n text) next),
+      front_bytes c text k (omega arith) (λ j h e. found.0.before j (omega arith) h (grind (arith, nat_tests))),
+    )
+
+pub found_no_byte : (c : ℕ) (text : List ℕ) → IsFirstByte (is_byte c) text None → All (λ b. b ≢ c) text
+found_no_byte c text found = λ j d l e.
+    found j (omega arith) l (let f : get_or text j 0 ≡ c = get_or_default text j 0 d l ∙ e in grind (arith, nat_tests))
+
+-- what stands from a place on
+pub rest_whole : (k : ℕ) (text : List ℕ) → take (length text - k) (drop k text) ≡ drop k text
+rest_whole k text = take_all (length text - k) (drop k text) (omega (arith, length-drop k text))
+
+-- LF ends the first line
 pub found_feed : (text : List ℕ) (k : ℕ) → IsFirstByte (is_byte 10) text (Some k)
     → (lines_of text ≡ without_return (take k text) ∷ lines_of (drop (k + 1) text)) × All (λ b. b ≢ 10) (take k text)
 found_feed text k found =
-    let within : k < length text = found.0.high in
-    let feeds = front_feeds text k (omega arith) (λ j h e. found.0.before j (omega arith) h (grind (arith, nat_tests))) in
-    let feed : get_or text k 0 ≡ 10 = (let at = found.1 in grind (arith, nat_tests)) in
-    let next : suc k ≡ k + 1 = omega arith in
-    let whole : text ≡ take k text ++ (10 ∷ drop (k + 1) text) =
-    sym (take-append-drop k text) ∙ ap (λ l. take k text ++ l) (drop-cons text k 0 within ∙ ap (λ b. b ∷ drop (suc k) text) feed ∙ ap (λ n. 10 ∷ drop n text) next) in
-    (ap lines_of whole ∙ line_cut (take k text) (drop (k + 1) text) feeds, feeds)
+    let cut = found_byte 10 text k found in
+    (ap lines_of cut.0 ∙ line_cut (take k text) (drop (k + 1) text) cut.1, cut.1)
 
 pub found_no_feed : (text : List ℕ) → 0 < length text → IsFirstByte (is_byte 10) text None
     → (lines_of text ≡ text ∷ lines_of []) × All (λ b. b ≢ 10) text
 found_no_feed [] some found = absurd (omega arith)
 found_no_feed (b ∷ text) some found =
-    let feeds : All (λ b. b ≢ 10) (b ∷ text) = λ j d l e.
-    found j (omega arith) l (let f : get_or (b ∷ text) j 0 ≡ 10 = get_or_default (b ∷ text) j 0 d l ∙ e in grind (arith, nat_tests)) in
+    let feeds = found_no_byte 10 (b ∷ text) found in
     (line_alone b text feeds ∙ ap (λ ls. (b ∷ text) ∷ ls) (sym no_lines), feeds)
 
 -- the byte order mark

@@ -1,12 +1,13 @@
 -- Laws of periods: what it is to share an instant.
-use Rattle.std.specs.Prelude.{◌≡◌, Bool, true, false, ◌&&◌, List, [], ◌∷◌, ◌++◌, ℤ, ◌<ℤ◌, ◌≤ℤ◌, int_lt, int_le, Option, None, Some, IfSome, All, AllPairs, Contains}
+use Rattle.std.specs.Prelude.{◌≡◌, Bool, true, false, ◌&&◌, List, [], ◌∷◌, ◌++◌, ℤ, ◌<ℤ◌, ◌≤ℤ◌, int_le, Option, None, Some, IfSome, All, AllPairs, Contains}
 use Rattle.std.proofs.Common.{arith, refl, subst}
 use Rattle.std.proofs.lemmas.Int.{ints, by_lt_z}
 use Rattle.std.proofs.lemmas.List.Elements.{All-contains}
 use Rattle.ratings.specs.Spans.{Span}
 use Rattle.ratings.specs.Periods.{AreApart, share, is_in_force, is_before_end}
 use Rattle.ratings.proofs.PeriodLemmas.{IsApart}
-use Rattle.ratings.proofs.Selecting.{AllPairs-head, AllPairs-tail}
+use Rattle.rising.proofs.Selecting.{AllPairs-head, AllPairs-tail}
+use Rattle.rising.proofs.Parting.{lt_yes, le_yes}
 
 both : (x y : Bool) → x ≡ true → y ≡ true → x && y ≡ true
 both true y h k = k
@@ -19,12 +20,6 @@ first_of false y h = absurd (cc)
 second_of : (x y : Bool) → x && y ≡ true → y ≡ true
 second_of true y h = h
 second_of false y h = absurd (cc)
-
-lt_yes : (x y : ℤ) → x <ℤ y → int_lt x y ≡ true
-lt_yes x y h = grind (arith, ints)
-
-le_yes : (x y : ℤ) → x ≤ℤ y → int_le x y ≡ true
-le_yes x y h = grind (arith, ints)
 
 -- what is before an end at an instant is so earlier
 earlier : (x at : ℤ) (until : Option ℤ) → x ≤ℤ at → is_before_end at until ≡ true → is_before_end x until ≡ true

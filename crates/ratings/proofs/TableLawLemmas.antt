@@ -1,148 +1,222 @@
--- Laws of tables: what the rows around a stage or a discharge are.
-use Rattle.std.specs.Prelude.{◌≡◌, Bool, true, false, List, [], ◌∷◌, ◌++◌, ◌-◌, ℤ, pos, ◌<ℤ◌, ◌≤ℤ◌, ◌+ℤ◌, ◌-ℤ◌, ◌*ℤ◌, int_lt, int_le, Option, None, Some, filter, length, slice_get, All, AllPairs, Contains}
+-- Laws of tables: the rated discharge of a stage is the one that stands by cases.
+use Rattle.std.specs.Prelude.{◌≡◌, ◌⊎◌, Bool, true, false, List, [], ◌∷◌, ◌++◌, ◌-◌, suc, ℤ, ◌<ℤ◌, ◌≤ℤ◌, int_lt, int_le, Option, None, Some, IsSomeAnd, filter, take, drop, length, slice_get, All, AllPairs, Contains}
 use Rattle.std.specs.Ordering.{int_eq}
-use Rattle.std.proofs.Common.{arith, refl, ap, sym, ◌∙◌, subst}
+use Rattle.std.proofs.Common.{arith, refl, ap, sym, ◌∙◌, subst, inl, inr, drop-cons}
 use Rattle.std.proofs.lemmas.Int.{ints, by_lt_z}
 use Rattle.std.proofs.lemmas.Bool.Decides.{Decides-int_eq}
-use Rattle.std.proofs.lemmas.List.{get_or_at, length-append, append_assoc}
+use Rattle.std.proofs.lemmas.List.{get_or_at, length-append, append_assoc, append-nil, take-append-drop}
 use Rattle.std.proofs.lemmas.Option.{slice_get_read}
-use Rattle.std.proofs.lemmas.List.Elements.{All-head, All-cons, All-nil, All-weaker, filter-append, Contains-append_right}
-use Rattle.fixed_units.specs.Rounding.{round}
-use Rattle.fixed_units.proofs.RoundingLemmas.{line-start, line-end}
-use Rattle.ratings.specs.declared.table.Rated.TheVariants.{Value}
-use Rattle.ratings.specs.Table.{Row, IsTable, line_at, rated, rated_between, stage_of, stage_between, rows_upto, rows_above, rows_short, rows_reaching, last, first}
-use Rattle.ratings.proofs.TableLemmas.{IsBelow, IsNoMore}
-use Rattle.ratings.proofs.Selecting.{AllPairs-head, AllPairs-tail, All-back}
-use Rattle.ratings.proofs.Parting.{filter_all, filter_none}
-
-lt_yes : (x y : ℤ) → x <ℤ y → int_lt x y ≡ true
-lt_yes x y h = grind (arith, ints)
-
-lt_no : (x y : ℤ) → y ≤ℤ x → int_lt x y ≡ false
-lt_no x y h = grind (arith, ints)
-
-le_yes : (x y : ℤ) → x ≤ℤ y → int_le x y ≡ true
-le_yes x y h = grind (arith, ints)
-
-le_no : (x y : ℤ) → y <ℤ x → int_le x y ≡ false
-le_no x y h = grind (arith, ints)
+use Rattle.std.proofs.lemmas.List.Elements.{All-head, All-cons, All-nil, All-append, All-weaker, filter-append, Contains-append_right}
+use Rattle.rising.proofs.Selecting.{filter_all, filter_none, AllPairs-head, AllPairs-tail, All-back}
+use Rattle.rising.proofs.Parting.{lt_yes, lt_no, le_yes, le_no}
+use Rattle.fixed_units.specs.Lines.{line_at}
+use Rattle.fixed_units.proofs.LineLemmas.{line-first, line-last}
+use Rattle.ratings.specs.declared.table.Rated.{Rated}
+use Rattle.ratings.specs.declared.table.Rated.TheVariants.{Value, Below, Above}
+use Rattle.ratings.specs.Table.{Row, IsTable, rated, rated_between, rows_upto, last, first}
+use Rattle.ratings.specs.RatedDischarge.{IsRated}
+use Rattle.ratings.proofs.TableLemmas.{IsBelow, last_behind}
 
 -- the rows in front of one, and those behind it
-front_of : (R : Row → Row → Type 0) (front : List Row) (r : Row) (back : List Row) → AllPairs R (front ++ r ∷ back) → All (λ x. R x r) front
+pub front_of : (R : Row → Row → Type 0) (front : List Row) (r : Row) (back : List Row) → AllPairs R (front ++ r ∷ back) → All (λ x. R x r) front
 front_of R [] r back h = All-nil (λ x. R x r)
 front_of R (x ∷ front) r back h =
     All-cons (λ x. R x r) x front (All-head (R x) r back (All-back (R x) front (r ∷ back) (AllPairs-head R x (front ++ r ∷ back) h)))
     (front_of R front r back (AllPairs-tail R x (front ++ r ∷ back) h))
 
-back_of : (R : Row → Row → Type 0) (front : List Row) (r : Row) (back : List Row) → AllPairs R (front ++ r ∷ back) → All (R r) back
+pub back_of : (R : Row → Row → Type 0) (front : List Row) (r : Row) (back : List Row) → AllPairs R (front ++ r ∷ back) → All (R r) back
 back_of R [] r back h = AllPairs-head R r back h
 back_of R (x ∷ front) r back h = back_of R front r back (AllPairs-tail R x (front ++ r ∷ back) h)
 
-last_at_end : (front : List Row) (r : Row) → last (front ++ r ∷ []) ≡ Some r
+-- the last row
+pub last_at_end : (front : List Row) (r : Row) → last (front ++ r ∷ []) ≡ Some r
 last_at_end front r =
     let n = length-append front (r ∷ []) in
     let place : length (front ++ r ∷ []) - 1 ≡ length front = omega arith in
     ap (slice_get (front ++ r ∷ [])) place
     ∙ slice_get_read (front ++ r ∷ []) (length (front ++ r ∷ [])) (length front) r refl (omega arith) (sym (get_or_at front r [] r (length front) refl))
 
--- a stage from a row on, and below those behind it
-upto_row : (stage : ℤ) (front : List Row) (r : Row) (back : List Row) → AllPairs IsBelow (front ++ r ∷ back) → r.0 ≤ℤ stage → All (λ x. stage <ℤ x.0) back
-    → (rows_upto stage (front ++ r ∷ back) ≡ front ++ r ∷ []) × (rows_above stage (front ++ r ∷ back) ≡ back)
-upto_row stage front r back h k over =
-    let before = front_of IsBelow front r back h in
-    let kept : filter (λ (x : Row). int_le x.0 stage) front ≡ front =
-    filter_all (λ (x : Row). int_le x.0 stage) front (All-weaker (λ x. IsBelow x r) (λ (x : Row). int_le x.0 stage ≡ true) (λ x m. le_yes x.0 stage (omega (arith, ints))) front before) in
-    let gone : filter (λ (x : Row). int_lt stage x.0) front ≡ [] =
-    filter_none (λ (x : Row). int_lt stage x.0) front (All-weaker (λ x. IsBelow x r) (λ (x : Row). int_lt stage x.0 ≡ false) (λ x m. lt_no stage x.0 (omega (arith, ints))) front before) in
-    let none : filter (λ (x : Row). int_le x.0 stage) back ≡ [] =
-    filter_none (λ (x : Row). int_le x.0 stage) back (All-weaker (λ (x : Row). stage <ℤ x.0) (λ (x : Row). int_le x.0 stage ≡ false) (λ x m. le_no x.0 stage m) back over) in
-    let all : filter (λ (x : Row). int_lt stage x.0) back ≡ back =
-    filter_all (λ (x : Row). int_lt stage x.0) back (All-weaker (λ (x : Row). stage <ℤ x.0) (λ (x : Row). int_lt stage x.0 ≡ true) (λ x m. lt_yes stage x.0 m) back over) in
-    let here = le_yes r.0 stage k in
-    let there = lt_no stage r.0 k in (
-      filter-append (λ (x : Row). int_le x.0 stage) front (r ∷ back) ∙ rw (kept, here, none) refl,
-      filter-append (λ (x : Row). int_lt stage x.0) front (r ∷ back) ∙ rw (gone, there, all) refl,
+pub record IsLast (rows : List Row) (P : Row → Type 0) : Type 0 where
+  pub front : List Row
+  pub row : Row
+  pub whole : rows ≡ front ++ row ∷ []
+  pub holds : P row
+
+pub last_split : (P : Row → Type 0) (rows : List Row) → IsSomeAnd (last rows) P → IsLast rows P
+last_split P [] h = absurd h
+last_split P (x ∷ []) h = record { front = []; row = x; whole = refl; holds = h }
+last_split P (x ∷ y ∷ rows) h =
+    let rest = last_split P (y ∷ rows) (subst (λ (o : Option Row). IsSomeAnd o P) (last_behind x y rows) h) in
+    record { front = x ∷ rest.front; row = rest.row; whole = ap (λ l. x ∷ l) rest.whole; holds = rest.holds }
+
+-- a row that is there stands between others
+pub contained_split : (rows : List Row) (r : Row) → Contains rows r → (front : List Row) × (back : List Row) × (rows ≡ front ++ r ∷ back)
+contained_split rows r h =
+    let k = h.0 in
+    let cut = drop-cons rows k r h.1 in
+    (take k rows, drop (suc k) rows, sym (take-append-drop k rows) ∙ ap (λ l. take k rows ++ l) (cut ∙ ap (λ (x : Row). x ∷ drop (suc k) rows) h.2))
+
+-- two filters of which one passes the front and the other the back
+pub parts : (p q : Row → Bool) (front back : List Row) → All (λ r. p r ≡ true) front → All (λ r. q r ≡ false) front → All (λ r. p r ≡ false) back → All (λ r. q r ≡ true) back
+    → (filter p (front ++ back) ≡ front) × (filter q (front ++ back) ≡ back)
+parts p q front back a b c d =
+    let kept = filter_all p front a in
+    let gone = filter_none q front b in
+    let none = filter_none p back c in
+    let all = filter_all q back d in (
+      filter-append p front back ∙ rw (kept, none) (append-nil front),
+      filter-append q front back ∙ rw (gone, all) refl,
     )
 
-on_row : (r : Row) (above : Option Row) → rated_between (Some r) above r.0 ≡ Value r.1
-on_row r None = let e = (Decides-int_eq r.0 r.0).1 refl in rw e refl
-on_row r (Some s) = let e = (Decides-int_eq r.0 r.0).1 refl in rw e refl
+-- the rows around a stage
+abbrev IsUpto : ℤ → Row → Type 0
+IsUpto stage r = r.0 ≤ℤ stage
+
+abbrev IsOver : ℤ → Row → Type 0
+IsOver stage r = stage <ℤ r.0
+
+rated_around : (rows front back : List Row) (stage : ℤ) → rows ≡ front ++ back → All (IsUpto stage) front → All (IsOver stage) back
+    → rated_between (last front) (first back) stage ≡ rated rows stage
+rated_around rows front back stage e low high =
+    let around = parts (λ r. int_le r.0 stage) (λ r. int_lt stage r.0) front back
+    (All-weaker (IsUpto stage) (λ r. int_le r.0 stage ≡ true) (λ r h. le_yes r.0 stage h) front low)
+    (All-weaker (IsUpto stage) (λ r. int_lt stage r.0 ≡ false) (λ r h. lt_no stage r.0 h) front low)
+    (All-weaker (IsOver stage) (λ r. int_le r.0 stage ≡ false) (λ r h. le_no r.0 stage h) back high)
+    (All-weaker (IsOver stage) (λ r. int_lt stage r.0 ≡ true) (λ r h. lt_yes stage r.0 h) back high) in
+    ap (λ l. rated_between (last l) (first back) stage) (sym around.0) ∙ ap (λ l. rated_between (last (rows_upto stage (front ++ back))) (first l) stage) (sym around.1)
+    ∙ ap (λ l. rated l stage) (sym e)
+
+-- where the last row up to a stage is known
+up_to_row : (front : List Row) (r : Row) (back : List Row) (stage : ℤ) → AllPairs IsBelow (front ++ r ∷ back) → r.0 ≤ℤ stage → All (IsUpto stage) (front ++ r ∷ [])
+up_to_row front r back stage h k =
+    All-append (IsUpto stage) front (r ∷ []) (All-weaker (λ x. IsBelow x r) (IsUpto stage) (λ x m. omega (arith, ints)) front (front_of IsBelow front r back h))
+    (All-cons (IsUpto stage) r [] k (All-nil (IsUpto stage)))
+
+at_row : (rows front : List Row) (r : Row) (back : List Row) (stage : ℤ) → IsTable rows → rows ≡ front ++ r ∷ back → r.0 ≤ℤ stage → All (IsOver stage) back
+    → rated_between (Some r) (first back) stage ≡ rated rows stage
+at_row rows front r back stage h e low high =
+    let rising = subst (AllPairs IsBelow) e h.rising in
+    ap (λ o. rated_between o (first back) stage) (sym (last_at_end front r))
+    ∙ rated_around rows (front ++ r ∷ []) back stage (e ∙ sym (append_assoc front (r ∷ []) back)) (up_to_row front r back stage rising low) high
+
+over_row : (rows front : List Row) (r : Row) (back : List Row) (stage : ℤ) → IsTable rows → rows ≡ front ++ r ∷ back → stage <ℤ r.0 → All (IsOver stage) (r ∷ back)
+over_row rows front r back stage h e k =
+    let rising = subst (AllPairs IsBelow) e h.rising in
+    All-cons (IsOver stage) r back k (All-weaker (IsBelow r) (IsOver stage) (λ x m. omega (arith, ints)) back (back_of IsBelow front r back rising))
+
+on_row : (r : Row) (above : Option Row) (stage : ℤ) → r.0 ≡ stage → rated_between (Some r) above stage ≡ Value r.1
+on_row r None stage h = let e = (Decides-int_eq r.0 stage).1 h in rw e refl
+on_row r (Some s) stage h = let e = (Decides-int_eq r.0 stage).1 h in rw e refl
+
+pub off_row : (x y : ℤ) → x <ℤ y → int_eq x y ≡ false
+off_row x y h = by (int_eq x y) refl
+  where
+    by : (b : Bool) → int_eq x y ≡ b → int_eq x y ≡ false
+    by true e = absurd (let same = (Decides-int_eq x y).0 e in omega (arith, ints))
+    by false e = e
 
 pub row_rated : (rows front back : List Row) (r : Row) → IsTable rows → rows ≡ front ++ r ∷ back → rated rows r.0 ≡ Value r.1
 row_rated rows front back r h e =
-    let rising = subst (AllPairs IsBelow) e h.rising in
-    let parts = upto_row r.0 front r back rising (omega (arith, ints)) (back_of IsBelow front r back rising) in
-    ap (λ l. rated l r.0) e ∙ ap (λ l. rated_between (last l) (first (rows_above r.0 (front ++ r ∷ back))) r.0) parts.0
-    ∙ ap (λ o. rated_between o (first (rows_above r.0 (front ++ r ∷ back))) r.0) (last_at_end front r) ∙ on_row r (first (rows_above r.0 (front ++ r ∷ back)))
+    sym (at_row rows front r back r.0 h e (omega (arith, ints)) (back_of IsBelow front r back (subst (AllPairs IsBelow) e h.rising))) ∙ on_row r (first back) r.0 refl
 
-line_from : (r s : Row) → r.0 <ℤ s.0 → line_at r s r.0 ≡ r.1
-line_from r s h =
-    let none : r.0 -ℤ r.0 ≡ pos 0 = omega (arith, ints) in
-    ap (λ z. r.1 +ℤ round ((s.1 -ℤ r.1) *ℤ z) (s.0 -ℤ r.0)) none ∙ line-start r.1 s.1 (s.0 -ℤ r.0) (omega (arith, ints))
-
-line_to : (r s : Row) → r.0 <ℤ s.0 → line_at r s s.0 ≡ s.1
-line_to r s h = line-end r.1 s.1 (s.0 -ℤ r.0) (omega (arith, ints))
-
-between_step : (r s : Row) (stage : ℤ) (b : Bool) → r.0 <ℤ s.0 → int_eq r.0 stage ≡ b → rated_between (Some r) (Some s) stage ≡ Value (line_at r s stage)
-between_step r s stage true h e =
-    let same : r.0 ≡ stage = (Decides-int_eq r.0 stage).0 e in
-    let value : line_at r s stage ≡ r.1 = ap (line_at r s) (sym same) ∙ line_from r s h in
-    rw (e, value) refl
-between_step r s stage false h e = rw e refl
+-- strictly between two rows
+within_rated : (rows front back : List Row) (r s : Row) (stage : ℤ) → IsTable rows → rows ≡ front ++ r ∷ s ∷ back → r.0 <ℤ stage → stage <ℤ s.0
+    → rated rows stage ≡ Value (line_at r s stage)
+within_rated rows front back r s stage h e low high =
+    let whole : rows ≡ (front ++ r ∷ []) ++ s ∷ back = e ∙ sym (append_assoc front (r ∷ []) (s ∷ back)) in
+    let other = off_row r.0 stage low in
+    sym (at_row rows front r (s ∷ back) stage h e (omega (arith, ints)) (over_row rows (front ++ r ∷ []) s back stage h whole high)) ∙ rw other refl
 
 pub between_rated : (rows front back : List Row) (r s : Row) (stage : ℤ) → IsTable rows → rows ≡ front ++ r ∷ s ∷ back → r.0 ≤ℤ stage → stage ≤ℤ s.0
     → rated rows stage ≡ Value (line_at r s stage)
 between_rated rows front back r s stage h e low high =
-    let rising = subst (AllPairs IsBelow) e h.rising in
-    let behind = back_of IsBelow front r (s ∷ back) rising in
-    let next : r.0 <ℤ s.0 = All-head (IsBelow r) s back behind in
+    let whole : rows ≡ (front ++ r ∷ []) ++ s ∷ back = e ∙ sym (append_assoc front (r ∷ []) (s ∷ back)) in
+    let next : r.0 <ℤ s.0 = All-head (IsBelow r) s back (back_of IsBelow front r (s ∷ back) (subst (AllPairs IsBelow) e h.rising)) in
     by_lt_z stage s.0
-    (λ below.
-    let later = back_of IsBelow (front ++ r ∷ []) s back (subst (AllPairs IsBelow) (sym (append_assoc front (r ∷ []) (s ∷ back))) rising) in
-    let over : All (λ (x : Row). stage <ℤ x.0) (s ∷ back) = All-cons (λ (x : Row). stage <ℤ x.0) s back below (All-weaker (IsBelow s) (λ (x : Row). stage <ℤ x.0) (λ x m. omega (arith, ints)) back later) in
-    let parts = upto_row stage front r (s ∷ back) rising low over in
-    ap (λ l. rated l stage) e ∙ ap (λ l. rated_between (last l) (first (rows_above stage (front ++ r ∷ s ∷ back))) stage) parts.0
-    ∙ ap (λ o. rated_between o (first (rows_above stage (front ++ r ∷ s ∷ back))) stage) (last_at_end front r)
-    ∙ ap (λ l. rated_between (Some r) (first l) stage) parts.1 ∙ between_step r s stage (int_eq r.0 stage) next refl)
+    (λ below. by_lt_z r.0 stage
+    (λ above. within_rated rows front back r s stage h e above below)
+    (λ first.
+    let same : r.0 ≡ stage = omega (arith, ints) in
+    ap (rated rows) (sym same) ∙ row_rated rows front (s ∷ back) r h e ∙ ap Value (sym (line-first r s next) ∙ ap (line_at r s) same)))
     (λ above.
     let same : stage ≡ s.0 = omega (arith, ints) in
-    let whole : rows ≡ (front ++ r ∷ []) ++ s ∷ back = e ∙ sym (append_assoc front (r ∷ []) (s ∷ back)) in
-    ap (rated rows) same ∙ row_rated rows (front ++ r ∷ []) back s h whole ∙ ap Value (sym (line_to r s next) ∙ ap (line_at r s) (sym same)))
+    ap (rated rows) same ∙ row_rated rows (front ++ r ∷ []) back s h whole ∙ ap Value (sym (line-last r s next) ∙ ap (line_at r s) (sym same)))
 
--- the first row that reaches a row's discharge has it
-record Reaches (rows : List Row) (r : Row) : Type 0 where
-  row : Row
-  there : Contains rows row
-  same : row.1 ≡ r.1
-  first : first (rows_reaching r.1 rows) ≡ Some row
+-- whatever stands by cases is what is rated
+below_rated : (rows : List Row) (stage : ℤ) → IsTable rows → IsSomeAnd (first rows) (λ r. stage <ℤ r.0) → rated rows stage ≡ Below
+below_rated [] stage h k = absurd k
+below_rated (r ∷ rows) stage h k = sym (rated_around (r ∷ rows) [] (r ∷ rows) stage refl (All-nil (IsUpto stage)) (over_row (r ∷ rows) [] r rows stage h refl k))
 
-reach_here : (r : Row) (back : List Row) → Reaches (r ∷ back) r
-reach_here r back =
-    let e = le_yes r.1 r.1 (omega (arith, ints)) in
-    record { row = r; there = (0, omega arith, refl); same = refl; first = rw e refl }
+above_rated : (rows : List Row) (stage : ℤ) → IsTable rows → IsSomeAnd (last rows) (λ r. r.0 <ℤ stage) → rated rows stage ≡ Above
+above_rated rows stage h k =
+    let end = last_split (λ r. r.0 <ℤ stage) rows k in
+    let other = off_row end.row.0 stage end.holds in
+    sym (at_row rows end.front end.row [] stage h end.whole (let m = end.holds in omega (arith, ints)) (All-nil (IsOver stage))) ∙ rw other refl
 
-reach_step : (x : Row) (front : List Row) (r : Row) (back : List Row) (b : Bool) → int_le r.1 x.1 ≡ b → x.1 ≤ℤ r.1 → Reaches (front ++ r ∷ back) r → Reaches (x ∷ front ++ r ∷ back) r
-reach_step x front r back true e k h = record { row = x; there = (0, omega arith, refl); same = omega (arith, ints); first = rw e refl }
-reach_step x front r back false e k h =
-    record { row = h.row; there = Contains-append_right (x ∷ []) (front ++ r ∷ back) h.row h.there; same = h.same; first = (let f = h.first in rw e f) }
+pub rated_by_cases : (rows : List Row) (stage : ℤ) (v : Rated) → IsTable rows → IsRated rows stage v → rated rows stage ≡ v
+rated_by_cases rows stage Below h k = below_rated rows stage h k
+rated_by_cases rows stage Above h k = above_rated rows stage h k
+rated_by_cases rows stage (Value discharge) h (inl k) =
+    let split = contained_split rows (stage, discharge) k in row_rated rows split.0 split.1 (stage, discharge) h split.2
+rated_by_cases rows stage (Value discharge) h (inr k) =
+    within_rated rows k.neighbours.front k.neighbours.back k.lower k.upper stage h k.neighbours.whole k.above k.below ∙ ap Value (sym k.line)
 
-reach : (front : List Row) (r : Row) (back : List Row) → AllPairs IsNoMore (front ++ r ∷ back) → Reaches (front ++ r ∷ back) r
-reach [] r back h = reach_here r back
-reach (x ∷ front) r back h =
-    reach_step x front r back (int_le r.1 x.1) refl (All-head (IsNoMore x) r back (All-back (IsNoMore x) front (r ∷ back) (AllPairs-head IsNoMore x (front ++ r ∷ back) h)))
-    (reach front r back (AllPairs-tail IsNoMore x (front ++ r ∷ back) h))
+-- and something stands by cases
+abbrev OnOrAbove : List Row → ℤ → Type 0
+OnOrAbove rows stage = ((discharge : ℤ) × IsRated rows stage (Value discharge)) ⊎ IsRated rows stage Above
 
-on_discharge : (short : Option Row) (s : Row) (discharge : ℤ) → s.1 ≡ discharge → stage_between short (Some s) discharge ≡ Some s.0
-on_discharge None s discharge h = let e = (Decides-int_eq s.1 discharge).1 h in rw e refl
-on_discharge (Some r) s discharge h = let e = (Decides-int_eq s.1 discharge).1 h in rw e refl
-
-pub discharge_has_stage : (rows front back : List Row) (r : Row) → IsTable rows → rows ≡ front ++ r ∷ back
-    → (s : Row) × Contains rows s × (s.1 ≡ r.1) × (stage_of rows r.1 ≡ Some s.0)
-discharge_has_stage rows front back r h e =
-    let found = reach front r back (subst (AllPairs IsNoMore) e h.never_falling) in (
-      found.row,
-      subst (λ (l : List Row). Contains l found.row) (sym e) found.there,
-      found.same,
-      ap (λ l. stage_of l r.1) e ∙ ap (λ o. stage_between (last (rows_short r.1 (front ++ r ∷ back))) o r.1) found.first
-          ∙ on_discharge (last (rows_short r.1 (front ++ r ∷ back))) found.row r.1 found.same,
+lifted : (r s : Row) (rows : List Row) (stage : ℤ) → OnOrAbove (s ∷ rows) stage → OnOrAbove (r ∷ s ∷ rows) stage
+lifted r s rows stage (inl (discharge, inl k)) = inl (discharge, inl (Contains-append_right (r ∷ []) (s ∷ rows) (stage, discharge) k))
+lifted r s rows stage (inl (discharge, inr k)) =
+    inl (
+      discharge,
+      inr (record {
+        lower = k.lower;
+        upper = k.upper;
+        neighbours = record { front = r ∷ k.neighbours.front; back = k.neighbours.back; whole = ap (λ l. r ∷ l) k.neighbours.whole };
+        above = k.above;
+        below = k.below;
+        line = k.line;
+      }),
     )
+lifted r s rows stage (inr k) = inr (subst (λ (o : Option Row). IsSomeAnd o (λ r. r.0 <ℤ stage)) (sym (last_behind r s rows)) k)
+
+here : (r : Row) (rows : List Row) (stage : ℤ) → r.0 ≡ stage → OnOrAbove (r ∷ rows) stage
+here r rows stage h =
+    let same : r ≡ (stage, r.1) = ap (λ (x : ℤ). (x, r.1)) h in
+    inl (r.1, inl (0, omega arith, same))
+
+on_or_above : (r : Row) (rows : List Row) (stage : ℤ) → r.0 ≤ℤ stage → OnOrAbove (r ∷ rows) stage
+on_or_above r [] stage h = by_lt_z r.0 stage (λ k. inr k) (λ k. here r [] stage (omega (arith, ints)))
+on_or_above r (s ∷ rows) stage h =
+    by_lt_z r.0 stage
+    (λ k. by_lt_z stage s.0
+    (λ m. inl (
+      line_at r s stage,
+      inr (record {
+        lower = r;
+        upper = s;
+        neighbours = record { front = []; back = rows; whole = refl };
+        above = k;
+        below = m;
+        line = refl;
+      }),
+    ))
+    (λ m. lifted r s rows stage (on_or_above s rows stage m)))
+    (λ k. here r (s ∷ rows) stage (omega (arith, ints)))
+
+rated_somehow : (rows : List Row) (stage : ℤ) → IsTable rows → (v : Rated) × IsRated rows stage v
+rated_somehow [] stage h = absurd (let m = h.least in omega arith)
+rated_somehow (r ∷ rows) stage h = by_lt_z stage r.0 (λ k. (Below, k)) (λ k. by (on_or_above r rows stage k))
+  where
+    by : OnOrAbove (r ∷ rows) stage → (v : Rated) × IsRated (r ∷ rows) stage v
+    by (inl (discharge, m)) = (Value discharge, m)
+    by (inr m) = (Above, m)
+
+pub rated_stands : (rows : List Row) (stage : ℤ) → IsTable rows → IsRated rows stage (rated rows stage)
+rated_stands rows stage h =
+    let some = rated_somehow rows stage h in
+    subst (IsRated rows stage) (sym (rated_by_cases rows stage some.0 h some.1)) some.1
+
+pub rated_once : (rows : List Row) (stage : ℤ) (v w : Rated) → IsTable rows → IsRated rows stage v → IsRated rows stage w → v ≡ w
+rated_once rows stage v w h k m = sym (rated_by_cases rows stage v h k) ∙ rated_by_cases rows stage w h m

@@ -1,14 +1,16 @@
 -- Tables: rows without a fault are in order, and where the first fault of rows lies.
-use Rattle.std.specs.Prelude.{◌≡◌, Bool, true, false, cond, List, [], ◌∷◌, ℕ, suc, ◌-◌, ◌<◌, ◌≤◌, ℤ, ◌<ℤ◌, ◌≤ℤ◌, int_lt, int_le, Option, None, Some, drop, length, slice_get, All, AllPairs}
-use Rattle.std.proofs.Common.{arith, refl, ap, sym, ◌∙◌, get_or, drop-cons}
+use Rattle.std.specs.Prelude.{◌≡◌, ◌⊎◌, filter, Bool, true, false, cond, List, [], ◌∷◌, ℕ, suc, ◌-◌, ◌<◌, ◌≤◌, ℤ, ◌<ℤ◌, ◌≤ℤ◌, int_lt, int_le, Option, None, Some, drop, length, slice_get, All, AllPairs}
+use Rattle.std.specs.List.Sorted.{IsPartitionedBy}
+use Rattle.std.proofs.Common.{arith, refl, ap, sym, ◌∙◌, get_or, subst, inl, inr, drop-cons}
+use Rattle.std.proofs.lemmas.Option.{slice_get_within, get_or_from_slice_get}
 use Rattle.std.proofs.lemmas.Int.{ints}
 use Rattle.std.proofs.lemmas.List.{length-drop}
-use Rattle.std.proofs.lemmas.List.Elements.{All-cons, All-weaker}
+use Rattle.std.proofs.lemmas.List.Elements.{All-cons, All-weaker, filter_passes}
 use Rattle.std.proofs.lemmas.List.Kept.{AllPairs-cons}
 use Rattle.ratings.specs.declared.table.TableFault.{TableFault}
 use Rattle.ratings.specs.declared.table.TableFault.TheVariants.{Count, NotRising, Falling}
-use Rattle.ratings.specs.Table.{Row, IsTable, fault_behind, or_else, is_off_count, order_fault, table_fault, rows_upto, rows_above, rows_short, rows_reaching}
-use Rattle.ratings.proofs.Parting.{kept_passes}
+use Rattle.ratings.specs.Table.{Row, IsInOrder, IsTable, fault_behind, or_else, is_off_count, order_fault, table_fault, rows_upto, rows_above, rows_short, rows_reaching}
+use Rattle.rising.proofs.Parting.{lt_yes, yes_lt}
 
 -- one row behind another
 abbrev pub IsBelow : Row → Row → Type 0
@@ -16,10 +18,6 @@ IsBelow r s = r.0 <ℤ s.0
 
 abbrev pub IsNoMore : Row → Row → Type 0
 IsNoMore r s = r.1 ≤ℤ s.1
-
-pub record IsInOrder (rows : List Row) : Type 0 where
-  pub rising : AllPairs IsBelow rows
-  pub never_falling : AllPairs IsNoMore rows
 
 pub record IsBehind (r s : Row) : Type 0 where
   pub rising : r.0 <ℤ s.0
@@ -59,12 +57,13 @@ none_in_order i (r ∷ s ∷ rows) h =
     let parts = none_behind (suc i) r s (order_fault (suc i) (s ∷ rows)) h in
     in_order_step r s rows parts.0 (none_in_order (suc i) (s ∷ rows) parts.1)
 
+pub in_order_table : (rows : List Row) → is_off_count (length rows) ≡ false → IsInOrder rows → IsTable rows
+in_order_table rows e order = record { most = grind arith; least = grind arith; rising = order.rising; never_falling = order.never_falling }
+
 table_step : (rows : List Row) (b : Bool) → (is_off_count (length rows)) ≡ b
     → cond b (Some Count) (order_fault 0 rows) ≡ None → IsTable rows
 table_step rows true e h = absurd (cc)
-table_step rows false e h =
-    let order = none_in_order 0 rows h in
-    record { most = grind arith; least = grind arith; rising = order.rising; never_falling = order.never_falling }
+table_step rows false e h = in_order_table rows e (none_in_order 0 rows h)
 
 pub none_table : (rows : List Row) → table_fault rows ≡ None → IsTable rows
 none_table rows h = table_step rows (is_off_count (length rows)) refl h
@@ -83,7 +82,28 @@ order_at i rows d e h k =
     let same : suc (i - 1) ≡ i = omega arith in
     rw same at (order_from (i - 1) rows d e (omega arith))
 
+eq_or_lt : (i j : ℕ) → i ≤ j → (i ≡ j) ⊎ (i < j)
+eq_or_lt i j h = grind arith
+
+-- by a number that never falls, no element has more than one from it on
+never_more : {X : Type 0} (n : X → ℤ) (xs : List X) → AllPairs (λ x y. n x ≤ℤ n y) xs → (i j : ℕ) (d : X) → i ≤ j → j < length xs
+    → n (get_or xs i d) ≤ℤ n (get_or xs j d)
+never_more n xs h i j d l m = elim (eq_or_lt i j l) [ inl e ↦ rw e (omega (arith, ints)) | inr e ↦ h i j d e m ]
+
+-- and it is parted by the test of a binary search
+pub parted_short : {X : Type 0} (n : X → ℤ) (at : ℤ) (xs : List X) → AllPairs (λ x y. n x ≤ℤ n y) xs → IsPartitionedBy (λ x. int_lt (n x) at) xs
+parted_short n at xs h i j d l m e =
+    let k = never_more n xs h i j d l m in
+    let f = yes_lt (n (get_or xs j d)) at e in
+    lt_yes (n (get_or xs i d)) at (omega (arith, ints))
+
 -- rows that filters keep
+kept_passes : {X : Type 0} (p : X → Bool) (xs : List X) (k : ℕ) (x : X) → slice_get (filter p xs) k ≡ Some x → p x ≡ true
+kept_passes p xs k x h =
+    let within = slice_get_within (filter p xs) k x h in
+    let same = get_or_from_slice_get (filter p xs) k x x h in
+    subst (λ y. p y ≡ true) same (filter_passes p xs k x within)
+
 pub row_upto : (stage : ℤ) (rows part : List Row) (k : ℕ) (r : Row) → part ≡ rows_upto stage rows → Some r ≡ slice_get part k → r.0 ≤ℤ stage
 row_upto stage rows part k r e h =
     let p = kept_passes (λ (r : Row). int_le r.0 stage) rows k r (ap (λ xs. slice_get xs k) (sym e) ∙ sym h) in
@@ -126,3 +146,9 @@ fault_passed i rows r s h k e f none =
     order_at i rows r s h k ∙ ap (λ (t : Row). or_else (fault_behind i t (get_or rows i s)) (order_fault i (drop i rows))) (sym e)
     ∙ ap (λ (t : Row). or_else (fault_behind i r t) (order_fault i (drop i rows))) (sym f)
     ∙ ap (λ o. or_else o (order_fault i (drop i rows))) none
+
+-- the last of a list of two or more
+pub last_behind : {X : Type 0} (x y : X) (xs : List X) → slice_get (x ∷ y ∷ xs) (length (x ∷ y ∷ xs) - 1) ≡ slice_get (y ∷ xs) (length (y ∷ xs) - 1)
+last_behind x y xs =
+    let e : length (x ∷ y ∷ xs) - 1 ≡ suc (length (y ∷ xs) - 1) = omega arith in
+    rw e refl

@@ -1,6 +1,6 @@
 pub mod Lines
 pub mod Periods
+pub mod RatedDischarge
 pub mod Rdb
-pub mod Reading
 pub mod Spans
 pub mod Table

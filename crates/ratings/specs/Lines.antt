@@ -1,7 +1,6 @@
 -- The lines of an RDB text that count: each line is ended by LF or CR LF, the last may lack its end, and comments and
 -- empty lines are passed over but numbered.
-use Rattle.std.specs.Prelude.{ℕ, suc, Bool, false, not, ◌&&◌, ◌==◌, if◌then◌else◌, List, [], ◌∷◌, ◌++◌, filter}
-use Rattle.std.specs.List.{flat_map}
+use Rattle.std.specs.Prelude.{◌≡◌, ◌≢◌, ℕ, suc, Bool, true, false, not, ◌&&◌, ◌==◌, if◌then◌else◌, List, [], ◌∷◌, filter, All}
 
 -- whether a text begins with LF
 abbrev pub begins_with_feed : List ℕ → Bool
@@ -36,10 +35,10 @@ abbrev pub is_kept : List ℕ → Bool
 is_kept [] = false
 is_kept (b ∷ line) = not (b == 35)
 
+-- a line that counts, of which no byte ends a line
+abbrev pub IsKept : List ℕ → Type 0
+IsKept line = (is_kept line ≡ true) × All (λ b. b ≢ 10) line
+
 -- the lines of a text that count, with their numbers
 abbrev pub kept_lines : ℕ → List ℕ → List (ℕ × List ℕ)
 kept_lines passed text = filter (λ line. is_kept line.1) (numbered passed (lines_of text))
-
--- lines in one text, each ended by LF
-abbrev pub text_of_lines : List (ℕ × List ℕ) → List ℕ
-text_of_lines lines = flat_map (λ line. line.1 ++ 10 ∷ []) lines

@@ -1,5 +1,5 @@
 -- The periods in which ratings are in force.
-use Rattle.std.specs.Prelude.{◌≡◌, ◌≢◌, ◌+◌, ◌≤◌, ◌<◌, ℕ, take, drop, length, All, IsSome, IfSome, Bool, true, false, ◌&&◌, not, List, ◌∷◌, ◌++◌, filter, find, Option, None, Some, option_map, ℤ, int_lt, int_le, ◌<ℤ◌, AllPairs}
+use Rattle.std.specs.Prelude.{◌≡◌, All, IfSome, Bool, true, false, ◌&&◌, not, List, find, Option, None, Some, option_map, ℤ, int_lt, int_le, ◌<ℤ◌, AllPairs}
 use Rattle.std.specs.Ordering.{int_eq}
 use Rattle.ratings.specs.Spans.{Span}
 
@@ -34,40 +34,6 @@ pub record AreApart (kept : List Span) : Type 0 where
 abbrev pub in_force : ℤ → List Span → Option Span
 in_force at kept = find (is_in_force at) kept
 
--- the periods that begin before an instant, those that begin after it, and those that begin at it
-abbrev pub begun_before : ℤ → List Span → List Span
-begun_before at kept = filter (λ p. int_lt p.from at) kept
-
-abbrev pub begun_after : ℤ → List Span → List Span
-begun_after at kept = filter (λ p. int_lt at p.from) kept
-
--- kept periods with one put among them, in place of the one of its start
-abbrev pub put : Span → List Span → List Span
-put p kept = begun_before p.from kept ++ p ∷ begun_after p.from kept
-
--- whether a period begins at an instant
-abbrev pub begins_at : ℤ → Span → Bool
-begins_at at p = int_eq p.from at
-
--- kept periods without the one that begins at an instant
-abbrev pub without : ℤ → List Span → List Span
-without at kept = filter (λ p. not (begins_at at p)) kept
-
--- where the period that begins at an instant stands in a list
-pub record IsPlace (kept : List Span) (at : ℤ) (i : ℕ) : Type 0 where
-  pub within : i < length kept
-  pub front : take i kept ≡ begun_before at kept
-  pub back : drop (i + 1) kept ≡ begun_after at kept
-  pub there : IsSome (find (begins_at at) kept)
-
--- where one would stand, if none begins there
-pub record IsFreePlace (kept : List Span) (at : ℤ) (i : ℕ) : Type 0 where
-  pub within : i ≤ length kept
-  pub front : take i kept ≡ begun_before at kept
-  pub back : drop i kept ≡ begun_after at kept
-  pub none : All (λ p. p.from ≢ at) kept
-
--- a list of periods, and for how many more there is room
-pub record Kept : Type 0 where
-  pub list : List Span
-  pub spare : ℕ
+-- when a period begins
+abbrev pub begin : Span → ℤ
+begin p = p.from

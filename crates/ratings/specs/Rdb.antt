@@ -1,6 +1,7 @@
 -- What an RDB text of a rating is read as: the rows of a table, or its first fault with lines taken in order.
-use Rattle.std.specs.Prelude.{◌≡◌, ◌^◌, ℕ, suc, Bool, true, false, ◌&&◌, ◌==◌, if◌then◌else◌, List, [], ◌∷◌, ◌++◌, take, length, reverse, Option, None, Some, option_map, Result, Ok, Err, ℤ, pos, neg_ℤ, int_lt, int_le, codes}
+use Rattle.std.specs.Prelude.{◌≡◌, ℕ, suc, Bool, true, false, ◌&&◌, ◌==◌, if◌then◌else◌, List, [], ◌∷◌, ◌++◌, length, reverse, Option, None, Some, option_map, Result, Ok, Err, ℤ, pos, int_lt, int_le, codes}
 use Rattle.std.specs.Ordering.{int_eq}
+use Rattle.std.specs.Result.{result_ok}
 use Rattle.std.specs.Str.{bytes_eq}
 use Rattle.csv.specs.Machine.{Read, next_record}
 use Rattle.csv.specs.Reading.{strip_bom}
@@ -9,7 +10,7 @@ use Rattle.csv.specs.declared.parser.Config.{Config}
 use Rattle.csv.specs.declared.parser.State.TheVariants as state
 use Rattle.csv.specs.declared.parser.Terminator.TheVariants as terminator
 use Rattle.fixed_units.specs.Decimals.{decimal_of}
-use Rattle.fixed_units.specs.declared.decimals.Bad.{Bad}
+use Rattle.fixed_units.specs.Quantities.{is_stage, is_discharge, is_amount}
 use Rattle.ratings.specs.declared.rdb.RdbFault.{RdbFault}
 use Rattle.ratings.specs.declared.rdb.RdbFault.TheVariants as faults
 use Rattle.ratings.specs.declared.rdb_rows.Columns.{Columns}
@@ -29,6 +30,14 @@ fields_read (Some read) = read.0
 -- the fields that the crate `csv` states for a line
 abbrev pub fields : List ℕ → List (List ℕ)
 fields line = fields_read (next_record tab_config state.StartRecord [] [] line)
+
+-- those of a text from the start of a field on, and those behind the tab that ends a field, if one does
+abbrev pub fields_from : List ℕ → List (List ℕ)
+fields_from text = fields_read (next_record tab_config state.StartField [] [] text)
+
+abbrev pub fields_behind : Option (List ℕ) → List (List ℕ)
+fields_behind None = []
+fields_behind (Some text) = fields_from text
 
 -- the place of the first column of a name
 abbrev pub column : List ℕ → List (List ℕ) → Option ℕ
@@ -57,27 +66,26 @@ skip_spaces (b ∷ field) = if b == 32 then skip_spaces field else b ∷ field
 abbrev pub trimmed : List ℕ → List ℕ
 trimmed field = reverse (skip_spaces (reverse (skip_spaces field)))
 
--- a quantity of at least `low` and at most `high` millionths that a text states, if it states one
-abbrev pub within : ℤ → ℤ → Result ℤ Bad → Option ℤ
-within low high (Err bad) = None
-within low high (Ok n) = if int_le low n && int_le n high then Some n else None
+-- a quantity in a range that a text states, if it states one
+abbrev pub within : (ℤ → Bool) → Option ℤ → Option ℤ
+within is_in None = None
+within is_in (Some n) = if is_in n then Some n else None
 
-abbrev pub quantity : ℤ → ℤ → List ℕ → Option ℤ
-quantity low high text = within low high (decimal_of text)
+abbrev pub quantity : (ℤ → Bool) → List ℕ → Option ℤ
+quantity is_in text = within is_in (result_ok (decimal_of text))
 
--- a stage lies within 100,000 feet either way, a discharge from 0 to 10,000,000 cubic feet per second
 abbrev pub stage_in : Option (List ℕ) → Option ℤ
 stage_in None = None
-stage_in (Some field) = quantity (neg_ℤ (pos (10 ^ 11))) (pos (10 ^ 11)) (trimmed field)
+stage_in (Some field) = quantity is_stage (trimmed field)
 
 abbrev pub discharge_in : Option (List ℕ) → Option ℤ
 discharge_in None = None
-discharge_in (Some field) = quantity (pos 0) (pos (10 ^ 13)) (trimmed field)
+discharge_in (Some field) = quantity is_discharge (trimmed field)
 
--- a shift lies within 1,000 feet either way; one that is empty is 0
+-- a shift that is empty is 0
 abbrev pub shift_text : List ℕ → Option ℤ
 shift_text [] = Some (pos 0)
-shift_text (b ∷ text) = quantity (neg_ℤ (pos (10 ^ 9))) (pos (10 ^ 9)) (b ∷ text)
+shift_text (b ∷ text) = quantity is_amount (b ∷ text)
 
 -- one that is not reached is 0 too
 abbrev pub shift_in : Option (List ℕ) → Option ℤ
@@ -152,10 +160,10 @@ rows_in (names ∷ formats ∷ lines) = rows_under (columns_of (fields names.1))
 abbrev pub rdb_of : List ℕ → Result (List Row) RdbFault
 rdb_of text = rows_in (kept_lines 0 (strip_bom text))
 
--- the first rows of those that were read, one more than a table may have
-abbrev pub AreFirst : Result (List Row) RdbFault → List Row → Type 0
-AreFirst (Err fault) first = ⊥
-AreFirst (Ok rows) first = first ≡ take 10_001 rows
+-- rows that were read: how many there are, and all of them where so many were kept
+abbrev pub AreRead : Result (List Row) RdbFault → List Row → ℕ → Type 0
+AreRead (Err fault) kept count = ⊥
+AreRead (Ok rows) kept count = (length rows ≡ count) × (length kept ≡ count → kept ≡ rows)
 
 -- the line of a fault, 0 where it is none of a line
 abbrev pub line_of : RdbFault → ℕ

@@ -1,9 +1,10 @@
 -- An expanded rating: a table of stages and discharges that is read by straight lines.
-use Rattle.std.specs.Prelude.{◌≤◌, ◌-◌, ℕ, suc, Bool, ◌||◌, nat_lt, if◌then◌else◌, List, [], ◌∷◌, filter, length, slice_get, Option, None, Some, ℤ, int_lt, int_le, ◌<ℤ◌, ◌≤ℤ◌, ◌+ℤ◌, ◌-ℤ◌, ◌*ℤ◌, AllPairs}
+use Rattle.std.specs.Prelude.{◌≤◌, ◌-◌, ℕ, suc, Bool, ◌||◌, nat_lt, if◌then◌else◌, List, [], ◌∷◌, filter, length, slice_get, Option, None, Some, ℤ, int_lt, int_le, ◌<ℤ◌, ◌≤ℤ◌, AllPairs}
 use Rattle.std.specs.Ordering.{int_eq}
-use Rattle.fixed_units.specs.Rounding.{round}
+use Rattle.fixed_units.specs.Lines.{line_at}
 use Rattle.ratings.specs.declared.table.Rated.{Rated}
 use Rattle.ratings.specs.declared.table.Rated.TheVariants.{Value, Below, Above}
+use Rattle.ratings.specs.declared.table.TheConstants.{LEAST_ROWS, MOST_ROWS}
 use Rattle.ratings.specs.declared.table.TableFault.{TableFault}
 use Rattle.ratings.specs.declared.table.TableFault.TheVariants.{Count, NotRising, Falling}
 
@@ -11,10 +12,15 @@ use Rattle.ratings.specs.declared.table.TableFault.TheVariants.{Count, NotRising
 abbrev pub Row : Type 0
 Row = ℤ × ℤ
 
+-- rows are in order where their stages strictly rise and their discharges never fall
+pub record IsInOrder (rows : List Row) : Type 0 where
+  pub rising : AllPairs (λ r s. r.0 <ℤ s.0) rows
+  pub never_falling : AllPairs (λ r s. r.1 ≤ℤ s.1) rows
+
 -- a table has 2 to 10,000 rows, its stages strictly rise and its discharges never fall
 pub record IsTable (rows : List Row) : Type 0 where
-  pub most : length rows ≤ 10_000
-  pub least : 2 ≤ length rows
+  pub most : length rows ≤ MOST_ROWS
+  pub least : LEAST_ROWS ≤ length rows
   pub rising : AllPairs (λ r s. r.0 <ℤ s.0) rows
   pub never_falling : AllPairs (λ r s. r.1 ≤ℤ s.1) rows
 
@@ -24,10 +30,6 @@ first rows = slice_get rows 0
 
 abbrev pub last : List Row → Option Row
 last rows = slice_get rows (length rows - 1)
-
--- what the straight line from one pair to another has at x, rounded once
-abbrev pub line_at : ℤ × ℤ → ℤ × ℤ → ℤ → ℤ
-line_at p q x = p.1 +ℤ round ((q.1 -ℤ p.1) *ℤ (x -ℤ p.0)) (q.0 -ℤ p.0)
 
 -- the rows up to a stage, and those above it
 abbrev pub rows_upto : ℤ → List Row → List Row
@@ -89,7 +91,7 @@ order_fault i (r ∷ s ∷ rows) = or_else (fault_behind (suc i) r s) (order_fau
 
 -- whether a table may not have so many rows
 abbrev pub is_off_count : ℕ → Bool
-is_off_count n = nat_lt n 2 || nat_lt 10_000 n
+is_off_count n = nat_lt n LEAST_ROWS || nat_lt MOST_ROWS n
 
 -- the fault of a table of these rows: their number, and otherwise the first row at fault
 abbrev pub table_fault : List Row → Option TableFault

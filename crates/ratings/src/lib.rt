@@ -2,7 +2,6 @@
 //! and ratings read from RDB texts.
 #![tactic(auto)]
 
-mod interpolation;
 pub mod laws;
 pub mod period;
 pub mod periods;
@@ -13,9 +12,10 @@ mod rdb_rows;
 pub mod table;
 
 pub use period::{Period, PeriodPart};
-pub use periods::{NoEntry, Periods};
+pub use periods::Periods;
 pub use rdb::{RdbFault, read_rdb};
-pub use table::{Rated, Table, TableFault};
+pub use rising::NoEntry;
+pub use table::{LEAST_ROWS, MOST_ROWS, Rated, Table, TableFault};
 
 #[cfg(test)]
 mod tests;

@@ -2,6 +2,7 @@
 
 use crate::table::Table;
 use fixed_units::Second;
+use rising::Keyed;
 use std::marker::Model;
 use std::sync::Arc;
 
@@ -47,6 +48,26 @@ impl Period {
             until,
             rating,
         })
+    }
+}
+
+impl Keyed for Period {
+    type Key = Second;
+
+    ghost place = { λ p. p.from };
+
+    ghost number = { λ s. s };
+
+    fn key(&self) -> Second {
+        self.from
+    }
+
+    fn is_before(&self, key: Second) -> bool {
+        self.from < key
+    }
+
+    fn is_at(&self, key: Second) -> bool {
+        self.from == key
     }
 }
 

@@ -1,17 +1,16 @@
 //! Ratings in RDB: texts of tab separated rows under a line of names and a line of formats.
 
-ghost use Rattle.std.specs.Prelude.{◌≡◌, ◌≢◌, ◌⊎◌, ◌+◌, ◌<◌, ◌≤◌, ◌<ℤ◌, ◌≤ℤ◌, ◌^◌, true, false, [], ◌∷◌, ◌++◌, take, AllPairs, Some, length, None, Ok, Err, IfOk, IfErr, OnErr, OnOk, All};
-ghost use Rattle.ratings.specs.Lines.{kept_lines, is_kept};
+ghost use Rattle.std.specs.Prelude.{◌≡◌, ◌⊎◌, ◌+◌, ◌<◌, ◌^◌, false, if◌then◌else◌, [], ◌∷◌, ◌++◌, length, unwrap_or, None, Ok, Err, IfOk, IfErr};
+ghost use Rattle.std.specs.Result.{result_err};
+ghost use Rattle.ratings.specs.Lines.{kept_lines};
 ghost use Rattle.ratings.specs.Rdb as rdb;
-ghost use Rattle.ratings.specs.Rdb.{AreFirst, columns_of, fields, next_row, rdb_of, rows_of};
-ghost use Rattle.ratings.specs.Reading.{IsBefore};
-ghost use Rattle.ratings.specs.Table.{is_off_count};
+ghost use Rattle.ratings.specs.Rdb.{AreRead, rdb_of, rows_of};
+ghost use Rattle.ratings.specs.Table.{IsInOrder, is_off_count};
 
-use crate::rdb_fields::FieldReader;
-use crate::rdb_lines::{Line, join_lines, next_line, without_mark};
-use crate::rdb_rows::{Columns, find_columns, put_behind, read_row};
-use crate::table::{MOST, Table, is_off_count};
-use fixed_units::{Micro, NoMemory};
+use crate::rdb_lines::{next_line, without_mark};
+use crate::rdb_rows::{Columns, find_columns, read_row};
+use crate::table::{MOST_ROWS, Table, is_off_count};
+use fixed_units::Micro;
 use std::alloc::Global;
 use thiserror::Error;
 
@@ -19,36 +18,26 @@ use thiserror::Error;
 #[derive(Clone, Copy, Debug, PartialEq, Eq, Error)]
 pub enum RdbFault {
     /// There is no line of names, or no line of formats.
-    #[error("no names or no formats")]
+    #[error("there is no line of names, or no line of formats")]
     NoNames,
     /// The line of names lacks INDEP or DEP.
-    #[error("line {0}: a column is missing")]
+    #[error("the names in line {0} lack INDEP or DEP")]
     NoColumn(u64),
     /// The row of that line lacks a number, or has one out of range.
-    #[error("line {0}: no number")]
+    #[error("the row in line {0} lacks a number, or has one out of range")]
     Number(u64),
     /// The row of that line has a shift.
-    #[error("line {0}: a shift")]
+    #[error("the row in line {0} has a shift")]
     Shift(u64),
     /// The stage of that line's row does not rise, or its discharge falls.
-    #[error("line {0}: out of order")]
+    #[error("the stage in line {0} does not rise, or its discharge falls")]
     Order(u64),
     /// There are fewer than 2 rows, or more than 10,000.
-    #[error("not 2 to 10,000 rows")]
+    #[error("there are not 2 to 10,000 rows")]
     Count,
     /// There was no memory.
-    #[error("out of memory")]
+    #[error("there is no memory for the rows of a table")]
     NoMemory,
-}
-
-impl From<NoMemory> for RdbFault {
-    ghost use Rattle.ratings.specs.declared.rdb.RdbFault.TheVariants.{NoMemory};
-
-    ghost from_gives = { λ e f. f ≡ NoMemory };
-
-    fn from(_error: NoMemory) -> RdbFault {
-        RdbFault::NoMemory
-    }
 }
 
 impl RdbFault {
@@ -71,10 +60,10 @@ impl RdbFault {
 /// # Errors
 ///
 /// The first fault with lines taken in order, and at one line in the order of [`RdbFault`]'s variants; `Count` comes
-/// after all rows. `NoMemory` may come instead.
+/// after all rows. `NoMemory` only where the text has no fault.
 pub fn read_rdb(alloc: Global, text: &[u8]) -> Result<Table, RdbFault>
     ensures ok { IfOk result (λ table. rdb_of text.now ≡ Ok table) }
-    ensures err { IfErr result (λ fault. (fault ≡ RdbFault.NoMemory) ⊎ (rdb_of text.now ≡ Err fault)) }
+    ensures err { IfErr result (λ fault. fault ≡ unwrap_or (result_err (rdb_of text.now)) RdbFault.NoMemory) }
 {
     let text = without_mark(text);
     let Some(names) = next_line(text, 0) else {
@@ -83,53 +72,29 @@ pub fn read_rdb(alloc: Global, text: &[u8]) -> Result<Table, RdbFault>
     let Some(formats) = next_line(names.behind, names.number) else {
         return Err(RdbFault::NoNames);
     };
-    let lines = join_lines(alloc, text)?;
-    let mut reader = FieldReader::new(alloc, lines.as_slice());
-    let columns = read_columns(&mut reader, &names)?;
-    reader.read_next()?;
-    let rows = read_rows(alloc, &mut reader, columns, formats.behind, formats.number)?;
+    let Some(columns) = find_columns(names.bytes) else {
+        return Err(RdbFault::NoColumn(names.number));
+    };
+    let rows = read_rows(alloc, columns, formats.behind, formats.number)?;
     make_table(rows)
 }
 
-/// The places of the columns in the line of names, which is the next one.
-fn read_columns(reader: &mut FieldReader<'_>, names: &Line<'_>) -> Result<Columns, RdbFault>
-    requires next { IsBefore reader.old
-        ((names.now.number, names.now.bytes.now) ∷ kept_lines names.now.number names.now.behind.now) }
-    requires kept { is_kept names.now.bytes.now ≡ true }
-    requires feeds { All (λ b. b ≢ 10) names.now.bytes.now }
-    ensures ok { IfOk result (λ columns. columns_of (fields names.now.bytes.now) ≡ Some columns) }
-    ensures behind { OnOk result (IsBefore reader.new (kept_lines names.now.number names.now.behind.now)) }
-    ensures err { IfErr result (λ fault. (fault ≡ RdbFault.NoMemory)
-        ⊎ ((columns_of (fields names.now.bytes.now) ≡ None) × (fault ≡ RdbFault.NoColumn names.now.number))) }
+/// The rows of the lines of a text behind so many lines.
+fn read_rows(alloc: Global, columns: Columns, text: &[u8], passed: u64) -> Result<Rows, RdbFault>
+    requires { passed + length text.now < 2 ^ 64 }
+    ensures ok { IfOk result (λ rows. AreRead (rows_of columns None (kept_lines passed text.now)) rows.kept.items rows.count) }
+    ensures err { IfErr result (λ fault. rows_of columns None (kept_lines passed text.now) ≡ Err fault) }
 {
-    reader.read_next()?;
-    match find_columns(&reader.fields) {
-        Some(columns) => Ok(columns),
-        None => Err(RdbFault::NoColumn(names.number)),
-    }
-}
-
-/// The first rows of a text behind so many lines, which are the next ones, one more than a table may have.
-fn read_rows(
-    alloc: Global,
-    reader: &mut FieldReader<'_>,
-    columns: Columns,
-    text: &[u8],
-    passed: u64,
-) -> Result<Vec<(Micro, Micro)>, RdbFault>
-    requires next { IsBefore reader.old (kept_lines passed text.now) }
-    requires counted { passed + length text.now < 2 ^ 64 }
-    ensures ok { IfOk result (λ rows. AreFirst (rows_of columns None (kept_lines passed text.now)) rows.items) }
-    ensures err { IfErr result (λ fault. (fault ≡ RdbFault.NoMemory)
-        ⊎ (rows_of columns None (kept_lines passed text.now) ≡ Err fault)) }
-{
-    let mut rows = Vec::new(alloc);
+    let mut rows = Rows {
+        kept: Vec::new(alloc),
+        count: 0,
+    };
     let mut before = None;
     let mut rest = text;
     let mut number = passed;
     while let Some(line) = next_line(rest, number) {
-        let row = read_next(reader, columns, before, &line)?;
-        keep(&mut rows, &row)?;
+        let row = read_row(columns, before, &line)?;
+        rows.add(&row);
         before = Some(row);
         rest = line.behind;
         number = line.number;
@@ -137,48 +102,41 @@ fn read_rows(
     Ok(rows)
 }
 
-/// The row of the next line, behind the row before it.
-fn read_next(
-    reader: &mut FieldReader<'_>,
-    columns: Columns,
-    before: Option<(Micro, Micro)>,
-    line: &Line<'_>,
-) -> Result<(Micro, Micro), RdbFault>
-    requires next { IsBefore reader.old
-        ((line.now.number, line.now.bytes.now) ∷ kept_lines line.now.number line.now.behind.now) }
-    requires kept { is_kept line.now.bytes.now ≡ true }
-    requires feeds { All (λ b. b ≢ 10) line.now.bytes.now }
-    ensures ok { IfOk result (λ row. next_row columns before (line.now.number, line.now.bytes.now) ≡ Ok row) }
-    ensures behind { OnOk result (IsBefore reader.new (kept_lines line.now.number line.now.behind.now)) }
-    ensures err { IfErr result (λ fault. (fault ≡ RdbFault.NoMemory)
-        ⊎ (next_row columns before (line.now.number, line.now.bytes.now) ≡ Err fault)) }
-{
-    reader.read_next()?;
-    let row = read_row(columns, line.number, &reader.fields)?;
-    put_behind(line.number, before, row)
+/// Rows that were read: how many, and those that were kept, which are all of them where there was memory and they are
+/// no more than a table may have.
+#[derive(Drop)]
+struct Rows {
+    kept: Vec<(Micro, Micro)>,
+    count: usize,
 }
 
-/// Adds a row, unless there are more than a table may have already.
-fn keep(rows: &mut Vec<(Micro, Micro)>, row: &(Micro, Micro)) -> Result<(), NoMemory>
-    requires { length rows.old.items ≤ 10_001 }
-    ensures { OnOk result (rows.new.items ≡ take 10_001 (rows.old.items ++ row.now ∷ [])) }
-{
-    if rows.len() <= MOST {
-        rows.push(*row)?;
+impl Rows {
+    /// Adds a row, and keeps it if all before it were kept.
+    fn add(&mut self, row: &(Micro, Micro))
+        requires { self.old.count + 1 < 2 ^ 64 }
+        ensures count { self.new.count ≡ self.old.count + 1 }
+        ensures kept { ((length self.old.kept.items ≡ self.old.count) × (self.new.kept.items ≡ self.old.kept.items ++ row.now ∷ []))
+            ⊎ (self.new.kept.items ≡ self.old.kept.items) }
+    {
+        if self.kept.len() == self.count && self.count < MOST_ROWS {
+            // Want of memory is told after the last row, which may be at fault.
+            let _added = self.kept.push(*row);
+        }
+        self.count += 1;
     }
-    Ok(())
 }
 
-/// The table of rows that are in order.
-fn make_table(rows: Vec<(Micro, Micro)>) -> Result<Table, RdbFault>
-    requires rising { AllPairs (λ r s. r.0 <ℤ s.0) rows.items }
-    requires never_falling { AllPairs (λ r s. r.1 ≤ℤ s.1) rows.items }
-    ensures ok { IfOk result (λ table. (is_off_count (length rows.items) ≡ false) × (table ≡ rows.items)) }
-    ensures err { IfErr result (λ fault. (is_off_count (length rows.items) ≡ true) × (fault ≡ RdbFault.Count)) }
+/// The table of rows that are in order, if they are as many as a table may have and were all kept.
+fn make_table(rows: Rows) -> Result<Table, RdbFault>
+    requires { length rows.kept.items ≡ rows.count → IsInOrder rows.kept.items }
+    ensures ok { IfOk result (λ table. (is_off_count rows.count ≡ false) × (length rows.kept.items ≡ rows.count) × (table ≡ rows.kept.items)) }
+    ensures err { IfErr result (λ fault. fault ≡ (if is_off_count rows.count then RdbFault.Count else RdbFault.NoMemory)) }
 {
-    if is_off_count(rows.len()) {
+    if is_off_count(rows.count) {
         Err(RdbFault::Count)
+    } else if rows.kept.len() == rows.count {
+        Ok(Table::of_rows(rows.kept))
     } else {
-        Ok(Table::of_rows(rows))
+        Err(RdbFault::NoMemory)
     }
 }

@@ -1,12 +1,9 @@
-//! The lines of an RDB text that count, one at a time or all in one text.
+//! The lines of an RDB text that count, one at a time.
 
-ghost use Rattle.std.specs.Prelude.{◌≡◌, ◌≢◌, ◌+◌, ◌<◌, ◌≤◌, ◌^◌, true, ⊤, [], ◌∷◌, length, All, IfOk, MatchOption};
+ghost use Rattle.std.specs.Prelude.{◌≡◌, ◌≢◌, ◌+◌, ◌<◌, ◌≤◌, ◌^◌, ⊤, [], ◌∷◌, length, All, MatchOption};
 ghost use Rattle.csv.specs.Reading.{strip_bom};
 ghost use Rattle.ratings.specs.Lines as lines;
-ghost use Rattle.ratings.specs.Lines.{lines_of, kept_lines, text_of_lines};
-
-use fixed_units::NoMemory;
-use std::alloc::Global;
+ghost use Rattle.ratings.specs.Lines.{IsKept, lines_of, kept_lines};
 
 /// A line that counts, and the text behind it.
 #[derive(Clone, Copy, Debug)]
@@ -35,7 +32,7 @@ pub(crate) fn next_line(text: &[u8], passed: u64) -> Option<Line<'_>>
     requires { passed + length text.now < 2 ^ 64 }
     ensures lines { MatchOption result (kept_lines passed text.now ≡ [])
         (λ line. kept_lines passed text.now ≡ (line.number, line.bytes.now) ∷ kept_lines line.number line.behind.now) }
-    ensures kept { MatchOption result ⊤ (λ line. (lines.is_kept line.bytes.now ≡ true) × All (λ b. b ≢ 10) line.bytes.now) }
+    ensures kept { MatchOption result ⊤ (λ line. IsKept line.bytes.now) }
     ensures shorter { MatchOption result ⊤ (λ line. (length line.behind.now < length text.now)
         × (line.number + length line.behind.now ≤ passed + length text.now)) }
 {
@@ -54,27 +51,6 @@ pub(crate) fn next_line(text: &[u8], passed: u64) -> Option<Line<'_>>
         rest = behind;
     }
     None
-}
-
-/// The lines of a text that count, each ended by LF, behind an LF of their own.
-///
-/// That LF is an empty line to `csv`, which passes it over. Without it, `csv` would take bytes at the start of the first
-/// line that look like a byte order mark for one.
-pub(crate) fn join_lines(alloc: Global, text: &[u8]) -> Result<Vec<u8>, NoMemory>
-    ensures { IfOk result (λ joined. joined.items ≡ 10 ∷ text_of_lines (kept_lines 0 text.now)) }
-{
-    // There is room for the LF in front, and for one behind a last line that lacks its end.
-    let mut joined = Vec::with_capacity(alloc, text.len() + 2)?;
-    joined.push(b'\n')?;
-    let mut rest = text;
-    let mut number = 0;
-    while let Some(line) = next_line(rest, number) {
-        joined.extend_from_slice(line.bytes)?;
-        joined.push(b'\n')?;
-        rest = line.behind;
-        number = line.number;
-    }
-    Ok(joined)
 }
 
 /// The first line of a text that is not empty, and the text behind it.

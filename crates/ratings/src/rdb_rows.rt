@@ -1,13 +1,15 @@
 //! A row of an RDB text: its columns, its numbers and its place behind the row before it.
 
 ghost use Rattle.std.specs.Prelude.{◌≡◌, ◌+◌, ◌<◌, ◌≤◌, length, Some, pos, neg_ℤ, ◌^◌, option_map, reverse};
-ghost use Rattle.fixed_units.specs.Quantities.{IsMicro};
-ghost use Rattle.ratings.specs.Rdb as rdb;
-ghost use Rattle.ratings.specs.Rdb.{columns_of, quantity, trimmed, skip_spaces, stage_in, discharge_in, shift_in, shift_text, row_from, row_of, behind};
+ghost use Rattle.std.specs.Result.{result_ok};
+ghost use Rattle.fixed_units.specs.Decimals.{decimal_of};
+ghost use Rattle.ratings.specs.Lines.{IsKept};
+ghost use Rattle.ratings.specs.Rdb.{columns_of, fields, field_in, trimmed, skip_spaces, stage_in, discharge_in, shift_in, shift_text, row_from, row_of, behind, next_row};
 
 use crate::rdb::RdbFault;
-use crate::rdb_fields::Fields;
-use fixed_units::{Micro, read_decimal};
+use crate::rdb_fields::{find_column, find_field};
+use crate::rdb_lines::Line;
+use fixed_units::{Micro, is_amount, is_discharge, is_stage, read_decimal};
 
 /// Where the columns stand that are read.
 #[derive(Clone, Copy, Debug)]
@@ -20,31 +22,50 @@ pub(crate) struct Columns {
     pub shift: Option<usize>,
 }
 
-/// The places of the columns among their names, if the two that are needed are there.
-pub(crate) fn find_columns(names: &Fields) -> Option<Columns>
-    ensures { result ≡ columns_of names.now }
+/// The places of the columns in the line of their names, if the two that are needed are there.
+pub(crate) fn find_columns(names: &[u8]) -> Option<Columns>
+    requires { IsKept names.now }
+    ensures { result ≡ columns_of (fields names.now) }
 {
-    let stage = names.position(b"INDEP")?;
-    let discharge = names.position(b"DEP")?;
+    let stage = find_column(names, b"INDEP")?;
+    let discharge = find_column(names, b"DEP")?;
     Some(Columns {
         stage,
         discharge,
-        shift: names.position(b"SHIFT"),
+        shift: find_column(names, b"SHIFT"),
     })
 }
 
-/// The row of the line of that number.
+/// The row of a line, behind the row before it.
 pub(crate) fn read_row(
     columns: Columns,
-    number: u64,
-    fields: &Fields,
+    before: Option<(Micro, Micro)>,
+    line: &Line<'_>,
 ) -> Result<(Micro, Micro), RdbFault>
-    ensures { result ≡ row_of columns number fields.now }
+    requires { IsKept line.now.bytes.now }
+    ensures { result ≡ next_row columns before (line.now.number, line.now.bytes.now) }
 {
-    let stage = read_stage(fields.get(columns.stage));
-    let discharge = read_discharge(fields.get(columns.discharge));
-    let shift = read_shift(fields.get_at(columns.shift));
-    make_row(number, stage, discharge, shift)
+    let row = read_numbers(columns, line)?;
+    put_behind(line.number, before, row)
+}
+
+/// The row of a line.
+fn read_numbers(columns: Columns, line: &Line<'_>) -> Result<(Micro, Micro), RdbFault>
+    requires { IsKept line.now.bytes.now }
+    ensures { result ≡ row_of columns line.now.number (fields line.now.bytes.now) }
+{
+    let stage = read_stage(find_field(line.bytes, columns.stage));
+    let discharge = read_discharge(find_field(line.bytes, columns.discharge));
+    let shift = read_shift(find_field_in(line.bytes, columns.shift));
+    make_row(line.number, stage, discharge, shift)
+}
+
+/// The field of a line at a place, if there is such a place and a field there.
+fn find_field_in(line: &[u8], place: Option<usize>) -> Option<&[u8]>
+    requires { IsKept line.now }
+    ensures { option_map (λ s. s.now) result ≡ field_in place (fields line.now) }
+{
+    find_field(line, place?)
 }
 
 /// A row of three numbers, of which the shift has to be 0.
@@ -67,7 +88,7 @@ fn make_row(
 }
 
 /// A row behind another one, above which its stage has to rise and below which its discharge may not fall.
-pub(crate) fn put_behind(
+fn put_behind(
     number: u64,
     before: Option<(Micro, Micro)>,
     row: (Micro, Micro),
@@ -90,14 +111,16 @@ pub(crate) fn put_behind(
 fn read_stage(field: Option<&[u8]>) -> Option<Micro>
     ensures { result ≡ stage_in (option_map (λ s. s.now) field.entry) }
 {
-    read_quantity(trim_spaces(field?), -100_000_000_000, 100_000_000_000)
+    let stage = read_quantity(trim_spaces(field?))?;
+    is_stage(stage.get()).then_some(stage)
 }
 
 /// The discharge of a field, if it has one.
 fn read_discharge(field: Option<&[u8]>) -> Option<Micro>
     ensures { result ≡ discharge_in (option_map (λ s. s.now) field.entry) }
 {
-    read_quantity(trim_spaces(field?), 0, 10_000_000_000_000)
+    let discharge = read_quantity(trim_spaces(field?))?;
+    is_discharge(discharge.get()).then_some(discharge)
 }
 
 /// The shift of a field, if it has one: 0 where it is empty, or where there is no field.
@@ -114,20 +137,18 @@ fn read_shift(field: Option<&[u8]>) -> Option<Micro>
 fn read_shift_text(text: &[u8]) -> Option<Micro>
     ensures { result ≡ shift_text text.now }
 {
-    match text {
-        [] => Micro::new(0),
-        _ => read_quantity(text, -1_000_000_000, 1_000_000_000),
+    if text.is_empty() {
+        return Micro::new(0);
     }
+    let shift = read_quantity(text)?;
+    is_amount(shift.get()).then_some(shift)
 }
 
-/// The quantity from `low` to `high` millionths that a text states, if it states one.
-fn read_quantity(text: &[u8], low: i64, high: i64) -> Option<Micro>
-    ensures { result ≡ quantity low high text.now }
+/// The quantity that a text states, if it states one.
+fn read_quantity(text: &[u8]) -> Option<Micro>
+    ensures { result ≡ result_ok (decimal_of text.now) }
 {
-    match read_decimal(text) {
-        Ok(read) if low <= read.get() && read.get() <= high => Some(read),
-        _ => None,
-    }
+    read_decimal(text).ok()
 }
 
 /// A field without the spaces at both its ends.

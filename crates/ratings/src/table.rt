@@ -1,35 +1,35 @@
 //! A rating table, read by straight lines both ways.
 
-ghost use Rattle.std.specs.Prelude.{◌≡◌, ◌⊎◌, ◌+◌, ◌<◌, ◌≤◌, take, drop, length, slice_index, None, Some, IfOk, IfErr, ◌<ℤ◌, ◌≤ℤ◌, AllPairs};
-ghost use Rattle.fixed_units.specs.Quantities.{IsMicro};
+ghost use Rattle.std.specs.Prelude.{◌≡◌, ◌+◌, ◌<◌, ◌≤◌, take, drop, length, slice_index, None, Some, unwrap_or, IfOk, IfErr, ◌<ℤ◌, ◌≤ℤ◌, AllPairs};
+ghost use Rattle.fixed_units.specs.Lines.{line_at};
+ghost use Rattle.ratings.specs.RatedDischarge.{IsRated, IsStageOf};
 ghost use Rattle.ratings.specs.Table as tables;
-ghost use Rattle.ratings.specs.Table.{IsTable, line_at, rows_upto, rows_above, rows_short, rows_reaching, fault_behind, order_fault, table_fault};
+ghost use Rattle.ratings.specs.Table.{IsTable, rows_upto, rows_above, rows_short, rows_reaching, fault_behind, order_fault, table_fault};
 
-use crate::interpolation::value_on_line;
-use fixed_units::Micro;
+use fixed_units::{Micro, line_at};
 use std::alloc::{AllocError, Global};
 use std::marker::Model;
 use thiserror::Error;
 
 /// The least and the greatest number of rows of a table.
-const LEAST: usize = 2;
+pub const LEAST_ROWS: usize = 2;
 
-pub(crate) const MOST: usize = 10_000;
+pub const MOST_ROWS: usize = 10_000;
 
 /// Why rows are no table.
 #[derive(Clone, Copy, Debug, PartialEq, Eq, Error)]
 pub enum TableFault {
     /// There are fewer than 2 rows, or more than 10,000.
-    #[error("not 2 to 10,000 rows")]
+    #[error("there are not 2 to 10,000 rows")]
     Count,
     /// The stage of that row, counted from 0, is not above the one before.
-    #[error("the stage of row {0} does not rise")]
+    #[error("the stage of row {0}, counted from 0, is not above that of the row before")]
     NotRising(usize),
     /// The discharge of that row, counted from 0, is below the one before.
-    #[error("the discharge of row {0} falls")]
+    #[error("the discharge of row {0}, counted from 0, is below that of the row before")]
     Falling(usize),
     /// There was no memory.
-    #[error("out of memory")]
+    #[error("there is no memory for the rows of a table")]
     NoMemory,
 }
 
@@ -77,10 +77,10 @@ impl Table {
     ///
     /// # Errors
     ///
-    /// `Count` outside 2 to 10,000 rows, otherwise the first row at fault. `NoMemory` may come instead.
+    /// `Count` outside 2 to 10,000 rows, otherwise the first row at fault. `NoMemory` only where no row is.
     pub fn new(alloc: Global, rows: &[(Micro, Micro)]) -> Result<Table, TableFault>
         ensures ok { IfOk result (λ table. (table ≡ rows.now) × (table_fault rows.now ≡ None)) }
-        ensures err { IfErr result (λ fault. (fault ≡ TableFault.NoMemory) ⊎ (table_fault rows.now ≡ Some fault)) }
+        ensures err { IfErr result (λ fault. fault ≡ unwrap_or (table_fault rows.now) TableFault.NoMemory) }
     {
         if let Some(fault) = find_fault(rows) {
             return Err(fault);
@@ -108,36 +108,52 @@ impl Table {
 
     /// The rated discharge of a stage: on a row that row's discharge, between two rows the line's.
     pub fn rate(&self, stage: Micro) -> Rated
-        ensures { result ≡ tables.rated self.now stage }
+        ensures value { result ≡ tables.rated self.now stage }
+        ensures cases { IsRated self.now stage result }
     {
-        let rows = self.rows.as_slice();
-        let (reached, above) = rows.split_at(count_upto(rows, stage));
-        let Some(row) = reached.last() else {
-            return Rated::Below;
-        };
-        if row.0 == stage {
-            return Rated::Value(row.1);
-        }
-        match above.first() {
-            Some(next) => Rated::Value(value_on_line(*row, *next, stage)),
-            None => Rated::Above,
-        }
+        find_discharge(self.rows.as_slice(), stage)
     }
 
     /// The stage of a discharge: that of the first row that has it, or the line's between two rows. `None` below the
     /// first row's discharge and above the last one's.
     pub fn stage_of(&self, discharge: Micro) -> Option<Micro>
-        ensures { result ≡ tables.stage_of self.now discharge }
+        ensures value { result ≡ tables.stage_of self.now discharge }
+        ensures cases { IsStageOf self.now discharge result }
     {
-        let rows = self.rows.as_slice();
-        let (short, reaching) = rows.split_at(count_short(rows, discharge));
-        let next = reaching.first()?;
-        if next.1 == discharge {
-            return Some(next.0);
-        }
-        let row = short.last()?;
-        Some(value_on_line(turned(*row), turned(*next), discharge))
+        find_stage(self.rows.as_slice(), discharge)
     }
+}
+
+/// The rated discharge of a stage by the rows of a table.
+fn find_discharge(rows: &[(Micro, Micro)], stage: Micro) -> Rated
+    requires { IsTable rows.now }
+    ensures { result ≡ tables.rated rows.now stage }
+{
+    let (reached, above) = rows.split_at(count_upto(rows, stage));
+    let Some(row) = reached.last() else {
+        return Rated::Below;
+    };
+    if row.0 == stage {
+        return Rated::Value(row.1);
+    }
+    match above.first() {
+        Some(next) => Rated::Value(value_on_line(*row, *next, stage)),
+        None => Rated::Above,
+    }
+}
+
+/// The stage of a discharge by the rows of a table.
+fn find_stage(rows: &[(Micro, Micro)], discharge: Micro) -> Option<Micro>
+    requires { IsTable rows.now }
+    ensures { result ≡ tables.stage_of rows.now discharge }
+{
+    let (short, reaching) = rows.split_at(count_short(rows, discharge));
+    let next = reaching.first()?;
+    if next.1 == discharge {
+        return Some(next.0);
+    }
+    let row = short.last()?;
+    Some(value_on_line(turned(*row), turned(*next), discharge))
 }
 
 /// How many rows stand at a stage or below it.
@@ -158,6 +174,16 @@ fn count_short(rows: &[(Micro, Micro)], discharge: Micro) -> usize
     ensures back { drop result rows.now ≡ rows_reaching discharge rows.now }
 {
     rows.partition_point(|row| row.1 < discharge)
+}
+
+/// What the straight line from one point to another has at `x`, rounded once.
+fn value_on_line(from: (Micro, Micro), to: (Micro, Micro), x: Micro) -> Micro
+    requires rising { from.0 <ℤ to.0 }
+    requires first { from.0 ≤ℤ x }
+    requires last { x ≤ℤ to.0 }
+    ensures { result ≡ line_at from to x }
+{
+    line_at((from.0.get(), from.1), (to.0.get(), to.1), x.get())
 }
 
 /// A row the other way round.
@@ -181,7 +207,7 @@ fn find_fault(rows: &[(Micro, Micro)]) -> Option<TableFault>
 pub(crate) fn is_off_count(count: usize) -> bool
     ensures { result ≡ tables.is_off_count count }
 {
-    count < LEAST || MOST < count
+    count < LEAST_ROWS || MOST_ROWS < count
 }
 
 /// The first row at fault against the one before it.

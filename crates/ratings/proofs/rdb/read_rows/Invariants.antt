@@ -1,15 +1,14 @@
 -- What was read stands in front of what is left, which gets shorter.
 use Rattle.std.proofs.Common.{◌+◌, ◌≤◌, length}
 use Rattle.ratings.specs.Lines.{kept_lines}
-use Rattle.ratings.specs.Reading.{IsBefore}
 use Rattle.ratings.proofs.RdbLemmas.{Reads}
 use Rattle.ratings.proofs.rdb.read_rows.Given as goal
 
 abbrev pub invariant-loop-line : goal.invariant-loop-line
 invariant-loop-line l = record {
-  reads : Reads l.columns (kept_lines l.passed l.text) l.rows.items l.before (kept_lines l.number l.rest);
-  next : IsBefore l.reader (kept_lines l.number l.rest);
-  counted : l.number + length l.rest ≤ l.passed + length l.text;
+  reads : Reads l.columns (kept_lines l.passed l.text) l.rows.kept.items l.rows.count l.before (kept_lines l.number l.rest);
+  lines : l.number + length l.rest ≤ l.passed + length l.text;
+  counted : l.rows.count + length l.rest ≤ length l.text;
 }
 
 abbrev pub decreases-loop-line : goal.decreases-loop-line

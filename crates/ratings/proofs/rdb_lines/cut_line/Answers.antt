@@ -1,18 +1,15 @@
 -- The first line ends where the search found LF, or with the text.
 use Rattle.std.proofs.Common.{◌≡◌, ◌∙◌, ap, sym, subst, arith, ◌+◌, ◌-◌, List, ℕ, ◌∷◌, length, take, drop}
 use Rattle.std.specs.Prelude.{All, ◌≢◌}
-use Rattle.std.proofs.lemmas.List.{take_all, length-drop}
 use Rattle.ratings.specs.Lines.{lines_of}
-use Rattle.ratings.proofs.LineTextLemmas.{found_feed, found_no_feed, return_feeds}
+use Rattle.ratings.proofs.LineTextLemmas.{found_feed, found_no_feed, rest_whole, return_feeds}
 use Rattle.ratings.proofs.rdb_lines.cut_line.Goals as goal
 
 pub returns-in-Some-clause-lines : goal.returns-in-Some-clause-lines
 returns-in-Some-clause-lines c =
-    let whole : take (length c.args.text.now - (c.in-Some.end + 1)) (drop (c.in-Some.end + 1) c.args.text.now) ≡ drop (c.in-Some.end + 1) c.args.text.now =
-    take_all (length c.args.text.now - (c.in-Some.end + 1)) (drop (c.in-Some.end + 1) c.args.text.now) (omega (arith, length-drop (c.in-Some.end + 1) c.args.text.now)) in
     (found_feed c.args.text.now c.in-Some.end c.in-Some.ensures).0
     ∙ ap (λ (l : List ℕ). l ∷ lines_of (drop (c.in-Some.end + 1) c.args.text.now)) (sym c.without_return.ensures)
-    ∙ ap (λ (t : List ℕ). c.without_return.result.now ∷ lines_of t) (sym whole)
+    ∙ ap (λ (t : List ℕ). c.without_return.result.now ∷ lines_of t) (sym (rest_whole (c.in-Some.end + 1) c.args.text.now))
 
 pub returns-in-Some-clause-feeds : goal.returns-in-Some-clause-feeds
 returns-in-Some-clause-feeds c =

@@ -3,7 +3,8 @@ use Rattle.std.specs.Prelude.{int_lt, int_le}
 use Rattle.std.proofs.Common.{rules, tests}
 use Rattle.std.proofs.lemmas.List.Sorted.{IsPartitionPoint-from_clause}
 use Rattle.ratings.specs.Table.{Row}
-use Rattle.ratings.proofs.Parting.{parted_short, take_parted, drop_parted, reaching_is_not_short}
+use Rattle.rising.proofs.Parting.{take_parted, drop_parted, from_is_not_before}
+use Rattle.ratings.proofs.TableLemmas.{parted_short}
 use Rattle.ratings.proofs.table.count_short.Goals as goal
 
 pub returns-clause-front : goal.returns-clause-front
@@ -14,6 +15,6 @@ returns-clause-front c =
 
 pub returns-clause-back : goal.returns-clause-back
 returns-clause-back c =
-    drop_parted (λ (r : Row). int_lt r.1 c.args.discharge) (λ (r : Row). int_le c.args.discharge r.1) (λ r. reaching_is_not_short r.1 c.args.discharge) c.args.rows.now c.partition_point.result c.partition_point.ensures.bound
+    drop_parted (λ (r : Row). int_lt r.1 c.args.discharge) (λ (r : Row). int_le c.args.discharge r.1) (λ r. from_is_not_before c.args.discharge r.1) c.args.rows.now c.partition_point.result c.partition_point.ensures.bound
     (IsPartitionPoint-from_clause (λ (r : Row). int_lt r.1 c.args.discharge) c.args.rows.now c.partition_point.result c.partition_point.ensures.partitioned
     (parted_short (λ (r : Row). r.1) c.args.discharge c.args.rows.now c.requires) (λ a r q k. search (rules, tests)))

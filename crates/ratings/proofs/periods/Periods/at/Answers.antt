@@ -2,7 +2,8 @@
 use Rattle.std.proofs.Common.{◌≡◌, refl, ◌∙◌, ap, sym, ◌-◌, length, List, Option, Some, None, true, false, ℤ}
 use Rattle.std.specs.Prelude.{slice_get, filter, int_le}
 use Rattle.ratings.specs.Spans.{Span}
-use Rattle.ratings.specs.Periods.{AreApart, Kept, in_force, is_before_end}
+use Rattle.rising.specs.Lists.{Kept}
+use Rattle.ratings.specs.Periods.{AreApart, in_force, is_before_end}
 use Rattle.ratings.proofs.PeriodLemmas.{in_force_last, held, last}
 use Rattle.ratings.proofs.periods.Periods.at.Goals as goal
 
@@ -20,24 +21,24 @@ held_out at p h = rw h refl
 
 pub returns-in_err-last : goal.returns-in_err-last
 returns-in_err-last c =
-    c.from_residual.ensures ∙ by_front c.args.at c.self.inside.list.items c.as_slice-list.result.now c.split_at.result.0.now None c.as_slice-list.ensures.value c.self.invariant
-    (c.split_at.ensures.front ∙ c.count_upto.ensures.front) c.in_err-last.ensures.value
-    ∙ ap (λ (k : Kept). in_force c.args.at k.list) c.self.view_is
+    c.from_residual.ensures ∙ by_front c.args.at c.self.inside.list.list c.as_slice-list.result.now c.split_at.result.0.now None c.as_slice-list.ensures.list c.self.invariant
+    (c.split_at.ensures.front ∙ c.count_to.ensures.front) c.in_err-last.ensures.value
+    ∙ ap (λ (k : Kept Span). in_force c.args.at k.list) c.self.view_is
 
 pub returns-then-is_before_end : goal.returns-then-is_before_end
 returns-then-is_before_end c =
     let last : is_before_end c.args.at c.in_ok-last.last.now.until ≡ true =
     ap (λ (s : Span). is_before_end c.args.at s.until) (sym c.last-2.view_is) ∙ (sym c.is_before_end.ensures ∙ c.if-is_before_end.true) in
     ap Some c.last-2.view_is ∙ held_in c.args.at c.in_ok-last.last.now last
-    ∙ by_front c.args.at c.self.inside.list.items c.as_slice-list.result.now c.split_at.result.0.now (Some c.in_ok-last.last.now) c.as_slice-list.ensures.value c.self.invariant
-    (c.split_at.ensures.front ∙ c.count_upto.ensures.front) c.in_ok-last.ensures.value
-    ∙ ap (λ (k : Kept). in_force c.args.at k.list) c.self.view_is
+    ∙ by_front c.args.at c.self.inside.list.list c.as_slice-list.result.now c.split_at.result.0.now (Some c.in_ok-last.last.now) c.as_slice-list.ensures.list c.self.invariant
+    (c.split_at.ensures.front ∙ c.count_to.ensures.front) c.in_ok-last.ensures.value
+    ∙ ap (λ (k : Kept Span). in_force c.args.at k.list) c.self.view_is
 
 pub returns-else-is_before_end : goal.returns-else-is_before_end
 returns-else-is_before_end c =
     let last : is_before_end c.args.at c.in_ok-last.last.now.until ≡ false =
     ap (λ (s : Span). is_before_end c.args.at s.until) (sym c.last-2.view_is) ∙ (sym c.is_before_end.ensures ∙ c.if-is_before_end.false) in
     held_out c.args.at c.in_ok-last.last.now last
-    ∙ by_front c.args.at c.self.inside.list.items c.as_slice-list.result.now c.split_at.result.0.now (Some c.in_ok-last.last.now) c.as_slice-list.ensures.value c.self.invariant
-    (c.split_at.ensures.front ∙ c.count_upto.ensures.front) c.in_ok-last.ensures.value
-    ∙ ap (λ (k : Kept). in_force c.args.at k.list) c.self.view_is
+    ∙ by_front c.args.at c.self.inside.list.list c.as_slice-list.result.now c.split_at.result.0.now (Some c.in_ok-last.last.now) c.as_slice-list.ensures.list c.self.invariant
+    (c.split_at.ensures.front ∙ c.count_to.ensures.front) c.in_ok-last.ensures.value
+    ∙ ap (λ (k : Kept Span). in_force c.args.at k.list) c.self.view_is

@@ -1,23 +1,20 @@
--- What is left is what does not begin at the instant.
-use Rattle.std.proofs.Common.{◌∙◌, ap, sym, subst, List}
+-- What is left is apart, and nothing begins where nothing was taken.
+use Rattle.std.proofs.Common.{sym, subst, ◌∙◌, ap}
+use Rattle.rising.specs.Lists.{Kept, at}
 use Rattle.ratings.specs.Spans.{Span}
-use Rattle.ratings.specs.Periods.{AreApart, Kept, without, IsPlace, IsFreePlace}
-use Rattle.ratings.proofs.PeriodLemmas.{taken_out, none_without, without_apart}
+use Rattle.ratings.specs.Periods.{AreApart, begin}
+use Rattle.ratings.proofs.PeriodLemmas.{without_apart, none_begins}
 use Rattle.ratings.proofs.periods.Periods.take_out.Goals as goal
+use Rattle.ratings.proofs.periods.Periods.take_out.Goals.{in-Some, in-None}
 
 pub invariant_of-self : goal.invariant_of-self
-invariant_of-self c =
-    let place = subst (λ (l : List Span). IsPlace l c.args.from c.in-Ok.i) c.deref.ensures.value c.in-Ok.ensures.there in
-    subst AreApart (sym (c.remove-taken.ensures.by_index.2 ∙ taken_out c.self.inside.list.items c.args.from c.in-Ok.i c.self.invariant.rising place))
-    (without_apart c.args.from c.self.inside.list.items c.self.invariant)
+invariant_of-self c = subst AreApart (sym c.take_out.ensures.list) (without_apart c.args.from c.self.inside.list.list c.self.invariant)
 
-pub returns-in-Ok-clause-list : goal.returns-in-Ok-clause-list
-returns-in-Ok-clause-list c =
-    let place = subst (λ (l : List Span). IsPlace l c.args.from c.in-Ok.i) c.deref.ensures.value c.in-Ok.ensures.there in
-    c.remove-taken.ensures.by_index.2 ∙ taken_out c.self.inside.list.items c.args.from c.in-Ok.i c.self.invariant.rising place
-    ∙ ap (λ (k : Kept). without c.args.from k.list) c.self.view_is
-
-pub returns-in-Err-clause-list : goal.returns-in-Err-clause-list
-returns-in-Err-clause-list c =
-    let place = subst (λ (l : List Span). IsFreePlace l c.args.from c.in-Err.field-0) (c.deref.ensures.value ∙ ap (λ (k : Kept). k.list) c.self.view_is) c.in-Err.ensures.free in
-    sym (none_without c.args.self.now.list c.args.from place.none)
+pub returns-clause-err : goal.returns-clause-err
+returns-clause-err c =
+    elim c.match-take_out.branch [
+      | in-Some w ↦ rw w.result-is tt
+      | in-None w ↦
+          rw w.result-is
+          (none_begins c.args.from c.args.self.now.list (sym w.in-None.is ∙ c.take_out.ensures.taken ∙ ap (λ (k : Kept Span). at begin c.args.from k.list) c.self.view_is))
+    ]

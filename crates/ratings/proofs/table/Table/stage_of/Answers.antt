@@ -1,21 +1,12 @@
--- The discharge lies from the one row up to the other.
-use Rattle.std.proofs.Common.{◌∙◌, arith}
-use Rattle.std.proofs.lemmas.Int.{ints}
-use Rattle.ratings.proofs.TableLemmas.{row_short, row_reaching}
+-- What the rows have stands by cases.
+use Rattle.std.proofs.Common.{◌∙◌, sym, subst, List}
+use Rattle.ratings.specs.Table.{Row, IsTable}
+use Rattle.ratings.specs.RatedDischarge.{IsStageOf}
+use Rattle.ratings.proofs.StageLawLemmas.{stage_stands}
 use Rattle.ratings.proofs.table.Table.stage_of.Goals as goal
 
-pub value_on_line-requires-clause-rising : goal.value_on_line-requires-clause-rising
-value_on_line-requires-clause-rising c =
-    let low = row_short c.args.discharge _ _ _ c.in_ok-row.row.now (c.split_at.ensures.front ∙ c.count_short.ensures.front) c.in_ok-row.ensures.value in
-    let high = row_reaching c.args.discharge _ _ _ c.in_ok-next.next.now (c.split_at.ensures.back ∙ c.count_short.ensures.back) c.in_ok-next.ensures.value in
-    rw (c.turned.ensures, c.turned-2.ensures) (omega (arith, ints, low, high))
-
-pub value_on_line-requires-clause-first : goal.value_on_line-requires-clause-first
-value_on_line-requires-clause-first c =
-    let low = row_short c.args.discharge _ _ _ c.in_ok-row.row.now (c.split_at.ensures.front ∙ c.count_short.ensures.front) c.in_ok-row.ensures.value in
-    rw c.turned.ensures (omega (arith, ints, low))
-
-pub value_on_line-requires-clause-last : goal.value_on_line-requires-clause-last
-value_on_line-requires-clause-last c =
-    let high = row_reaching c.args.discharge _ _ _ c.in_ok-next.next.now (c.split_at.ensures.back ∙ c.count_short.ensures.back) c.in_ok-next.ensures.value in
-    rw c.turned-2.ensures (omega (arith, ints, high))
+pub returns-clause-cases : goal.returns-clause-cases
+returns-clause-cases c =
+    let whole = stage_stands c.as_slice.result.now c.args.discharge (subst IsTable (sym c.as_slice.ensures.value) c.self.invariant) in
+    subst (λ (rows : List Row). IsStageOf rows c.args.discharge c.find_stage.result) (c.as_slice.ensures.value ∙ c.self.view_is)
+    (subst (IsStageOf c.as_slice.result.now c.args.discharge) (sym c.find_stage.ensures) whole)

@@ -3,22 +3,22 @@ use Rattle.std.specs.Prelude.{◌≡◌, Bool, true, false, List, ◌^◌, ℤ, 
 use Rattle.std.proofs.Common.{arith, refl}
 use Rattle.std.proofs.lemmas.Int.{ints}
 use Rattle.std.proofs.lemmas.List.Elements.{All-filter}
-use Rattle.fixed_units.specs.Rounding.{round}
-use Rattle.fixed_units.proofs.RoundingLemmas.{line-between}
-use Rattle.curves.specs.Neighbours.{first, last, up_to, after}
-use Rattle.curves.specs.Curve.{stage_of, amount_by, curve_value, IsAmount}
+use Rattle.fixed_units.specs.Lines.{line_at}
+use Rattle.fixed_units.proofs.LineLemmas.{line-within}
+use Rattle.rising.specs.Lists.{up_to, after}
+use Rattle.curves.specs.Neighbours.{first, last}
+use Rattle.fixed_units.specs.Quantities.{IsAmount, most_amount}
+use Rattle.curves.specs.Curve.{stage_of, amount_by, curve_value}
 use Rattle.curves.specs.Entries.{instant_of, amount_in_force, series_value, AreAmounts}
 use Rattle.curves.specs.declared.entries.Entry.{Entry}
-use Rattle.curves.proofs.RisingLemmas.{IsUpTo, IsAfter, up_to_is_up_to, after_is_after, last-kept, first-kept}
+use Rattle.rising.proofs.Parting.{IsUpTo, IsAfter, up_to_is_up_to, after_is_after}
+use Rattle.curves.proofs.RisingLemmas.{last-kept, first-kept}
 
 zero-IsAmount : IsAmount (pos 0)
 zero-IsAmount = record { low = omega (arith, ints); high = omega (arith, ints) }
 
-line-IsAmount : (v1 v2 gone run : ℤ) → IsAmount v1 → IsAmount v2 → pos 0 <ℤ run → pos 0 ≤ℤ gone → gone ≤ℤ run
-    → IsAmount (v1 +ℤ round ((v2 -ℤ v1) *ℤ gone) run)
-line-IsAmount v1 v2 gone run p q some from until =
-    let both = line-between v1 v2 (neg_ℤ (pos (10 ^ 9))) (pos (10 ^ 9)) gone run some from until p.low q.low p.high q.high in
-    record { low = both.0; high = both.1 }
+line-IsAmount : (p q : ℤ × ℤ) (x : ℤ) → p.0 <ℤ q.0 → p.0 ≤ℤ x → x ≤ℤ q.0 → IsAmount p.1 → IsAmount q.1 → IsAmount (line_at p q x)
+line-IsAmount p q x h from until first last = line-within p q x (neg_ℤ (pos most_amount)) (pos most_amount) h from until first last
 
 -- what holds of each holds of the last and of the first, if there is one
 if_some : {X : Type 0} (P : X → Type 0) (o : Option X) → ((x : X) → o ≡ Some x → P x) → IfSome o P
@@ -37,7 +37,7 @@ by-IsAmount None None stage h k l m = zero-IsAmount
 by-IsAmount None (Some q) stage h k l m = k
 by-IsAmount (Some p) None stage h k l m = h
 by-IsAmount (Some p) (Some q) stage h k l m =
-    line-IsAmount p.1 q.1 (stage -ℤ p.0) (q.0 -ℤ p.0) h k (omega (arith, ints, l, m)) (omega (arith, ints, l)) (omega (arith, ints, m))
+    line-IsAmount p q stage (omega (arith, ints, l, m)) l (omega (arith, ints, m)) h k
 
 pub curve-IsAmount : (points : List (ℤ × ℤ)) (stage : ℤ) → All (λ p. IsAmount p.1) points → IsAmount (curve_value points stage)
 curve-IsAmount points stage h =
@@ -53,8 +53,8 @@ HasAmounts e = All (λ p. IsAmount p.1) e.curve
 force_step : (e n : Entry) (at stage : ℤ) (b : Bool) → e.prorate ≡ b → HasAmounts e → HasAmounts n → e.at ≤ℤ at → at <ℤ n.at
     → IsAmount (amount_in_force (Some e) (Some n) at stage)
 force_step e n at stage true f h k l m =
-    rw f (line-IsAmount (curve_value e.curve stage) (curve_value n.curve stage) (at -ℤ e.at) (n.at -ℤ e.at)
-    (curve-IsAmount e.curve stage h) (curve-IsAmount n.curve stage k) (omega (arith, ints, l, m)) (omega (arith, ints, l)) (omega (arith, ints, m)))
+    rw f (line-IsAmount (e.at, curve_value e.curve stage) (n.at, curve_value n.curve stage) at
+    (omega (arith, ints, l, m)) l (omega (arith, ints, m)) (curve-IsAmount e.curve stage h) (curve-IsAmount n.curve stage k))
 force_step e n at stage false f h k l m = rw f (curve-IsAmount e.curve stage h)
 
 force-IsAmount : (o n : Option Entry) (at stage : ℤ) → IfSome o HasAmounts → IfSome n HasAmounts

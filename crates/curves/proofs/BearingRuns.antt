@@ -5,12 +5,12 @@ use Rattle.std.proofs.Math.Seq.{take-append-add}
 use Rattle.std.proofs.lemmas.Int.{ints, by_lt_z}
 use Rattle.std.proofs.lemmas.List.{take-append-drop, drop-take, drop-drop, get_or-drop, length-take-le, length-drop, append-nil, drop_all}
 use Rattle.std.proofs.lemmas.List.Elements.{All-drop, All-cons, All-nil, All-weaker}
-use Rattle.curves.specs.Neighbours.{up_to, after}
+use Rattle.rising.specs.Lists.{up_to, after}
 use Rattle.curves.specs.Entries.{IsRising, instant_of, series_value}
 use Rattle.curves.specs.Bearing.{bearing, IsRun}
 use Rattle.curves.specs.declared.entries.Entry.{Entry}
-use Rattle.curves.proofs.Selecting.{AllPairs-head, AllPairs-tail, AllPairs-front, AllPairs-back}
-use Rattle.curves.proofs.RisingLemmas.{IsUpTo, IsAfter, up_to_is_up_to, after_is_after, none_up_to}
+use Rattle.rising.proofs.Selecting.{AllPairs-head, AllPairs-tail, AllPairs-front, AllPairs-back}
+use Rattle.rising.proofs.Parting.{IsUpTo, IsAfter, up_to_is_up_to, after_is_after, none_up_to}
 use Rattle.curves.proofs.BearingLemmas.{IsCut, bearing_cut, early, late_none, last_prorates, suffices_cut}
 
 -- so many entries stand up to an instant

@@ -3,14 +3,16 @@ use Rattle.std.specs.Prelude.{◌≡◌, Bool, true, false, cond, List, [], ◌�
 use Rattle.std.proofs.Common.{arith, refl, ap, sym, ◌∙◌, subst, inl, inr}
 use Rattle.std.proofs.lemmas.Int.{ints, by_lt_z}
 use Rattle.std.proofs.lemmas.List.Elements.{All-head, All-cons, All-nil, All-weaker, filter-append}
-use Rattle.fixed_units.specs.Rounding.{round}
-use Rattle.fixed_units.proofs.RoundingLemmas.{line-start, line-end}
-use Rattle.curves.specs.Neighbours.{Rises, first, last, up_to, after}
-use Rattle.curves.specs.Curve.{stage_of, amount_between, amount_by, curve_value, IsCurveValue}
+use Rattle.fixed_units.specs.Lines.{line_at}
+use Rattle.fixed_units.proofs.LineLemmas.{line-first, line-last}
+use Rattle.rising.specs.Lists.{up_to, after}
+use Rattle.curves.specs.Neighbours.{Rises, first, last}
+use Rattle.curves.specs.Curve.{stage_of, amount_by, curve_value, IsCurveValue}
 use Rattle.curves.specs.Entries.{IsRising, instant_of, amount_in_force, amount_prorated, series_value, IsSeriesValue}
 use Rattle.curves.specs.declared.entries.Entry.{Entry}
-use Rattle.curves.proofs.Selecting.{AllPairs-head, AllPairs-tail, AllPairs-across, AllPairs-back}
-use Rattle.curves.proofs.RisingLemmas.{IsUpTo, IsAfter, le_yes, lt_no, all_up_to, none_up_to, all_after, none_after, last-append}
+use Rattle.rising.proofs.Selecting.{AllPairs-head, AllPairs-tail, AllPairs-across, AllPairs-back}
+use Rattle.rising.proofs.Parting.{IsUpTo, IsAfter, le_yes, lt_no, all_up_to, none_up_to, all_after, none_after}
+use Rattle.curves.proofs.RisingLemmas.{last-append}
 
 -- what stands behind an element of a rising list stands after each number up to it
 rest_after : {X : Type 0} (place : X → ℤ) (n : ℤ) (b : X) (bs : List X) → Rises place (b ∷ bs) → n <ℤ place b → All (IsAfter place n) (b ∷ bs)
@@ -67,14 +69,11 @@ placed place n (x ∷ xs) h =
     placed_step place n x xs h (placed place n xs (AllPairs-tail (λ a b. place a <ℤ place b) x xs h)) (either_way (place x) n)
 
 -- the lines of a curve meet its points
-start_of : (p q : ℤ × ℤ) (stage : ℤ) → p.0 <ℤ q.0 → stage ≡ p.0 → amount_between p q stage ≡ p.1
-start_of p q stage h e =
-    let f : stage -ℤ p.0 ≡ pos 0 = omega (arith, ints, e) in
-    ap (λ (k : ℤ). p.1 +ℤ round ((q.1 -ℤ p.1) *ℤ k) (q.0 -ℤ p.0)) f ∙ line-start p.1 q.1 (q.0 -ℤ p.0) (omega (arith, ints, h))
+start_of : (p q : ℤ × ℤ) (stage : ℤ) → p.0 <ℤ q.0 → stage ≡ p.0 → line_at p q stage ≡ p.1
+start_of p q stage h e = ap (line_at p q) e ∙ line-first p q h
 
-end_of : (p q : ℤ × ℤ) (stage : ℤ) → p.0 <ℤ q.0 → stage ≡ q.0 → amount_between p q stage ≡ q.1
-end_of p q stage h e =
-    ap (λ (s : ℤ). p.1 +ℤ round ((q.1 -ℤ p.1) *ℤ (s -ℤ p.0)) (q.0 -ℤ p.0)) e ∙ line-end p.1 q.1 (q.0 -ℤ p.0) (omega (arith, ints, h))
+end_of : (p q : ℤ × ℤ) (stage : ℤ) → p.0 <ℤ q.0 → stage ≡ q.0 → line_at p q stage ≡ q.1
+end_of p q stage h e = ap (line_at p q) e ∙ line-last p q h
 
 -- the value where a point and those behind it are told
 curve_at : (stage : ℤ) (points ps : List (ℤ × ℤ)) (p : ℤ × ℤ) (qs : List (ℤ × ℤ)) → Rises stage_of points → points ≡ ps ++ p ∷ qs → p.0 ≤ℤ stage
@@ -118,7 +117,7 @@ joined [] p qs = refl
 joined (x ∷ xs) p qs = ap (λ l. x ∷ l) (joined xs p qs)
 
 curve_between : (stage : ℤ) (points ps qs : List (ℤ × ℤ)) (p q : ℤ × ℤ) → Rises stage_of points → points ≡ ps ++ p ∷ q ∷ qs → p.0 ≤ℤ stage
-    → (stage ≡ q.0) ⊎ (stage <ℤ q.0) → curve_value points stage ≡ amount_between p q stage
+    → (stage ≡ q.0) ⊎ (stage <ℤ q.0) → curve_value points stage ≡ line_at p q stage
 curve_between stage points ps qs p q h e k (inl l) =
     let rises : Rises stage_of (p ∷ q ∷ qs) = AllPairs-back (λ a b. a.0 <ℤ b.0) ps (p ∷ q ∷ qs) (subst (λ (x : List (ℤ × ℤ)). Rises stage_of x) e h) in
     let less : p.0 <ℤ q.0 = All-head (λ y. p.0 <ℤ y.0) q qs (AllPairs-head (λ a b. a.0 <ℤ b.0) p (q ∷ qs) rises) in

@@ -2,8 +2,5 @@ pub mod AmountLemmas
 pub mod BearingLemmas
 pub mod BearingRuns
 pub mod CaseLemmas
-pub mod LineLemmas
 pub mod PointLemmas
 pub mod RisingLemmas
-pub mod Selecting
-pub mod SeriesLemmas

@@ -1,11 +1,12 @@
 -- Series: entries of an instant, a curve and a mark, and the amount in force at an instant. That each entry has
 -- its own mark, ends only where the next one stands, and is prorated with a second rounding is this project's choice.
-use Rattle.std.specs.Prelude.{◌≡◌, Bool, true, false, List, [], ◌∷◌, ◌++◌, filter, ℤ, pos, int_lt, int_le, ◌+ℤ◌, ◌-ℤ◌, ◌*ℤ◌, ◌≤ℤ◌, ◌<ℤ◌, if◌then◌else◌, Option, Some, None, All}
-use Rattle.std.specs.List.{list_any}
-use Rattle.std.specs.Ordering.{int_eq}
-use Rattle.fixed_units.specs.Rounding.{round}
-use Rattle.curves.specs.Neighbours.{Rises, first, last, up_to, after}
-use Rattle.curves.specs.Curve.{curve_value, IsAmount}
+use Rattle.std.specs.Prelude.{◌≡◌, Bool, true, false, List, [], ◌∷◌, ◌++◌, filter, ℤ, pos, int_lt, int_le, ◌+ℤ◌, ◌-ℤ◌, ◌*ℤ◌, ◌≤ℤ◌, ◌<ℤ◌, if◌then◌else◌, Option, Some, None, is_some, All}
+use Rattle.rising.specs.Lists as lists
+use Rattle.fixed_units.specs.Lines.{line_at}
+use Rattle.fixed_units.specs.Quantities.{IsAmount}
+use Rattle.rising.specs.Lists.{up_to, after}
+use Rattle.curves.specs.Neighbours.{Rises, first, last}
+use Rattle.curves.specs.Curve.{curve_value}
 use Rattle.curves.specs.declared.entries.Entry.{Entry}
 
 -- what an entry stands at
@@ -18,9 +19,7 @@ IsRising entries = Rises instant_of entries
 
 -- the amount at an instant between two entries: the line between the values of their curves, rounded once more
 abbrev pub amount_prorated : Entry → Entry → ℤ → ℤ → ℤ
-amount_prorated entry next at stage =
-    curve_value entry.curve stage
-    +ℤ round ((curve_value next.curve stage -ℤ curve_value entry.curve stage) *ℤ (at -ℤ entry.at)) (next.at -ℤ entry.at)
+amount_prorated entry next at stage = line_at (entry.at, curve_value entry.curve stage) (next.at, curve_value next.curve stage) at
 
 -- the amount by the entry that governs an instant and the next one: 0 before the first entry, the value of the
 -- curve without proration, and the line between the two with it
@@ -47,22 +46,14 @@ pub record IsSeriesValue (entries : List Entry) (at stage v : ℤ) : Type 0 wher
 abbrev pub AreAmounts : List Entry → Type 0
 AreAmounts entries = All (λ entry. All (λ p. IsAmount p.1) entry.curve) entries
 
--- the entries before an instant
-abbrev pub before : ℤ → List Entry → List Entry
-before at entries = filter (λ entry. int_lt entry.at at) entries
-
--- the entries from an instant on
-abbrev pub from : ℤ → List Entry → List Entry
-from at entries = filter (λ entry. int_le at entry.at) entries
-
 -- whether an entry stands at an instant
 abbrev pub stands_at : ℤ → List Entry → Bool
-stands_at at entries = list_any (λ entry. int_eq entry.at at) entries
+stands_at at entries = is_some (lists.at instant_of at entries)
 
 -- the entries without the one at an instant
 abbrev pub without : ℤ → List Entry → List Entry
-without at entries = before at entries ++ after instant_of at entries
+without at entries = lists.without instant_of at entries
 
 -- the entries with one put among them, in place of the one at its instant
 abbrev pub put : Entry → List Entry → List Entry
-put entry entries = before entry.at entries ++ entry ∷ after instant_of entry.at entries
+put entry entries = lists.put instant_of entry entries

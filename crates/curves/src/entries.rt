@@ -1,13 +1,12 @@
 //! The entries of a series, and the amount that they put in force at an instant.
 
-ghost use Rattle.std.specs.Prelude.{◌≡◌, ◌<◌, ◌≤◌, length, take, drop, ◌≤ℤ◌, ◌<ℤ◌, slice_range};
-ghost use Rattle.curves.specs.Neighbours.{up_to, after};
-ghost use Rattle.curves.specs.Entries.{IsRising, instant_of, amount_prorated, series_value};
+ghost use Rattle.std.specs.Prelude.{◌≡◌, ◌≤◌, length, ◌≤ℤ◌, ◌<ℤ◌, slice_range};
+ghost use Rattle.curves.specs.Entries.{IsRising, amount_prorated, series_value};
 ghost use Rattle.curves.specs.Bearing.{bearing};
 
 use crate::curve::Curve;
-use crate::line::{amount, amount_on_line, elapsed};
-use fixed_units::{Micro, Second};
+use fixed_units::{Micro, Second, line_at};
+use rising::{Keyed, count_to};
 
 /// A curve that governs from an instant until the next entry's.
 #[derive(Clone, Copy, Debug, PartialEq, Eq)]
@@ -20,6 +19,26 @@ pub struct Entry {
     pub prorate: bool,
 }
 
+impl Keyed for Entry {
+    type Key = Second;
+
+    ghost place = { λ e. e.at };
+
+    ghost number = { λ s. s };
+
+    fn key(&self) -> Second {
+        self.at
+    }
+
+    fn is_before(&self, key: Second) -> bool {
+        self.at < key
+    }
+
+    fn is_at(&self, key: Second) -> bool {
+        self.at == key
+    }
+}
+
 /// The amount in force at an instant for a stage, by entries whose instants strictly rise: 0 before the first one;
 /// after that the value of the curve of the last one up to the instant, or where it prorates and another one follows
 /// the line between the values of the two curves, rounded once more.
@@ -29,7 +48,7 @@ pub fn value_of(entries: &[Entry], at: Second, stage: Micro) -> Micro
 {
     let (past, future) = entries.split_at(count_to(entries, at));
     let Some(entry) = past.last() else {
-        return amount(0);
+        return Micro::new(0).unwrap();
     };
     match future.first() {
         Some(next) if entry.prorate => amount_prorated(entry, next, at, stage),
@@ -43,22 +62,11 @@ fn amount_prorated(entry: &Entry, next: &Entry, at: Second, stage: Micro) -> Mic
     requires until { at <ℤ next.now.at }
     ensures { result ≡ amount_prorated entry.now next.now at stage }
 {
-    amount_on_line(
-        entry.curve.value(stage),
-        next.curve.value(stage),
-        elapsed(entry.at, at),
-        elapsed(entry.at, next.at),
+    line_at(
+        (entry.at.get(), entry.curve.value(stage)),
+        (next.at.get(), next.curve.value(stage)),
+        at.get(),
     )
-}
-
-/// How many entries stand up to an instant.
-pub(crate) fn count_to(entries: &[Entry], at: Second) -> usize
-    requires { IsRising entries.now }
-    ensures within { result ≤ length entries.now }
-    ensures front { take result entries.now ≡ up_to instant_of at entries.now }
-    ensures back { drop result entries.now ≡ after instant_of at entries.now }
-{
-    entries.partition_point(|entry| entry.at <= at)
 }
 
 /// The first place of the entries that bear on a span, and the place after the last one.

@@ -9,9 +9,9 @@ use Rattle.std.proofs.lemmas.List.Elements.{All-head, All-tail, All-cons, All-ni
 use Rattle.std.proofs.lemmas.List.Sums.{sum_by-cons}
 use Rattle.daily_values.specs.declared.sums.Sum.{Sum}
 use borrow.Author.Differences.{up, down}
-use Rattle.fixed_units.specs.Quantities.{IsStage}
+use Rattle.fixed_units.specs.Quantities.{IsStage, most_stage}
 use Rattle.fixed_units.specs.declared.readings.Reading.{Reading}
-use Rattle.fixed_units.proofs.RoundingLemmas.{line-between}
+use Rattle.fixed_units.proofs.LineLemmas.{line-within}
 use Rattle.readings.specs.Readings.{IsRising}
 use Rattle.daily_values.specs.declared.day_inputs.DayParts.{DayParts}
 use Rattle.daily_values.specs.DayInputs.{AreParts}
@@ -22,31 +22,9 @@ abs-le : (z : ℤ) (m : ℕ) → neg_ℤ (pos m) ≤ℤ z → z ≤ℤ pos m →
 abs-le (pos n) m low high = omega (arith, ints)
 abs-le (negsuc n) m low high = omega (arith, ints)
 
-within : (z : ℤ) (m : ℕ) → unsigned_abs z ≤ m → (neg_ℤ (pos m) ≤ℤ z) × (z ≤ℤ pos m)
-within (pos n) m h = (omega (arith, ints), omega (arith, ints))
-within (negsuc n) m h = (omega (arith, ints), omega (arith, ints))
-
--- a rise between stages, times a part of the distance between two instants
-rise-abs : (a b : ℤ) → IsStage a → IsStage b → unsigned_abs (b -ℤ a) ≤ 2 * 10 ^ 11
-rise-abs a b low high = abs-le (b -ℤ a) (2 * 10 ^ 11) (omega (arith, ints)) (omega (arith, ints))
-
-rise-part-abs : (a b k : ℤ) → IsStage a → IsStage b → neg_ℤ (pos (2 * 10 ^ 10)) ≤ℤ k → k ≤ℤ pos (2 * 10 ^ 10) → unsigned_abs ((b -ℤ a) *ℤ k) ≤ 4 * 10 ^ 21
-rise-part-abs a b k p q low high =
-    let one : unsigned_abs (b -ℤ a) * unsigned_abs k ≤ 2 * 10 ^ 11 * unsigned_abs k = mul-le-mul_right (unsigned_abs k) (rise-abs a b p q) in
-    let other : 2 * 10 ^ 11 * unsigned_abs k ≤ 2 * 10 ^ 11 * (2 * 10 ^ 10) = mul-le-mul_left (2 * 10 ^ 11) (abs-le k (2 * 10 ^ 10) low high) in
-    omega (arith, unsigned_abs-mul (b -ℤ a) k)
-
-pub rise-part-fits : (a b k : ℤ) → IsStage a → IsStage b → neg_ℤ (pos (2 * 10 ^ 10)) ≤ℤ k → k ≤ℤ pos (2 * 10 ^ 10) → FitsSigned w128 ((b -ℤ a) *ℤ k)
-rise-part-fits a b k p q low high = fits_signed_from_abs w128 ((b -ℤ a) *ℤ k) (omega (arith, rise-part-abs a b k p q low high))
-
-pub rise-part-within : (a b k : ℤ) → IsStage a → IsStage b → neg_ℤ (pos (2 * 10 ^ 10)) ≤ℤ k → k ≤ℤ pos (2 * 10 ^ 10) → (neg_ℤ (pos (10 ^ 37)) ≤ℤ ((b -ℤ a) *ℤ k)) × (((b -ℤ a) *ℤ k) ≤ℤ pos (10 ^ 37))
-rise-part-within a b k p q low high = within ((b -ℤ a) *ℤ k) (10 ^ 37) (omega (arith, rise-part-abs a b k p q low high))
-
 -- the line between two stages is a stage
 pub stage_between-IsStage : (r s : Reading) (at : ℤ) → r.at <ℤ s.at → IsStage r.raw → IsStage s.raw → r.at ≤ℤ at → at ≤ℤ s.at → IsStage (stage_between r s at)
-stage_between-IsStage r s at h p q from until =
-    let both = line-between r.raw s.raw (neg_ℤ (pos (10 ^ 11))) (pos (10 ^ 11)) (at -ℤ r.at) (s.at -ℤ r.at) (omega (arith, ints)) (omega (arith, ints)) (omega (arith, ints)) p.low q.low p.high q.high in
-    record { low = both.0; high = both.1 }
+stage_between-IsStage r s at h p q from until = line-within (r.at, r.raw) (s.at, s.raw) at (neg_ℤ (pos most_stage)) (pos most_stage) h from until p q
 
 -- a bound times seconds
 scaled-low : (z : ℤ) (m n : ℕ) → neg_ℤ (pos m) ≤ℤ z → neg_ℤ (pos (m * n)) ≤ℤ (z *ℤ pos n)
@@ -60,15 +38,15 @@ scaled-high z m n h =
     omega (arith, ints, more)
 
 -- a sum of two stages times seconds
-pub sum-low : (x y : ℤ) (n : ℕ) → IsStage x → IsStage y → neg_ℤ (pos (2 * 10 ^ 11 * n)) ≤ℤ ((x +ℤ y) *ℤ pos n)
-sum-low x y n p q = scaled-low (x +ℤ y) (2 * 10 ^ 11) n (omega (arith, ints))
+pub sum-low : (x y : ℤ) (n : ℕ) → IsStage x → IsStage y → neg_ℤ (pos (2 * most_stage * n)) ≤ℤ ((x +ℤ y) *ℤ pos n)
+sum-low x y n p q = scaled-low (x +ℤ y) (2 * most_stage) n (omega (arith, ints))
 
-pub sum-high : (x y : ℤ) (n : ℕ) → IsStage x → IsStage y → ((x +ℤ y) *ℤ pos n) ≤ℤ pos (2 * 10 ^ 11 * n)
-sum-high x y n p q = scaled-high (x +ℤ y) (2 * 10 ^ 11) n (omega (arith, ints))
+pub sum-high : (x y : ℤ) (n : ℕ) → IsStage x → IsStage y → ((x +ℤ y) *ℤ pos n) ≤ℤ pos (2 * most_stage * n)
+sum-high x y n p q = scaled-high (x +ℤ y) (2 * most_stage) n (omega (arith, ints))
 
 pub area-fits : (x y : ℤ) (n : ℕ) → IsStage x → IsStage y → n < 2 ^ 32 → FitsSigned w128 ((x +ℤ y) *ℤ pos n)
 area-fits x y n p q h =
-    fits_signed_mul w128 (x +ℤ y) (pos n) (2 * 10 ^ 11) (2 ^ 32) (abs-le (x +ℤ y) (2 * 10 ^ 11) (omega (arith, ints)) (omega (arith, ints))) (omega arith) (omega arith)
+    fits_signed_mul w128 (x +ℤ y) (pos n) (2 * most_stage) (2 ^ 32) (abs-le (x +ℤ y) (2 * most_stage) (omega (arith, ints)) (omega (arith, ints))) (omega arith) (omega arith)
 
 -- no seconds, no area
 pub area-none : (day : DayParts) (r s : Reading) (n : ℕ) → n ≡ seconds_between day (r, s) → n ≡ 0 → pos 0 ≡ twice_area day (r, s)

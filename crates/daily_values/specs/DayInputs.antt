@@ -19,12 +19,23 @@ abbrev pub day_inputs : ℕ → List ℕ → ℤ → ℤ → List Reading → Da
 day_inputs gap stage_array from until readings =
     with_window gap stage_array from until (window from until (pos (60 * gap)) readings)
 
+-- a day has 20 to 28 hours, in seconds
+abbrev pub shortest_day : ℕ
+shortest_day = 72_000
+
+abbrev pub longest_day : ℕ
+longest_day = 100_800
+
+-- the greatest gap tolerance, in minutes
+abbrev pub most_gap : ℕ
+most_gap = 720
+
 -- what the inputs of a day keep to: a gap tolerance of 1 to 720 minutes, a day of 20 to 28 hours, rising readings of stages
 pub record AreParts (parts : DayParts) : Type 0 where
   pub gap_low : 1 ≤ parts.gap
-  pub gap_high : parts.gap ≤ 720
-  pub shortest : pos 72_000 ≤ℤ (parts.until -ℤ parts.from)
-  pub longest : (parts.until -ℤ parts.from) ≤ℤ pos 100_800
+  pub gap_high : parts.gap ≤ most_gap
+  pub shortest : pos shortest_day ≤ℤ (parts.until -ℤ parts.from)
+  pub longest : (parts.until -ℤ parts.from) ≤ℤ pos longest_day
   pub rising : IsRising parts.window
   pub stages : All (λ r. IsStage r.raw) parts.window
 

@@ -2,7 +2,7 @@
 -- (after the mean of unit values in Water-Supply Paper 2175; trapezoids and cuts are this project's choice).
 use Rattle.std.specs.Prelude.{ℕ, ◌*◌, if◌then◌else◌, List, [], ◌∷◌, sum_by, ℤ, pos, negsuc, ◌+ℤ◌, ◌-ℤ◌, ◌*ℤ◌, int_le}
 use Rattle.std.specs.Int.{int_max, int_min}
-use Rattle.fixed_units.specs.Rounding.{round}
+use Rattle.fixed_units.specs.Lines.{line_at}
 use Rattle.fixed_units.specs.declared.readings.Reading.{Reading}
 use Rattle.daily_values.specs.declared.day_inputs.DayInputs.{DayInputs}
 use Rattle.daily_values.specs.declared.day_inputs.DayInputs.TheVariants as inputs
@@ -19,7 +19,7 @@ neighbours (r ∷ s ∷ rs) = (r, s) ∷ neighbours (s ∷ rs)
 
 -- the stage at an instant on the line between two readings, rounded once
 abbrev pub stage_between : Reading → Reading → ℤ → ℤ
-stage_between r s at = r.raw +ℤ round ((s.raw -ℤ r.raw) *ℤ (at -ℤ r.at)) (s.at -ℤ r.at)
+stage_between r s at = line_at (r.at, r.raw) (s.at, s.raw) at
 
 -- the first and the last instant of the day between two readings
 abbrev pub left_end : DayParts → Reading × Reading → ℤ

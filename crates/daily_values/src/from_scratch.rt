@@ -2,12 +2,12 @@
 //! to compare what is kept with.
 
 ghost use Rattle.std.specs.Prelude.{◌≡◌, ◌+◌, ◌*◌, ◌^◌, ◌≤◌, ◌++◌, ◌&&◌, pos, neg_ℤ, ◌-ℤ◌, ◌≤ℤ◌, int_lt, int_le, All, find, reverse, option_to_list, IfOk, OnOk};
-ghost use Rattle.fixed_units.specs.Quantities.{IsStage};
+ghost use Rattle.fixed_units.specs.Quantities.{IsStage, most_stage};
 ghost use Rattle.readings.specs.Readings as readings_of;
 ghost use Rattle.readings.specs.Readings.{IsRising};
 ghost use Rattle.readings.specs.Window as windows;
 ghost use Rattle.daily_values.specs.DayInputs as inputs;
-ghost use Rattle.daily_values.specs.DayInputs.{AreParts};
+ghost use Rattle.daily_values.specs.DayInputs.{AreParts, shortest_day, longest_day, most_gap};
 ghost use Rattle.daily_values.specs.DayValue as values;
 ghost use Rattle.daily_values.specs.DayValue.{stage_sum};
 
@@ -28,9 +28,9 @@ pub fn day_value(
     readings: &[Reading],
 ) -> Result<DayValue, NoMemory>
     requires gap_low { 1 ≤ gap }
-    requires gap_high { gap ≤ 720 }
-    requires shortest { pos 72_000 ≤ℤ (until -ℤ from) }
-    requires longest { (until -ℤ from) ≤ℤ pos 100_800 }
+    requires gap_high { gap ≤ most_gap }
+    requires shortest { pos shortest_day ≤ℤ (until -ℤ from) }
+    requires longest { (until -ℤ from) ≤ℤ pos longest_day }
     requires rising { IsRising readings.now }
     requires stages { All (λ r. IsStage r.raw) readings.now }
     ensures { IfOk result (λ v. v ≡ values.day_value (inputs.day_inputs gap stage_array from until readings.now)) }
@@ -184,8 +184,8 @@ fn add_areas(parts: &DayParts, pairs: &[(Reading, Reading)]) -> Sum
     requires pairs { pairs.now ≡ values.neighbours parts.now.window }
     ensures sum { result ≡ stage_sum parts.now }
     ensures covered { result.covered ≤ values.day_length parts.now }
-    ensures low { neg_ℤ (pos (2 * 10 ^ 11 * result.covered)) ≤ℤ result.twice }
-    ensures high { result.twice ≤ℤ pos (2 * 10 ^ 11 * result.covered) }
+    ensures low { neg_ℤ (pos (2 * most_stage * result.covered)) ≤ℤ result.twice }
+    ensures high { result.twice ≤ℤ pos (2 * most_stage * result.covered) }
 {
     let mut sum = Sum {
         twice: 0,

@@ -2,14 +2,13 @@
 
 ghost use Rattle.std.specs.Prelude.{◌≡◌, ◌+◌, ◌*◌, ◌^◌, ◌≤◌, pos, neg_ℤ, ◌-ℤ◌, ◌*ℤ◌, ◌≤ℤ◌, ◌<ℤ◌};
 ghost use Rattle.std.specs.Int.{int_max, int_min};
-ghost use Rattle.fixed_units.specs.Quantities.{IsStage};
-ghost use Rattle.fixed_units.specs.Rounding.{round};
-ghost use Rattle.daily_values.specs.DayInputs.{AreParts};
+ghost use Rattle.fixed_units.specs.Quantities.{IsStage, most_stage};
+ghost use Rattle.daily_values.specs.DayInputs.{AreParts, longest_day};
 ghost use Rattle.daily_values.specs.DayValue as values;
 ghost use Rattle.daily_values.specs.DayValue.{stage_sum, stage_between};
 
 use crate::day_inputs::DayParts;
-use fixed_units::{Reading, Second, div_half_away};
+use fixed_units::{Reading, Second, line_at};
 
 /// Twice an area in millionths of a foot times seconds, and the seconds that it covers. Half the one over the other is
 /// a mean.
@@ -26,8 +25,8 @@ pub(crate) fn sum_stages(parts: &DayParts) -> Sum
     requires { AreParts parts.now }
     ensures sum { result ≡ stage_sum parts.now }
     ensures covered { result.covered ≤ values.day_length parts.now }
-    ensures low { neg_ℤ (pos (2 * 10 ^ 11 * result.covered)) ≤ℤ result.twice }
-    ensures high { result.twice ≤ℤ pos (2 * 10 ^ 11 * result.covered) }
+    ensures low { neg_ℤ (pos (2 * most_stage * result.covered)) ≤ℤ result.twice }
+    ensures high { result.twice ≤ℤ pos (2 * most_stage * result.covered) }
 {
     let mut sum = Sum {
         twice: 0,
@@ -87,7 +86,7 @@ pub(crate) fn seconds_between(parts: &DayParts, left: &Reading, right: &Reading)
 
 /// The number, or 0 where it is below 0.
 fn positive_part(number: i64) -> u32
-    requires { number ≤ℤ pos 100_800 }
+    requires { number ≤ℤ pos longest_day }
     ensures { result ≡ values.positive_part number }
 {
     number.max(0) as u32
@@ -101,8 +100,8 @@ pub(crate) fn twice_area(parts: &DayParts, left: &Reading, right: &Reading, seco
     requires right { IsStage right.now.raw }
     requires seconds { seconds ≡ values.seconds_between parts.now (left.now, right.now) }
     ensures area { result ≡ values.twice_area parts.now (left.now, right.now) }
-    ensures low { neg_ℤ (pos (2 * 10 ^ 11 * seconds)) ≤ℤ result }
-    ensures high { result ≤ℤ pos (2 * 10 ^ 11 * seconds) }
+    ensures low { neg_ℤ (pos (2 * most_stage * seconds)) ≤ℤ result }
+    ensures high { result ≤ℤ pos (2 * most_stage * seconds) }
 {
     if seconds == 0 {
         return 0;
@@ -110,29 +109,6 @@ pub(crate) fn twice_area(parts: &DayParts, left: &Reading, right: &Reading, seco
     let first = stage_at(left, right, left_end(parts, left));
     let last = stage_at(left, right, right_end(parts, right));
     (first + last) * i128::from(seconds)
-}
-
-/// How far the stage rises from one reading to another, in millionths of a foot.
-fn rise(left: &Reading, right: &Reading) -> i128
-    requires left { IsStage left.now.raw }
-    requires right { IsStage right.now.raw }
-    ensures value { result ≡ right.now.raw -ℤ left.now.raw }
-    ensures low { neg_ℤ (pos (2 * 10 ^ 11)) ≤ℤ result }
-    ensures high { result ≤ℤ pos (2 * 10 ^ 11) }
-{
-    i128::from(right.raw.get()) - i128::from(left.raw.get())
-}
-
-/// How far the stage has risen at an instant on the line between two readings, rounded.
-fn rise_at(left: &Reading, right: &Reading, at: Second) -> i128
-    requires rising { left.now.at <ℤ right.now.at }
-    requires left { IsStage left.now.raw }
-    requires right { IsStage right.now.raw }
-    ensures { result ≡ round ((right.now.raw -ℤ left.now.raw) *ℤ (at -ℤ left.now.at)) (right.now.at -ℤ left.now.at) }
-{
-    let gone = i128::from(elapsed(left.at, at));
-    let run = i128::from(elapsed(left.at, right.at));
-    div_half_away(rise(left, right) * gone, run)
 }
 
 /// The stage at an instant on the line between two readings.
@@ -145,5 +121,6 @@ fn stage_at(left: &Reading, right: &Reading, at: Second) -> i128
     ensures value { result ≡ stage_between left.now right.now at }
     ensures stage { IsStage result }
 {
-    i128::from(left.raw.get()) + rise_at(left, right, at)
+    let (from, to) = ((left.at.get(), left.raw), (right.at.get(), right.raw));
+    i128::from(line_at(from, to, at.get()).get())
 }

@@ -1,13 +1,15 @@
 -- Whether a reading that is put alters a window, by what its neighbours in the list say.
-use Rattle.std.specs.Prelude.{◌≡◌, ◌≢◌, true, false, List, ℤ, ◌<ℤ◌, ◌≤ℤ◌, ◌-ℤ◌, int_le, find, reverse, Option, Contains, All}
-use Rattle.std.proofs.Common.{ap, sym, ◌∙◌, subst}
+use Rattle.std.specs.Prelude.{◌≡◌, ◌≢◌, true, false, List, ℤ, ◌<ℤ◌, ◌≤ℤ◌, ◌-ℤ◌, int_le, find, reverse, Option, Some, All}
+use Rattle.std.proofs.Common.{ap, sym, ◌∙◌}
 use Rattle.fixed_units.specs.declared.readings.Reading.{Reading}
-use Rattle.readings.specs.Readings.{IsRising, before_instant, after_instant, at_instant, put, is_used}
+use Rattle.readings.specs.Readings.{IsRising, instant_of, before_instant, after_instant, at_instant, put, is_used}
 use Rattle.readings.specs.Window.{window, is_found_in_day}
-use Rattle.readings.proofs.Instants.{yes_le, no_le}
+use Rattle.rising.proofs.Parting.{yes_le}
+use Rattle.rising.proofs.Splitting.{put_same}
+use Rattle.readings.proofs.Instants.{no_le}
 use Rattle.readings.proofs.FarReadings.{early_far_put, late_far_put}
 use Rattle.readings.proofs.HiddenReadings.{early_hidden_put, late_hidden_put}
-use Rattle.readings.proofs.ShownReadings.{early_changed, late_changed, none_same, put_same}
+use Rattle.readings.proofs.ShownReadings.{early_changed, late_changed}
 
 -- what is the same about each return: the list, its parts, and the parts' used readings
 pub record IsEarly (a b gap : ℤ) (r : Reading) (rs : List Reading) (found : Option Reading) : Type 0 where
@@ -52,11 +54,7 @@ pub late_too_far : (a b gap : ℤ) (r : Reading) (rs : List Reading) (found : Op
     → int_le (r.at -ℤ b) gap ≡ false → window a b gap (put r rs) ≡ window a b gap rs
 late_too_far a b gap r rs found h n = late_far_put a b gap r rs h.rising h.ordered h.late (no_le (r.at -ℤ b) gap n)
 
--- a list of which the readings at an instant are these
-pub there_leaves : (a b gap : ℤ) (r : Reading) (rs here : List Reading) → IsRising rs → here ≡ at_instant r.at rs → Contains here r
+-- what is there already leaves the window
+pub there_leaves : (a b gap : ℤ) (r : Reading) (rs : List Reading) → IsRising rs → at_instant r.at rs ≡ Some r
     → window a b gap (put r rs) ≡ window a b gap rs
-there_leaves a b gap r rs here h e k = ap (window a b gap) (put_same r rs h (subst (λ (l : List Reading). Contains l r) e k))
-
-pub not_there : (r : Reading) (rs here : List Reading) → IsRising rs → here ≡ at_instant r.at rs → All (λ s. s ≢ r) here
-    → All (λ s. s ≢ r) rs
-not_there r rs here h e k = none_same r rs h (subst (λ (l : List Reading). All (λ s. s ≢ r) l) e k)
+there_leaves a b gap r rs h e = ap (window a b gap) (put_same instant_of r rs h e)

@@ -1,25 +1,29 @@
 -- Readings that are too far from a day to be its neighbours have no part in its window.
-use Rattle.std.specs.Prelude.{◌≡◌, List, [], ◌∷◌, ◌++◌, ℤ, ◌<ℤ◌, ◌≤ℤ◌, ◌-ℤ◌, find, reverse, None, All}
+use Rattle.std.specs.Prelude.{◌≡◌, List, [], ◌∷◌, ◌++◌, ℤ, ◌<ℤ◌, ◌≤ℤ◌, ◌-ℤ◌, find, reverse, None, option_to_list, All}
 use Rattle.std.specs.Option.{option_or}
 use Rattle.std.proofs.Common.{arith, refl, ap, sym, ◌∙◌}
 use Rattle.std.proofs.lemmas.Int.{ints}
 use Rattle.std.proofs.lemmas.List.{append-nil}
 use Rattle.std.proofs.lemmas.List.Elements.{All-cons, All-nil, All-weaker}
 use Rattle.fixed_units.specs.declared.readings.Reading.{Reading}
-use Rattle.readings.specs.Readings.{IsRising, put}
+use Rattle.readings.specs.Readings.{IsRising, instant_of, before_instant, after_instant, from_instant, at_instant, put, is_used}
+use Rattle.rising.proofs.Parting.{IsAfter, lt_yes, lt_no, le_yes, le_no, yes_lt, yes_le, after_is_after}
+use Rattle.rising.proofs.Placing.{IsBefore, IsFrom, before_is_before}
+use Rattle.rising.proofs.Splitting.{IsAt, IsAbout, whole, about, rest_rises, rest_is_later}
+use Rattle.rising.proofs.Selecting.{filter_none, filter_both, All-front, All-back, AllPairs-append}
+use Rattle.readings.proofs.Instants.{no_lt, no_le}
+use Rattle.readings.proofs.Selecting.{find_both, find_none, none_found, reverse-cons, reverse-filter, All-reverse, find_kept, find_passes, none_kept}
 use Rattle.readings.specs.Window.{inner, lead, follow, neighbour_before, neighbour_after, window}
-use Rattle.readings.proofs.Selecting.{All-reverse, find_kept}
-use Rattle.readings.proofs.RisingLemmas.{IsBefore, IsAt, IsAfter, IsFrom, IsAbout, IsSplit, split, put_split}
 use Rattle.readings.proofs.WindowParts.{is_early, is_late, none_inner_before, none_inner_from, none_early, none_late, inner_parts, early_parts, late_parts, far_lead, far_follow, first_leads, first_follows}
 
 -- too early to be near: the readings up to an instant have no part in the window
-pub early_far : (a b gap at : ℤ) (xs ms ys : List Reading) → IsAbout at xs ms ys → at <ℤ a → a ≤ℤ b → gap <ℤ (a -ℤ at)
+pub early_far : (a b gap at : ℤ) (xs ms ys : List Reading) → IsAbout instant_of at xs ms ys → at <ℤ a → a ≤ℤ b → gap <ℤ (a -ℤ at)
     → window a b gap (xs ++ (ms ++ ys)) ≡ window a b gap ys
 early_far a b gap at xs ms ys h e o far =
-    let front : All (IsBefore a) xs = All-weaker (IsBefore at) (IsBefore a) (λ r k. omega (arith, ints)) xs h.below in
-    let middle : All (IsBefore a) ms = All-weaker (IsAt at) (IsBefore a) (λ r k. omega (arith, ints)) ms h.here in
-    let front_far : All (λ r. gap <ℤ (a -ℤ r.at)) xs = All-weaker (IsBefore at) (λ r. gap <ℤ (a -ℤ r.at)) (λ r k. omega (arith, ints)) xs h.below in
-    let middle_far : All (λ r. gap <ℤ (a -ℤ r.at)) ms = All-weaker (IsAt at) (λ r. gap <ℤ (a -ℤ r.at)) (λ r k. omega (arith, ints)) ms h.here in
+    let front : All (IsBefore instant_of a) xs = All-weaker (IsBefore instant_of at) (IsBefore instant_of a) (λ r k. omega (arith, ints)) xs h.below in
+    let middle : All (IsBefore instant_of a) ms = All-weaker (IsAt instant_of at) (IsBefore instant_of a) (λ r k. omega (arith, ints)) ms h.here in
+    let front_far : All (λ r. gap <ℤ (a -ℤ r.at)) xs = All-weaker (IsBefore instant_of at) (λ r. gap <ℤ (a -ℤ r.at)) (λ r k. omega (arith, ints)) xs h.below in
+    let middle_far : All (λ r. gap <ℤ (a -ℤ r.at)) ms = All-weaker (IsAt instant_of at) (λ r. gap <ℤ (a -ℤ r.at)) (λ r k. omega (arith, ints)) ms h.here in
     let F = find (is_early a) (reverse ys) in
     let M = find (is_early a) (reverse ms) in
     let X = find (is_early a) (reverse xs) in
@@ -32,20 +36,20 @@ early_far a b gap at xs ms ys h e o far =
     let within : inner a b (xs ++ (ms ++ ys)) ≡ inner a b ys =
     let i = none_inner_before a b xs front in let j = none_inner_before a b ms middle in inner_parts a b xs ms ys ∙ rw (i, j) refl in
     let late : find (is_late b) (xs ++ (ms ++ ys)) ≡ find (is_late b) ys =
-    let i = none_late b xs (All-weaker (IsBefore a) (IsBefore b) (λ r k. omega (arith, ints)) xs front) in
-    let j = none_late b ms (All-weaker (IsBefore a) (IsBefore b) (λ r k. omega (arith, ints)) ms middle) in
+    let i = none_late b xs (All-weaker (IsBefore instant_of a) (IsBefore instant_of b) (λ r k. omega (arith, ints)) xs front) in
+    let j = none_late b ms (All-weaker (IsBefore instant_of a) (IsBefore instant_of b) (λ r k. omega (arith, ints)) ms middle) in
     late_parts b xs ms ys ∙ rw (i, j) refl in
     let after : neighbour_after b gap (xs ++ (ms ++ ys)) ≡ neighbour_after b gap ys = ap (follow b gap) late in
     rw (before, within, after) refl
 
 -- too late to be near: neither have those from an instant on
-pub late_far : (a b gap at : ℤ) (xs ms ys : List Reading) → IsAbout at xs ms ys → b ≤ℤ at → a ≤ℤ b → gap <ℤ (at -ℤ b)
+pub late_far : (a b gap at : ℤ) (xs ms ys : List Reading) → IsAbout instant_of at xs ms ys → b ≤ℤ at → a ≤ℤ b → gap <ℤ (at -ℤ b)
     → window a b gap (xs ++ (ms ++ ys)) ≡ window a b gap xs
 late_far a b gap at xs ms ys h e o far =
-    let back : All (IsFrom b) ys = All-weaker (IsAfter at) (IsFrom b) (λ r k. omega (arith, ints)) ys h.above in
-    let middle : All (IsFrom b) ms = All-weaker (IsAt at) (IsFrom b) (λ r k. omega (arith, ints)) ms h.here in
-    let back_far : All (λ r. gap <ℤ (r.at -ℤ b)) ys = All-weaker (IsAfter at) (λ r. gap <ℤ (r.at -ℤ b)) (λ r k. omega (arith, ints)) ys h.above in
-    let middle_far : All (λ r. gap <ℤ (r.at -ℤ b)) ms = All-weaker (IsAt at) (λ r. gap <ℤ (r.at -ℤ b)) (λ r k. omega (arith, ints)) ms h.here in
+    let back : All (IsFrom instant_of b) ys = All-weaker (IsAfter instant_of at) (IsFrom instant_of b) (λ r k. omega (arith, ints)) ys h.above in
+    let middle : All (IsFrom instant_of b) ms = All-weaker (IsAt instant_of at) (IsFrom instant_of b) (λ r k. omega (arith, ints)) ms h.here in
+    let back_far : All (λ r. gap <ℤ (r.at -ℤ b)) ys = All-weaker (IsAfter instant_of at) (λ r. gap <ℤ (r.at -ℤ b)) (λ r k. omega (arith, ints)) ys h.above in
+    let middle_far : All (λ r. gap <ℤ (r.at -ℤ b)) ms = All-weaker (IsAt instant_of at) (λ r. gap <ℤ (r.at -ℤ b)) (λ r k. omega (arith, ints)) ms h.here in
     let X = find (is_late b) xs in
     let M = find (is_late b) ms in
     let F = find (is_late b) ys in
@@ -60,32 +64,38 @@ late_far a b gap at xs ms ys h e o far =
     let i = none_inner_from a b ys back in let j = none_inner_from a b ms middle in let k = append-nil (inner a b xs) in
     inner_parts a b xs ms ys ∙ rw (i, j) k in
     let early : find (is_early a) (reverse (xs ++ (ms ++ ys))) ≡ find (is_early a) (reverse xs) =
-    let i = none_early a ys (All-weaker (IsFrom b) (IsFrom a) (λ r k. omega (arith, ints)) ys back) in
-    let j = none_early a ms (All-weaker (IsFrom b) (IsFrom a) (λ r k. omega (arith, ints)) ms middle) in
+    let i = none_early a ys (All-weaker (IsFrom instant_of b) (IsFrom instant_of a) (λ r k. omega (arith, ints)) ys back) in
+    let j = none_early a ms (All-weaker (IsFrom instant_of b) (IsFrom instant_of a) (λ r k. omega (arith, ints)) ms middle) in
     early_parts a xs ms ys ∙ rw (i, j) refl in
     let before : neighbour_before a gap (xs ++ (ms ++ ys)) ≡ neighbour_before a gap xs = ap (lead a gap) early in
     rw (before, within, after) refl
 
 -- a reading put too far away leaves the window
-pub about_one : (r : Reading) (rs : List Reading) (s : IsSplit r.at rs) → IsAbout r.at s.xs (r ∷ []) s.ys
-about_one r rs s = record { below = s.about.below; here = All-cons (IsAt r.at) r [] refl (All-nil (IsAt r.at)); above = s.about.above }
+pub about_one : (r : Reading) (rs : List Reading) → IsAbout instant_of r.at (before_instant r.at rs) (r ∷ []) (after_instant r.at rs)
+about_one r rs = record {
+  below = before_is_before instant_of r.at rs;
+  here = All-cons (IsAt instant_of r.at) r [] refl (All-nil (IsAt instant_of r.at));
+  above = after_is_after instant_of r.at rs;
+}
 
 pub early_far_put : (a b gap : ℤ) (r : Reading) (rs : List Reading) → IsRising rs → a ≤ℤ b → r.at <ℤ a → gap <ℤ (a -ℤ r.at)
     → window a b gap (put r rs) ≡ window a b gap rs
 early_far_put a b gap r rs h o e far =
-    let s = split r.at rs h in
-    let i : window a b gap (put r rs) ≡ window a b gap s.ys =
-    ap (window a b gap) (put_split r rs s) ∙ early_far a b gap r.at s.xs (r ∷ []) s.ys (about_one r rs s) e o far in
-    let j : window a b gap rs ≡ window a b gap s.ys =
-    ap (window a b gap) s.whole ∙ early_far a b gap r.at s.xs s.ms s.ys s.about e o far in
+    let xs = before_instant r.at rs in
+    let ys = after_instant r.at rs in
+    let i : window a b gap (put r rs) ≡ window a b gap ys = early_far a b gap r.at xs (r ∷ []) ys (about_one r rs) e o far in
+    let j : window a b gap rs ≡ window a b gap ys =
+    ap (window a b gap) (whole instant_of r.at rs h)
+    ∙ early_far a b gap r.at xs (option_to_list (at_instant r.at rs)) ys (about instant_of r.at rs) e o far in
     i ∙ sym j
 
 pub late_far_put : (a b gap : ℤ) (r : Reading) (rs : List Reading) → IsRising rs → a ≤ℤ b → b ≤ℤ r.at → gap <ℤ (r.at -ℤ b)
     → window a b gap (put r rs) ≡ window a b gap rs
 late_far_put a b gap r rs h o e far =
-    let s = split r.at rs h in
-    let i : window a b gap (put r rs) ≡ window a b gap s.xs =
-    ap (window a b gap) (put_split r rs s) ∙ late_far a b gap r.at s.xs (r ∷ []) s.ys (about_one r rs s) e o far in
-    let j : window a b gap rs ≡ window a b gap s.xs =
-    ap (window a b gap) s.whole ∙ late_far a b gap r.at s.xs s.ms s.ys s.about e o far in
+    let xs = before_instant r.at rs in
+    let ys = after_instant r.at rs in
+    let i : window a b gap (put r rs) ≡ window a b gap xs = late_far a b gap r.at xs (r ∷ []) ys (about_one r rs) e o far in
+    let j : window a b gap rs ≡ window a b gap xs =
+    ap (window a b gap) (whole instant_of r.at rs h)
+    ∙ late_far a b gap r.at xs (option_to_list (at_instant r.at rs)) ys (about instant_of r.at rs) e o far in
     i ∙ sym j

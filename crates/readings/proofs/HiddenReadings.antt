@@ -1,5 +1,5 @@
 -- Readings that nearer ones hide, or beside a day without a used reading, have no part in its window.
-use Rattle.std.specs.Prelude.{◌≡◌, Bool, true, false, List, [], ◌∷◌, ◌++◌, ℤ, ◌<ℤ◌, ◌≤ℤ◌, int_lt, find, reverse, Option, Some, None, MatchOption, All, ◌≢◌, cond}
+use Rattle.std.specs.Prelude.{◌≡◌, Bool, true, false, List, [], ◌∷◌, ◌++◌, ℤ, ◌<ℤ◌, ◌≤ℤ◌, int_lt, find, reverse, Option, Some, None, option_to_list, MatchOption, All, ◌≢◌, cond}
 use Rattle.std.specs.Option.{option_or}
 use Rattle.std.proofs.Common.{arith, refl, ap, sym, ◌∙◌, subst}
 use Rattle.std.proofs.lemmas.Int.{ints, by_lt_z}
@@ -9,16 +9,19 @@ use Rattle.std.proofs.lemmas.List.Elements.{All-cons, All-weaker}
 use Rattle.std.proofs.lemmas.List.Folds.{find-append}
 use Rattle.std.proofs.lemmas.List.Kept.{AllPairs-filter}
 use Rattle.fixed_units.specs.declared.readings.Reading.{Reading}
-use Rattle.readings.specs.Readings.{IsRising, before_instant, after_instant, put, is_used}
+use Rattle.readings.specs.Readings.{IsRising, instant_of, before_instant, after_instant, from_instant, at_instant, put, is_used}
+use Rattle.rising.proofs.Parting.{IsAfter, lt_yes, lt_no, le_yes, le_no, yes_lt, yes_le, after_is_after}
+use Rattle.rising.proofs.Placing.{IsBefore, IsFrom, filter_rises}
+use Rattle.rising.proofs.Splitting.{IsAt, IsAbout, whole, about, rest_rises, rest_is_later}
+use Rattle.rising.proofs.Selecting.{filter_none, filter_both, All-front, All-back, AllPairs-append}
+use Rattle.readings.proofs.Instants.{no_lt, no_le}
+use Rattle.readings.proofs.Selecting.{find_both, find_none, none_found, reverse-cons, reverse-filter, All-reverse, find_kept, find_passes, none_kept}
 use Rattle.readings.specs.Window.{is_of_day, inner, lead, follow, neighbour_before, neighbour_after, window, is_found_in_day}
-use Rattle.readings.proofs.Instants.{lt_yes, le_yes, no_lt}
-use Rattle.readings.proofs.Selecting.{filter_none, none_found, reverse-cons, All-reverse, find_kept, find_passes}
-use Rattle.readings.proofs.RisingLemmas.{IsBefore, IsAt, IsAfter, IsFrom, IsAbout, split, split_parts, put_split, rest_rises, rest_later}
 use Rattle.readings.proofs.WindowParts.{is_inner, is_early, is_late, inner_no_before, inner_no_from, none_inner_before, none_inner_from, none_early, none_late, inner_parts, early_parts, late_parts, no_inner}
 use Rattle.readings.proofs.FarReadings.{about_one}
 
 -- in a rising list the first used reading is the earliest
-pub first_step : (y : Reading) (ys : List Reading) (b : Bool) → is_used y ≡ b → (s : Reading) → All (IsAfter y.at) ys
+pub first_step : (y : Reading) (ys : List Reading) (b : Bool) → is_used y ≡ b → (s : Reading) → All (IsAfter instant_of y.at) ys
     → cond b (Some y) (find is_used ys) ≡ Some s
     → (find is_used ys ≡ Some s → All (λ r. is_used r ≡ true → s.at ≤ℤ r.at) ys)
     → All (λ r. is_used r ≡ true → s.at ≤ℤ r.at) (y ∷ ys)
@@ -26,7 +29,7 @@ first_step y ys true u s h e k =
     let same : y ≡ s = cc in
     subst (λ (z : Reading). All (λ r. is_used r ≡ true → z.at ≤ℤ r.at) (y ∷ ys)) same
     (All-cons (λ r. is_used r ≡ true → y.at ≤ℤ r.at) y ys (λ _. omega (arith, ints))
-    (All-weaker (IsAfter y.at) (λ r. is_used r ≡ true → y.at ≤ℤ r.at) (λ r l _. omega (arith, ints)) ys h))
+    (All-weaker (IsAfter instant_of y.at) (λ r. is_used r ≡ true → y.at ≤ℤ r.at) (λ r l _. omega (arith, ints)) ys h))
 first_step y ys false u s h e k =
     All-cons (λ r. is_used r ≡ true → s.at ≤ℤ r.at) y ys (λ v. absurd (cc)) (k e)
 
@@ -34,17 +37,17 @@ pub first_earliest : (ys : List Reading) (s : Reading) → IsRising ys → find 
     → All (λ r. is_used r ≡ true → s.at ≤ℤ r.at) ys
 first_earliest [] s h e = absurd (cc)
 first_earliest (y ∷ ys) s h e =
-    first_step y ys (is_used y) refl s (rest_later y ys h) e (first_earliest ys s (rest_rises y ys h))
+    first_step y ys (is_used y) refl s (rest_is_later instant_of y ys h) e (first_earliest ys s (rest_rises instant_of y ys h))
 
 -- and the last used reading the latest
 pub last_step : (x : Reading) (xs : List Reading) (o : Option Reading) → o ≡ find is_used (reverse xs) → (b : Bool) → is_used x ≡ b → (s : Reading)
-    → MatchOption o (Unit {0}) (IsAfter x.at)
+    → MatchOption o (Unit {0}) (IsAfter instant_of x.at)
     → option_or o (cond b (Some x) None) ≡ Some s
     → (o ≡ Some s → All (λ r. is_used r ≡ true → r.at ≤ℤ s.at) xs)
     → All (λ r. is_used r ≡ true → r.at ≤ℤ s.at) (x ∷ xs)
 last_step x xs (Some t) f b u s h e k =
     let same : t ≡ s = cc in
-    let later : x.at <ℤ s.at = subst (IsAfter x.at) same h in
+    let later : x.at <ℤ s.at = subst (IsAfter instant_of x.at) same h in
     All-cons (λ r. is_used r ≡ true → r.at ≤ℤ s.at) x xs (λ _. omega (arith, ints)) (k e)
 last_step x xs None f true u s h e k =
     let same : x ≡ s = cc in
@@ -61,8 +64,8 @@ last_latest [] s h e = absurd (cc)
 last_latest (x ∷ xs) s h e =
     let i = ap (find is_used) (reverse-cons x xs) ∙ find-append is_used (reverse xs) (x ∷ []) in
     last_step x xs (find is_used (reverse xs)) refl (is_used x) refl s
-    (find_kept (IsAfter x.at) is_used (reverse xs) (All-reverse (IsAfter x.at) xs (rest_later x xs h)))
-    (sym i ∙ e) (last_latest xs s (rest_rises x xs h))
+    (find_kept (IsAfter instant_of x.at) is_used (reverse xs) (All-reverse (IsAfter instant_of x.at) xs (rest_is_later instant_of x xs h)))
+    (sym i ∙ e) (last_latest xs s (rest_rises instant_of x xs h))
 
 -- a found reading that passes another test shows that this one finds or keeps something
 pub not_all_fail : (p : Reading → Bool) (rs : List Reading) (s : Reading) → find is_used rs ≡ Some s → p s ≡ true
@@ -100,28 +103,28 @@ early_inner a b at rs k h =
     filter_none (is_inner a b) rs
     (All-weaker (λ r. is_used r ≡ true → r.at ≤ℤ at) (λ r. is_inner a b r ≡ false) (λ r l. early_step a b at r (is_used r) refl k l) rs h)
 
-pub early_empty : (a b gap at : ℤ) (xs ms ys : List Reading) → IsAbout at xs ms ys → at <ℤ a → inner a b ys ≡ []
+pub early_empty : (a b gap at : ℤ) (xs ms ys : List Reading) → IsAbout instant_of at xs ms ys → at <ℤ a → inner a b ys ≡ []
     → window a b gap (xs ++ (ms ++ ys)) ≡ []
 early_empty a b gap at xs ms ys h e none =
-    let i = none_inner_before a b xs (All-weaker (IsBefore at) (IsBefore a) (λ r k. omega (arith, ints)) xs h.below) in
-    let j = none_inner_before a b ms (All-weaker (IsAt at) (IsBefore a) (λ r k. omega (arith, ints)) ms h.here) in
+    let i = none_inner_before a b xs (All-weaker (IsBefore instant_of at) (IsBefore instant_of a) (λ r k. omega (arith, ints)) xs h.below) in
+    let j = none_inner_before a b ms (All-weaker (IsAt instant_of at) (IsBefore instant_of a) (λ r k. omega (arith, ints)) ms h.here) in
     no_inner a b gap (xs ++ (ms ++ ys)) (inner_parts a b xs ms ys ∙ rw (i, j, none) refl)
 
 -- where an early reading is found among the later ones, those up to the instant have no part in the window
-pub early_found : (a b gap at : ℤ) (xs ms ys : List Reading) → IsAbout at xs ms ys → at <ℤ a → a ≤ℤ b
+pub early_found : (a b gap at : ℤ) (xs ms ys : List Reading) → IsAbout instant_of at xs ms ys → at <ℤ a → a ≤ℤ b
     → (o : Option Reading) → find (is_early a) (reverse ys) ≡ o → o ≢ None
     → window a b gap (xs ++ (ms ++ ys)) ≡ window a b gap ys
 early_found a b gap at xs ms ys h e o None f k = absurd (k refl)
 early_found a b gap at xs ms ys h e o (Some s) f k =
-    let front : All (IsBefore a) xs = All-weaker (IsBefore at) (IsBefore a) (λ r k. omega (arith, ints)) xs h.below in
-    let middle : All (IsBefore a) ms = All-weaker (IsAt at) (IsBefore a) (λ r k. omega (arith, ints)) ms h.here in
+    let front : All (IsBefore instant_of a) xs = All-weaker (IsBefore instant_of at) (IsBefore instant_of a) (λ r k. omega (arith, ints)) xs h.below in
+    let middle : All (IsBefore instant_of a) ms = All-weaker (IsAt instant_of at) (IsBefore instant_of a) (λ r k. omega (arith, ints)) ms h.here in
     let early : find (is_early a) (reverse (xs ++ (ms ++ ys))) ≡ find (is_early a) (reverse ys) = early_parts a xs ms ys ∙ rw f refl in
     let before : neighbour_before a gap (xs ++ (ms ++ ys)) ≡ neighbour_before a gap ys = ap (lead a gap) early in
     let within : inner a b (xs ++ (ms ++ ys)) ≡ inner a b ys =
     let i = none_inner_before a b xs front in let j = none_inner_before a b ms middle in inner_parts a b xs ms ys ∙ rw (i, j) refl in
     let late : find (is_late b) (xs ++ (ms ++ ys)) ≡ find (is_late b) ys =
-    let i = none_late b xs (All-weaker (IsBefore a) (IsBefore b) (λ r k. omega (arith, ints)) xs front) in
-    let j = none_late b ms (All-weaker (IsBefore a) (IsBefore b) (λ r k. omega (arith, ints)) ms middle) in
+    let i = none_late b xs (All-weaker (IsBefore instant_of a) (IsBefore instant_of b) (λ r k. omega (arith, ints)) xs front) in
+    let j = none_late b ms (All-weaker (IsBefore instant_of a) (IsBefore instant_of b) (λ r k. omega (arith, ints)) ms middle) in
     late_parts b xs ms ys ∙ rw (i, j) refl in
     let after : neighbour_after b gap (xs ++ (ms ++ ys)) ≡ neighbour_after b gap ys = ap (follow b gap) late in
     rw (before, within, after) refl
@@ -138,7 +141,7 @@ pub beyond : (a b : ℤ) (s : Reading) → a ≤ℤ s.at → is_of_day a b s ≡
 beyond a b s l d = let e = le_yes a s.at l in no_lt s.at b (rw e at d)
 
 -- a reading before the day, where the next used one is not of the day: it is hidden, or the day has none
-pub early_hidden : (a b gap at : ℤ) (xs ms ns ys : List Reading) → IsAbout at xs ms ys → IsAbout at xs ns ys → IsRising ys
+pub early_hidden : (a b gap at : ℤ) (xs ms ns ys : List Reading) → IsAbout instant_of at xs ms ys → IsAbout instant_of at xs ns ys → IsRising ys
     → at <ℤ a → a ≤ℤ b → (o : Option Reading) → find is_used ys ≡ o → is_found_in_day a b o ≡ false
     → window a b gap (xs ++ (ms ++ ys)) ≡ window a b gap (xs ++ (ns ++ ys))
 early_hidden a b gap at xs ms ns ys h k r e o None f d =
@@ -153,28 +156,28 @@ early_hidden a b gap at xs ms ns ys h k r e o (Some s) f d =
     early_empty a b gap at xs ms ys h e none ∙ sym (early_empty a b gap at xs ns ys k e none))
 
 -- the same on the other side of the day
-pub late_empty : (a b gap at : ℤ) (xs ms ys : List Reading) → IsAbout at xs ms ys → b ≤ℤ at → inner a b xs ≡ []
+pub late_empty : (a b gap at : ℤ) (xs ms ys : List Reading) → IsAbout instant_of at xs ms ys → b ≤ℤ at → inner a b xs ≡ []
     → window a b gap (xs ++ (ms ++ ys)) ≡ []
 late_empty a b gap at xs ms ys h e none =
-    let i = none_inner_from a b ys (All-weaker (IsAfter at) (IsFrom b) (λ r k. omega (arith, ints)) ys h.above) in
-    let j = none_inner_from a b ms (All-weaker (IsAt at) (IsFrom b) (λ r k. omega (arith, ints)) ms h.here) in
+    let i = none_inner_from a b ys (All-weaker (IsAfter instant_of at) (IsFrom instant_of b) (λ r k. omega (arith, ints)) ys h.above) in
+    let j = none_inner_from a b ms (All-weaker (IsAt instant_of at) (IsFrom instant_of b) (λ r k. omega (arith, ints)) ms h.here) in
     no_inner a b gap (xs ++ (ms ++ ys)) (inner_parts a b xs ms ys ∙ rw (i, j, none) refl)
 
-pub late_found : (a b gap at : ℤ) (xs ms ys : List Reading) → IsAbout at xs ms ys → b ≤ℤ at → a ≤ℤ b
+pub late_found : (a b gap at : ℤ) (xs ms ys : List Reading) → IsAbout instant_of at xs ms ys → b ≤ℤ at → a ≤ℤ b
     → (o : Option Reading) → find (is_late b) xs ≡ o → o ≢ None
     → window a b gap (xs ++ (ms ++ ys)) ≡ window a b gap xs
 late_found a b gap at xs ms ys h e o None f k = absurd (k refl)
 late_found a b gap at xs ms ys h e o (Some s) f k =
-    let back : All (IsFrom b) ys = All-weaker (IsAfter at) (IsFrom b) (λ r k. omega (arith, ints)) ys h.above in
-    let middle : All (IsFrom b) ms = All-weaker (IsAt at) (IsFrom b) (λ r k. omega (arith, ints)) ms h.here in
+    let back : All (IsFrom instant_of b) ys = All-weaker (IsAfter instant_of at) (IsFrom instant_of b) (λ r k. omega (arith, ints)) ys h.above in
+    let middle : All (IsFrom instant_of b) ms = All-weaker (IsAt instant_of at) (IsFrom instant_of b) (λ r k. omega (arith, ints)) ms h.here in
     let late : find (is_late b) (xs ++ (ms ++ ys)) ≡ find (is_late b) xs = late_parts b xs ms ys ∙ rw f refl in
     let after : neighbour_after b gap (xs ++ (ms ++ ys)) ≡ neighbour_after b gap xs = ap (follow b gap) late in
     let within : inner a b (xs ++ (ms ++ ys)) ≡ inner a b xs =
     let i = none_inner_from a b ys back in let j = none_inner_from a b ms middle in let l = append-nil (inner a b xs) in
     inner_parts a b xs ms ys ∙ rw (i, j) l in
     let early : find (is_early a) (reverse (xs ++ (ms ++ ys))) ≡ find (is_early a) (reverse xs) =
-    let i = none_early a ys (All-weaker (IsFrom b) (IsFrom a) (λ r k. omega (arith, ints)) ys back) in
-    let j = none_early a ms (All-weaker (IsFrom b) (IsFrom a) (λ r k. omega (arith, ints)) ms middle) in
+    let i = none_early a ys (All-weaker (IsFrom instant_of b) (IsFrom instant_of a) (λ r k. omega (arith, ints)) ys back) in
+    let j = none_early a ms (All-weaker (IsFrom instant_of b) (IsFrom instant_of a) (λ r k. omega (arith, ints)) ms middle) in
     early_parts a xs ms ys ∙ rw (i, j) refl in
     let before : neighbour_before a gap (xs ++ (ms ++ ys)) ≡ neighbour_before a gap xs = ap (lead a gap) early in
     rw (before, within, after) refl
@@ -192,7 +195,7 @@ late_is_found b xs s f l none =
 pub short : (a b : ℤ) (s : Reading) → s.at <ℤ b → is_of_day a b s ≡ false → s.at <ℤ a
 short a b s l d = by_lt_z s.at a (λ k. k) (λ k. let e = le_yes a s.at k in let f = lt_yes s.at b l in let g : true ≡ false = rw (e, f) at d in absurd (cc))
 
-pub late_hidden : (a b gap at : ℤ) (xs ms ns ys : List Reading) → IsAbout at xs ms ys → IsAbout at xs ns ys → IsRising xs
+pub late_hidden : (a b gap at : ℤ) (xs ms ns ys : List Reading) → IsAbout instant_of at xs ms ys → IsAbout instant_of at xs ns ys → IsRising xs
     → b ≤ℤ at → a ≤ℤ b → (o : Option Reading) → find is_used (reverse xs) ≡ o → is_found_in_day a b o ≡ false
     → window a b gap (xs ++ (ms ++ ys)) ≡ window a b gap (xs ++ (ns ++ ys))
 late_hidden a b gap at xs ms ns ys h k r e o None f d =
@@ -210,19 +213,13 @@ late_hidden a b gap at xs ms ns ys h k r e o (Some s) f d =
 pub early_hidden_put : (a b gap : ℤ) (r : Reading) (rs : List Reading) → IsRising rs → a ≤ℤ b → r.at <ℤ a
     → is_found_in_day a b (find is_used (after_instant r.at rs)) ≡ false → window a b gap (put r rs) ≡ window a b gap rs
 early_hidden_put a b gap r rs h o e d =
-    let s = split r.at rs h in
-    let after : after_instant r.at rs ≡ s.ys = (split_parts r.at rs s).after in
-    let rises : IsRising s.ys = subst IsRising after (AllPairs-filter (λ r s. r.at <ℤ s.at) (λ s. int_lt r.at s.at) rs h) in
-    ap (window a b gap) (put_split r rs s)
-    ∙ early_hidden a b gap r.at s.xs (r ∷ []) s.ms s.ys (about_one r rs s) s.about rises e o (find is_used s.ys) refl (rw after at d)
-    ∙ ap (window a b gap) (sym s.whole)
+    early_hidden a b gap r.at (before_instant r.at rs) (r ∷ []) (option_to_list (at_instant r.at rs)) (after_instant r.at rs)
+    (about_one r rs) (about instant_of r.at rs) (filter_rises instant_of (λ s. int_lt r.at s.at) rs h) e o (find is_used (after_instant r.at rs)) refl d
+    ∙ ap (window a b gap) (sym (whole instant_of r.at rs h))
 
 pub late_hidden_put : (a b gap : ℤ) (r : Reading) (rs : List Reading) → IsRising rs → a ≤ℤ b → b ≤ℤ r.at
     → is_found_in_day a b (find is_used (reverse (before_instant r.at rs))) ≡ false → window a b gap (put r rs) ≡ window a b gap rs
 late_hidden_put a b gap r rs h o e d =
-    let s = split r.at rs h in
-    let before : before_instant r.at rs ≡ s.xs = (split_parts r.at rs s).before in
-    let rises : IsRising s.xs = subst IsRising before (AllPairs-filter (λ r s. r.at <ℤ s.at) (λ s. int_lt s.at r.at) rs h) in
-    ap (window a b gap) (put_split r rs s)
-    ∙ late_hidden a b gap r.at s.xs (r ∷ []) s.ms s.ys (about_one r rs s) s.about rises e o (find is_used (reverse s.xs)) refl (rw before at d)
-    ∙ ap (window a b gap) (sym s.whole)
+    late_hidden a b gap r.at (before_instant r.at rs) (r ∷ []) (option_to_list (at_instant r.at rs)) (after_instant r.at rs)
+    (about_one r rs) (about instant_of r.at rs) (filter_rises instant_of (λ s. int_lt s.at r.at) rs h) e o (find is_used (reverse (before_instant r.at rs))) refl d
+    ∙ ap (window a b gap) (sym (whole instant_of r.at rs h))

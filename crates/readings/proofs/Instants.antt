@@ -4,34 +4,13 @@ use Rattle.std.specs.Ordering.{int_cmp, is_lt}
 use Rattle.std.specs.declared.cmp.Ordering.TheVariants.{Less, Equal, Greater}
 use Rattle.std.proofs.Common.{arith, refl, inl, inr}
 use Rattle.std.proofs.lemmas.Int.{ints, by_lt_z}
-
-pub lt_yes : (x y : ℤ) → x <ℤ y → int_lt x y ≡ true
-lt_yes x y h = grind (arith, ints)
-
-pub lt_no : (x y : ℤ) → y ≤ℤ x → int_lt x y ≡ false
-lt_no x y h = grind (arith, ints)
-
-pub le_yes : (x y : ℤ) → x ≤ℤ y → int_le x y ≡ true
-le_yes x y h = grind (arith, ints)
-
-pub le_no : (x y : ℤ) → y <ℤ x → int_le x y ≡ false
-le_no x y h = grind (arith, ints)
-
-pub yes_lt : (x y : ℤ) → int_lt x y ≡ true → x <ℤ y
-yes_lt x y h = omega (arith, ints)
+use Rattle.rising.proofs.Parting.{lt_yes, lt_no}
 
 pub no_lt : (x y : ℤ) → int_lt x y ≡ false → y ≤ℤ x
 no_lt x y h = omega (arith, ints)
 
-pub yes_le : (x y : ℤ) → int_le x y ≡ true → x ≤ℤ y
-yes_le x y h = omega (arith, ints)
-
 pub no_le : (x y : ℤ) → int_le x y ≡ false → y <ℤ x
 no_le x y h = omega (arith, ints)
-
-pub compared : (x y : ℤ) → (x <ℤ y) ⊎ ((x ≡ y) ⊎ (y <ℤ x))
-compared x y =
-    by_lt_z x y (λ h. inl h) (λ h. by_lt_z y x (λ k. inr (inr k)) (λ k. inr (inl (omega (arith, ints)))))
 
 less : (b c : Bool) → b ≡ false → is_lt (cond b Less (cond c Greater Equal)) ≡ false
 less true c h = absurd (cc)

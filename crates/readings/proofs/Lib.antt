@@ -2,7 +2,6 @@ pub mod AlteringLemmas
 pub mod FarReadings
 pub mod HiddenReadings
 pub mod Instants
-pub mod RisingLemmas
 pub mod Selecting
 pub mod ShownReadings
 pub mod WindowLemmas

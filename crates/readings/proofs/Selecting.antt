@@ -1,23 +1,10 @@
--- What `filter` and `find` give where all or none of a list passes, and across joins and reversals.
+-- What `find` gives where all or none of a list passes, and `filter` across reversals.
 use Rattle.std.specs.Prelude.{◌≡◌, Bool, true, false, cond, ◌&&◌, List, [], ◌∷◌, ◌++◌, suc, filter, find, reverse, Option, Some, None, All, AllPairs, MatchOption}
 use Rattle.std.proofs.Common.{arith, refl, ap, sym, ◌∙◌}
 use Rattle.std.proofs.lemmas.Grind.{reverse_onto}
 use Rattle.std.proofs.lemmas.List.{append-nil}
 use Rattle.std.proofs.lemmas.List.Elements.{All-head, All-tail, All-cons, All-nil, All-append, filter-append}
 use Rattle.std.proofs.lemmas.List.Kept.{AllPairs-cons}
-
-pub filter_all : {X : Type 0} (p : X → Bool) (xs : List X) → All (λ x. p x ≡ true) xs → filter p xs ≡ xs
-filter_all p [] h = refl
-filter_all p (x ∷ xs) h =
-    let e = All-head (λ x. p x ≡ true) x xs h in
-    let f = filter_all p xs (All-tail (λ x. p x ≡ true) x xs h) in
-    rw (e, f)
-
-pub filter_none : {X : Type 0} (p : X → Bool) (xs : List X) → All (λ x. p x ≡ false) xs → filter p xs ≡ []
-filter_none p [] h = refl
-filter_none p (x ∷ xs) h =
-    let e = All-head (λ x. p x ≡ false) x xs h in
-    rw e (filter_none p xs (All-tail (λ x. p x ≡ false) x xs h))
 
 pub find_none : {X : Type 0} (p : X → Bool) (xs : List X) → All (λ x. p x ≡ false) xs → find p xs ≡ None
 find_none p [] h = refl
@@ -45,17 +32,6 @@ both_step p x false false e o zs h = h
 pub find_both : {X : Type 0} (p q : X → Bool) (xs : List X) → find (λ x. p x && q x) xs ≡ find p (filter q xs)
 find_both p q [] = refl
 find_both p q (x ∷ xs) = both_step p x (p x) (q x) refl (find (λ x. p x && q x) xs) (filter q xs) (find_both p q xs)
-
-filter_both_step : {X : Type 0} (p : X → Bool) (x : X) (b c : Bool) → p x ≡ b → (ys zs : List X) → ys ≡ filter p zs
-    → cond (b && c) (x ∷ ys) ys ≡ filter p (cond c (x ∷ zs) zs)
-filter_both_step p x true true e ys zs h = rw (e, h)
-filter_both_step p x true false e ys zs h = h
-filter_both_step p x false true e ys zs h = rw e h
-filter_both_step p x false false e ys zs h = h
-
-pub filter_both : {X : Type 0} (p q : X → Bool) (xs : List X) → filter (λ x. p x && q x) xs ≡ filter p (filter q xs)
-filter_both p q [] = refl
-filter_both p q (x ∷ xs) = filter_both_step p x (p x) (q x) refl (filter (λ x. p x && q x) xs) (filter q xs) (filter_both p q xs)
 
 pub reverse-cons : {X : Type 0} (x : X) (xs : List X) → reverse (x ∷ xs) ≡ reverse xs ++ x ∷ []
 reverse-cons x xs = reverse_onto xs x []
@@ -86,29 +62,6 @@ kept_step P false x o h k = k
 pub find_kept : {X : Type 0} (P : X → Type 0) (p : X → Bool) (xs : List X) → All P xs → MatchOption (find p xs) (Unit {0}) P
 find_kept P p [] h = tt
 find_kept P p (x ∷ xs) h = kept_step P (p x) x (find p xs) (All-head P x xs h) (find_kept P p xs (All-tail P x xs h))
-
-pub All-front : {X : Type 0} (P : X → Type 0) (xs ys : List X) → All P (xs ++ ys) → All P xs
-All-front P [] ys h = All-nil P
-All-front P (x ∷ xs) ys h = All-cons P x xs (All-head P x (xs ++ ys) h) (All-front P xs ys (All-tail P x (xs ++ ys) h))
-
-pub All-back : {X : Type 0} (P : X → Type 0) (xs ys : List X) → All P (xs ++ ys) → All P ys
-All-back P [] ys h = h
-All-back P (x ∷ xs) ys h = All-back P xs ys (All-tail P x (xs ++ ys) h)
-
--- pairs of a list
-pub AllPairs-head : {X : Type 0} (R : X → X → Type 0) (x : X) (xs : List X) → AllPairs R (x ∷ xs) → All (R x) xs
-AllPairs-head R x xs h = λ k d l. h 0 (suc k) d (omega arith) (omega arith)
-
-pub AllPairs-tail : {X : Type 0} (R : X → X → Type 0) (x : X) (xs : List X) → AllPairs R (x ∷ xs) → AllPairs R xs
-AllPairs-tail R x xs h = λ i j d l m. h (suc i) (suc j) d (omega arith) (omega arith)
-
-pub AllPairs-append : {X : Type 0} (R : X → X → Type 0) (xs ys : List X) → AllPairs R xs → AllPairs R ys
-    → All (λ x. All (R x) ys) xs → AllPairs R (xs ++ ys)
-AllPairs-append R [] ys h k l = k
-AllPairs-append R (x ∷ xs) ys h k l =
-    AllPairs-cons R x (xs ++ ys)
-    (All-append (R x) xs ys (AllPairs-head R x xs h) (All-head (λ x. All (R x) ys) x xs l))
-    (AllPairs-append R xs ys (AllPairs-tail R x xs h) k (All-tail (λ x. All (R x) ys) x xs l))
 
 passes_step : {X : Type 0} (P : X → Type 0) (b : Bool) (x : X) (o : Option X) → (b ≡ true → P x) → MatchOption o (Unit {0}) P
     → MatchOption (cond b (Some x) o) (Unit {0}) P

@@ -5,11 +5,14 @@ use Rattle.std.proofs.lemmas.Int.{ints, by_lt_z}
 use Rattle.std.proofs.lemmas.List.Elements.{All-head, All-tail, All-cons, All-nil, All-append, All-weaker, All-contains}
 use Rattle.std.proofs.lemmas.List.Kept.{AllPairs-filter}
 use Rattle.fixed_units.specs.declared.readings.Reading.{Reading}
-use Rattle.readings.specs.Readings.{IsRising, before_instant, after_instant, at_instant, put, is_used}
+use Rattle.readings.specs.Readings.{IsRising, instant_of, before_instant, after_instant, from_instant, at_instant, put, is_used}
+use Rattle.rising.proofs.Parting.{IsAfter, lt_yes, lt_no, le_yes, le_no, yes_lt, yes_le, after_is_after}
+use Rattle.rising.proofs.Placing.{IsBefore, IsFrom, before_is_before}
+use Rattle.rising.proofs.Splitting.{IsAt, IsAbout, whole, about, rest_rises, rest_is_later}
+use Rattle.rising.proofs.Selecting.{filter_none, filter_both, All-front, All-back, AllPairs-append}
+use Rattle.readings.proofs.Instants.{no_lt, no_le}
+use Rattle.readings.proofs.Selecting.{find_both, find_none, none_found, reverse-cons, reverse-filter, All-reverse, find_kept, find_passes, none_kept}
 use Rattle.readings.specs.Window.{is_of_day, inner, lead, follow, neighbour_before, neighbour_after, with_neighbours, window, is_found_in_day}
-use Rattle.readings.proofs.Instants.{lt_yes, le_yes, le_no, yes_lt}
-use Rattle.readings.proofs.Selecting.{find_none, All-reverse, none_kept, All-front, All-back}
-use Rattle.readings.proofs.RisingLemmas.{IsBefore, IsAfter, split, split_parts, put_split, one_here}
 use Rattle.readings.proofs.WindowLemmas.{window_keeps}
 use Rattle.readings.proofs.WindowParts.{is_inner, is_early, is_late, early_no, late_no, inner_parts, early_parts, late_parts, both_true}
 use Rattle.readings.proofs.HiddenReadings.{first_earliest, last_latest, not_all_fail, found_used, used_inner}
@@ -97,17 +100,6 @@ middle_shown P a b gap r xs ys u e f k =
 abbrev pub IsOther : Reading → Reading → Type 0
 IsOther r s = s ≢ r
 
-pub none_same : (r : Reading) (rs : List Reading) → IsRising rs → All (IsOther r) (at_instant r.at rs) → All (IsOther r) rs
-none_same r rs h k =
-    let s = split r.at rs h in
-    let here : All (IsOther r) s.ms = subst (λ (z : List Reading). All (IsOther r) z) (split_parts r.at rs s).here k in
-    let below : All (IsOther r) s.xs =
-    All-weaker (IsBefore r.at) (IsOther r) (λ x l e. let f : x.at ≡ r.at = ap (λ (z : Reading). z.at) e in absurd (omega (arith, ints))) s.xs s.about.below in
-    let above : All (IsOther r) s.ys =
-    All-weaker (IsAfter r.at) (IsOther r) (λ x l e. let f : x.at ≡ r.at = ap (λ (z : Reading). z.at) e in absurd (omega (arith, ints))) s.ys s.about.above in
-    subst (λ (z : List Reading). All (IsOther r) z) (sym s.whole)
-    (All-append (IsOther r) s.xs (s.ms ++ s.ys) below (All-append (IsOther r) s.ms s.ys here above))
-
 pub changed : (a b gap : ℤ) (r : Reading) (rs : List Reading) → All (IsOther r) rs
     → (All (IsOther r) (window a b gap (put r rs)) → IsOther r r) → window a b gap (put r rs) ≢ window a b gap rs
 changed a b gap r rs h k e =
@@ -133,19 +125,3 @@ late_changed a b gap r rs h o u e n d =
     changed a b gap r rs o
     (late_shown (IsOther r) a b gap r (before_instant r.at rs) (after_instant r.at rs)
     (AllPairs-filter (λ r s. r.at <ℤ s.at) (λ s. int_lt s.at r.at) rs h) u e n (find is_used (reverse (before_instant r.at rs))) refl d)
-
--- a reading that is there already changes nothing
-pub same_step : (r : Reading) (ms : List Reading) → length ms ≤ 1 → Contains ms r → ms ≡ r ∷ []
-same_step r [] h k = absurd (omega (arith, k.1))
-same_step r (z ∷ []) h k =
-    let e : r ≡ z = All-contains (λ s. s ≡ z) (z ∷ []) r (All-cons (λ s. s ≡ z) z [] refl (All-nil (λ s. s ≡ z))) k in
-    ap (λ s. s ∷ []) (sym e)
-same_step r (z ∷ (w ∷ ws)) h k = absurd (omega arith)
-
-pub put_same : (r : Reading) (rs : List Reading) → IsRising rs → Contains (at_instant r.at rs) r → put r rs ≡ rs
-put_same r rs h k =
-    let s = split r.at rs h in
-    let p = split_parts r.at rs s in
-    let rises : IsRising s.ms = subst IsRising p.here (AllPairs-filter (λ r s. r.at <ℤ s.at) (λ s. int_le r.at s.at && int_le s.at r.at) rs h) in
-    let one : s.ms ≡ r ∷ [] = same_step r s.ms (one_here r.at s.ms rises s.about.here) (subst (λ (z : List Reading). Contains z r) p.here k) in
-    put_split r rs s ∙ sym (s.whole ∙ ap (λ (z : List Reading). s.xs ++ (z ++ s.ys)) one)

@@ -7,11 +7,14 @@ use Rattle.std.proofs.lemmas.List.{reverse-append}
 use Rattle.std.proofs.lemmas.List.Elements.{All-cons, All-nil, All-append, All-weaker, filter-append, filter_agree}
 use Rattle.std.proofs.lemmas.List.Folds.{find-append}
 use Rattle.fixed_units.specs.declared.readings.Reading.{Reading}
-use Rattle.readings.specs.Readings.{before_instant, from_instant, is_used}
-use Rattle.readings.specs.Window.{is_of_day, inner, near, lead, follow, neighbour_before, neighbour_after, with_neighbours, window}
-use Rattle.readings.proofs.Instants.{lt_no, le_no}
-use Rattle.readings.proofs.Selecting.{find_both, filter_both, reverse-filter, filter_none, find_none, All-reverse}
-use Rattle.readings.proofs.RisingLemmas.{IsBefore, IsFrom}
+use Rattle.readings.specs.Readings.{IsRising, instant_of, before_instant, after_instant, from_instant, at_instant, put, is_used}
+use Rattle.rising.proofs.Parting.{IsAfter, lt_yes, lt_no, le_yes, le_no, yes_lt, yes_le, after_is_after}
+use Rattle.rising.proofs.Placing.{IsBefore, IsFrom, before_is_before}
+use Rattle.rising.proofs.Splitting.{IsAt, IsAbout, whole, about, rest_rises, rest_is_later}
+use Rattle.rising.proofs.Selecting.{filter_none, filter_both, All-front, All-back, AllPairs-append}
+use Rattle.readings.proofs.Instants.{no_lt, no_le}
+use Rattle.readings.proofs.Selecting.{find_both, find_none, none_found, reverse-cons, reverse-filter, All-reverse, find_kept, find_passes, none_kept}
+use Rattle.readings.specs.Window.{is_of_day, of_day, inner, near, lead, follow, neighbour_before, neighbour_after, with_neighbours, window}
 
 -- the tests of the window
 abbrev pub is_inner : ℤ → ℤ → Reading → Bool
@@ -36,22 +39,22 @@ inner_no_before a b r h = let e = le_no a r.at h in grind (arith)
 pub inner_no_from : (a b : ℤ) (r : Reading) → b ≤ℤ r.at → is_inner a b r ≡ false
 inner_no_from a b r h = let e = lt_no r.at b h in grind (arith)
 
-pub none_inner_before : (a b : ℤ) (rs : List Reading) → All (IsBefore a) rs → inner a b rs ≡ []
+pub none_inner_before : (a b : ℤ) (rs : List Reading) → All (IsBefore instant_of a) rs → inner a b rs ≡ []
 none_inner_before a b rs h =
-    filter_none (is_inner a b) rs (All-weaker (IsBefore a) (λ r. is_inner a b r ≡ false) (λ r k. inner_no_before a b r k) rs h)
+    filter_none (is_inner a b) rs (All-weaker (IsBefore instant_of a) (λ r. is_inner a b r ≡ false) (λ r k. inner_no_before a b r k) rs h)
 
-pub none_inner_from : (a b : ℤ) (rs : List Reading) → All (IsFrom b) rs → inner a b rs ≡ []
+pub none_inner_from : (a b : ℤ) (rs : List Reading) → All (IsFrom instant_of b) rs → inner a b rs ≡ []
 none_inner_from a b rs h =
-    filter_none (is_inner a b) rs (All-weaker (IsFrom b) (λ r. is_inner a b r ≡ false) (λ r k. inner_no_from a b r k) rs h)
+    filter_none (is_inner a b) rs (All-weaker (IsFrom instant_of b) (λ r. is_inner a b r ≡ false) (λ r k. inner_no_from a b r k) rs h)
 
-pub none_early : (a : ℤ) (rs : List Reading) → All (IsFrom a) rs → find (is_early a) (reverse rs) ≡ None
+pub none_early : (a : ℤ) (rs : List Reading) → All (IsFrom instant_of a) rs → find (is_early a) (reverse rs) ≡ None
 none_early a rs h =
     find_none (is_early a) (reverse rs)
-    (All-reverse (λ r. is_early a r ≡ false) rs (All-weaker (IsFrom a) (λ r. is_early a r ≡ false) (λ r k. early_no a r k) rs h))
+    (All-reverse (λ r. is_early a r ≡ false) rs (All-weaker (IsFrom instant_of a) (λ r. is_early a r ≡ false) (λ r k. early_no a r k) rs h))
 
-pub none_late : (b : ℤ) (rs : List Reading) → All (IsBefore b) rs → find (is_late b) rs ≡ None
+pub none_late : (b : ℤ) (rs : List Reading) → All (IsBefore instant_of b) rs → find (is_late b) rs ≡ None
 none_late b rs h =
-    find_none (is_late b) rs (All-weaker (IsBefore b) (λ r. is_late b r ≡ false) (λ r k. late_no b r k) rs h)
+    find_none (is_late b) rs (All-weaker (IsBefore instant_of b) (λ r. is_late b r ≡ false) (λ r k. late_no b r k) rs h)
 
 -- the parts of a list, and what the window takes of each
 pub inner_parts : (a b : ℤ) (xs ms ys : List Reading) → inner a b (xs ++ (ms ++ ys)) ≡ inner a b xs ++ (inner a b ms ++ inner a b ys)
@@ -95,16 +98,8 @@ pub lead_found : (a gap : ℤ) (rs : List Reading) → lead a gap (find is_used 
 lead_found a gap rs =
     ap (lead a gap) (ap (find is_used) (reverse-filter (λ r. int_lt r.at a) rs) ∙ sym (find_both is_used (λ r. int_lt r.at a) (reverse rs)))
 
-pub from_twice : (a b : ℤ) (r : Reading) → a ≤ℤ b → (int_le b r.at && int_le a r.at) ≡ int_le b r.at
-from_twice a b r h = grind (arith, ints)
-
-pub follow_found : (a b gap : ℤ) (rs : List Reading) → a ≤ℤ b
-    → follow b gap (find is_used (from_instant b (from_instant a rs))) ≡ neighbour_after b gap rs
-follow_found a b gap rs h =
-    let once : from_instant b (from_instant a rs) ≡ from_instant b rs =
-    sym (filter_both (λ r. int_le b r.at) (λ r. int_le a r.at) rs)
-    ∙ filter_agree (λ r. int_le b r.at && int_le a r.at) (λ r. int_le b r.at) (λ r. from_twice a b r h) rs in
-    ap (follow b gap) (ap (find is_used) once ∙ sym (find_both is_used (λ r. int_le b r.at) rs))
+pub follow_found : (b gap : ℤ) (rs : List Reading) → follow b gap (find is_used (from_instant b rs)) ≡ neighbour_after b gap rs
+follow_found b gap rs = ap (follow b gap) (sym (find_both is_used (λ r. int_le b r.at) rs))
 
 pub swapped : (x y : Bool) → (x && y) ≡ (y && x)
 swapped true true = refl
@@ -112,15 +107,11 @@ swapped true false = refl
 swapped false true = refl
 swapped false false = refl
 
-pub day_test : (a b : ℤ) (r : Reading) → (int_lt r.at b && int_le a r.at) ≡ is_of_day a b r
-day_test a b r = swapped (int_lt r.at b) (int_le a r.at)
-
-pub inner_found : (a b : ℤ) (rs : List Reading) → filter is_used (before_instant b (from_instant a rs)) ≡ inner a b rs
+-- the used readings of the day's
+pub inner_found : (a b : ℤ) (rs : List Reading) → filter is_used (of_day a b rs) ≡ inner a b rs
 inner_found a b rs =
-    ap (filter is_used)
-    (sym (filter_both (λ r. int_lt r.at b) (λ r. int_le a r.at) rs)
-    ∙ filter_agree (λ r. int_lt r.at b && int_le a r.at) (is_of_day a b) (λ r. day_test a b r) rs)
-    ∙ sym (filter_both is_used (is_of_day a b) rs)
+    filter_both (is_of_day a b) is_used rs
+    ∙ filter_agree (λ r. is_of_day a b r && is_used r) (is_inner a b) (λ r. swapped (is_of_day a b r) (is_used r)) rs
 
 -- what holds of each reading holds of each of a window
 pub both_true : (x y : Bool) → (x && y) ≡ true → y ≡ true

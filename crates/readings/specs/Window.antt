@@ -8,7 +8,11 @@ use Rattle.readings.specs.Readings.{is_used}
 abbrev pub is_of_day : ℤ → ℤ → Reading → Bool
 is_of_day a b reading = int_le a reading.at && int_lt reading.at b
 
--- the used readings of the day
+-- the readings of the day, erroneous ones among them
+abbrev pub of_day : ℤ → ℤ → List Reading → List Reading
+of_day a b readings = filter (is_of_day a b) readings
+
+-- the used ones
 abbrev pub inner : ℤ → ℤ → List Reading → List Reading
 inner a b readings = filter (λ r. is_used r && is_of_day a b r) readings
 

@@ -1,28 +1,27 @@
 //! The kept list of readings.
 
-ghost use Rattle.std.specs.Prelude.{◌≡◌, ◌≢◌, true, false, ◌*◌, ◌≤◌, pos, [], filter, find, reverse, length, take, drop, OnOk, ◌<◌, ◌+◌, vec_len, vec_capacity, ◌≤ℤ◌, ◌-ℤ◌, int_le, All, Contains, ℤ, ◌+ℤ◌, ◌<ℤ◌, ◌⊎◌, List, IfOk, ◌++◌, option_to_list};
-ghost use Rattle.readings.specs.Readings.{IsRising, before_instant, after_instant, from_instant, to_instant, at_instant, put, is_used, IsPlace};
-ghost use Rattle.readings.specs.Window.{window, inner, neighbour_before, neighbour_after, is_found_in_day, lead, follow};
+ghost use Rattle.std.specs.Prelude.{◌≡◌, ◌≢◌, true, false, ◌*◌, ◌≤◌, pos, [], Some, filter, find, reverse, length, OnOk, OnErr, IsOk, ◌<◌, ◌+◌, ◌≤ℤ◌, ◌-ℤ◌, int_le, ℤ, ◌+ℤ◌, ◌<ℤ◌, ◌⊎◌, List, IfOk, ◌++◌, option_to_list};
+ghost use Rattle.readings.specs.Readings.{IsRising, put, is_used, IsPlace};
+ghost use Rattle.readings.specs.Window.{window, of_day, neighbour_before, neighbour_after, is_found_in_day, lead, follow};
 
 use fixed_units::{Flag, NoMemory, Reading, Second};
+use rising::RisingList;
 use std::alloc::Global;
 use std::marker::Model;
 
 /// The readings of a station, rising by instant. Contracts see the list, and how many more have room beside it.
 #[derive(Debug, Drop)]
 pub struct Readings {
-    list: Vec<Reading>,
+    kept: RisingList<Reading>,
 }
 
 impl Model for Readings {
-    ghost use Rattle.std.specs.Prelude.{◌-◌, vec_len, vec_capacity};
-    ghost use Rattle.readings.specs.Readings.{IsRising, KeptReadings};
+    ghost use Rattle.fixed_units.specs.declared.readings.Reading.{Reading};
+    ghost use Rattle.rising.specs.Lists.{Kept};
 
-    ghost Value = { KeptReadings };
+    ghost Value = { Kept Reading };
 
-    ghost view = { λ r. record { list = r.list.items; spare = vec_capacity r.list - vec_len r.list } };
-
-    ghost invariant = { λ r. IsRising r.list.items };
+    ghost view = { λ r. r.kept };
 }
 
 /// What a day's window is made of, lent without a copy.
@@ -50,10 +49,11 @@ pub struct Place {
 impl Readings {
     /// No readings, which takes no memory.
     pub fn new(alloc: Global) -> Readings
-        ensures { result.list ≡ [] }
+        ensures list { result.list ≡ [] }
+        ensures spare { result.spare ≡ 0 }
     {
         Readings {
-            list: Vec::new(alloc),
+            kept: RisingList::new(alloc),
         }
     }
 
@@ -62,17 +62,17 @@ impl Readings {
         ensures list { result.now ≡ self.now.list }
         ensures rising { IsRising self.now.list }
     {
-        self.list.as_slice()
+        self.kept.as_slice()
     }
 
     /// The readings next to an instant.
     pub fn place(&self, at: Second) -> Place
         ensures { IsPlace self.now.list at result }
     {
-        let around = part_at(self.list.as_slice(), at);
+        let around = self.kept.parts(at);
         Place {
             before: around.before.last().copied(),
-            here: around.here.first().copied(),
+            here: around.here.copied(),
             after: around.after.first().copied(),
         }
     }
@@ -84,8 +84,8 @@ impl Readings {
         ensures changed { result ≡ true → window a b (pos (60 * gap)) (put reading self.now.list) ≢ window a b (pos (60 * gap)) self.now.list }
         ensures same { result ≡ false → window a b (pos (60 * gap)) (put reading self.now.list) ≡ window a b (pos (60 * gap)) self.now.list }
     {
-        let around = part_at(self.list.as_slice(), reading.at);
-        if holds(around.here, &reading) {
+        let around = self.kept.parts(reading.at);
+        if is_same(around.here.copied(), reading) {
             return false;
         }
         if reading.at < a {
@@ -97,13 +97,16 @@ impl Readings {
         }
     }
 
-    /// Makes room for so many readings more. The list stays, also after `NoMemory`.
+    /// Makes room for so many readings more. Where there is room for them already it succeeds, and after `NoMemory` all
+    /// is as before.
     pub fn reserve(&mut self, count: usize) -> Result<(), NoMemory>
         ensures list { self.new.list ≡ self.old.list }
         ensures room { OnOk result (count ≤ self.new.spare) }
         ensures kept { self.old.spare ≤ self.new.spare }
+        ensures succeeds { count ≤ self.old.spare → IsOk result }
+        ensures err { OnErr result (self.new ≡ self.old) }
     {
-        self.list.reserve(count)?;
+        self.kept.reserve(count)?;
         Ok(())
     }
 
@@ -111,24 +114,24 @@ impl Readings {
     pub fn put(&mut self, reading: Reading)
         requires room { 0 < self.old.spare }
         ensures list { self.new.list ≡ put reading self.old.list }
-        ensures room { self.old.spare ≤ self.new.spare + 1 }
+        ensures spare { self.old.spare ≤ self.new.spare + 1 }
+        ensures room { length self.new.list + self.new.spare ≡ length self.old.list + self.old.spare }
     {
-        put_in(&mut self.list, reading);
+        self.kept.put(reading);
     }
 
     /// What the window of the day from `a` to `b` is made of; `gap` is in minutes.
     pub fn window(&self, a: Second, b: Second, gap: u32) -> Window<'_>
         requires { a ≤ℤ b }
         ensures before { result.before ≡ neighbour_before a (pos (60 * gap)) self.now.list }
-        ensures inner { filter is_used result.inner.now ≡ inner a b self.now.list }
+        ensures inner { result.inner.now ≡ of_day a b self.now.list }
         ensures after { result.after ≡ neighbour_after b (pos (60 * gap)) self.now.list }
     {
-        let list = self.list.as_slice();
-        let (early, rest) = list.split_at(count_before(list, a));
-        let (inner, late) = rest.split_at(count_before(rest, b));
+        let (early, _) = self.kept.split_at_key(a);
+        let (_, late) = self.kept.split_at_key(b);
         Window {
             before: lead(early, a, gap),
-            inner,
+            inner: self.kept.between(a, b),
             after: follow(late, b, gap),
         }
     }
@@ -167,67 +170,6 @@ pub fn windows_rise()
     ensures put { (r : Reading) (rs : List Reading) → IsRising rs → IsRising (put r rs) }
     ensures window { (a b gap : ℤ) (rs : List Reading) → IsRising rs → IsRising (window a b gap rs) }
 {}
-
-/// The readings before an instant, at it and after it.
-#[derive(Clone, Copy)]
-struct Parts<'a> {
-    before: &'a [Reading],
-    here: &'a [Reading],
-    after: &'a [Reading],
-}
-
-/// The parts of a list about an instant.
-fn part_at(list: &[Reading], at: Second) -> Parts<'_>
-    requires { IsRising list.now }
-    ensures before { result.before.now ≡ before_instant at list.now }
-    ensures here { result.here.now ≡ at_instant at list.now }
-    ensures after { result.after.now ≡ after_instant at list.now }
-{
-    let (before, rest) = list.split_at(count_before(list, at));
-    let (here, after) = rest.split_at(count_to(rest, at));
-    Parts {
-        before,
-        here,
-        after,
-    }
-}
-
-/// How many readings stand before an instant.
-fn count_before(list: &[Reading], at: Second) -> usize
-    requires { IsRising list.now }
-    ensures within { result ≤ length list.now }
-    ensures front { take result list.now ≡ before_instant at list.now }
-    ensures back { drop result list.now ≡ from_instant at list.now }
-{
-    list.partition_point(|r| r.at < at)
-}
-
-/// How many readings stand before an instant or at it.
-fn count_to(list: &[Reading], at: Second) -> usize
-    requires { IsRising list.now }
-    ensures within { result ≤ length list.now }
-    ensures front { take result list.now ≡ to_instant at list.now }
-    ensures back { drop result list.now ≡ after_instant at list.now }
-{
-    list.partition_point(|r| r.at <= at)
-}
-
-/// Puts a reading among those of a rising list that has room for one more.
-fn put_in(list: &mut Vec<Reading>, reading: Reading)
-    requires rising { IsRising list.old.items }
-    requires room { vec_len list.old < vec_capacity list.old }
-    ensures items { list.new.items ≡ put reading list.old.items }
-    ensures rising { IsRising list.new.items }
-    ensures length { vec_len list.new ≤ vec_len list.old + 1 }
-    ensures capacity { vec_capacity list.new ≡ vec_capacity list.old }
-{
-    let place = count_before(list, reading.at);
-    if place < list.len() && list[place].at == reading.at {
-        list[place] = reading;
-        return;
-    }
-    list.insert(place, reading).unwrap();
-}
 
 /// The last reading that is used.
 fn last_used(list: &[Reading]) -> Option<Reading>
@@ -268,12 +210,15 @@ fn push_some(list: &mut Vec<Reading>, reading: Option<Reading>) -> Result<(), No
     Ok(())
 }
 
-/// Whether a reading is one of a list.
-fn holds(list: &[Reading], reading: &Reading) -> bool
-    ensures there { result ≡ true → Contains list.now reading.now }
-    ensures other { result ≡ false → All (λ s. s ≢ reading.now) list.now }
+/// Whether a reading was found, and it is the same as another one.
+fn is_same(found: Option<Reading>, reading: Reading) -> bool
+    ensures there { result ≡ true → found ≡ Some reading }
+    ensures other { result ≡ false → found ≢ Some reading }
 {
-    list.contains(reading)
+    match found {
+        Some(kept) => kept == reading,
+        None => false,
+    }
 }
 
 /// The last used reading of those before an instant, where it is near enough.

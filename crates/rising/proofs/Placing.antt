@@ -251,7 +251,7 @@ module _ {X : Type 0} (place : X → ℤ) where
   at_kept : (n m : ℤ) (p : X → Bool) → ((x : X) → place x ≡ n → p x ≡ true) → (xs : List X) → at place n (filter p xs) ≡ at place n xs
   at_kept n m p h xs = at_filter n p (λ x e. h x ((Decides-int_eq (place x) n).0 e)) xs
 
-  passed_over : (n : ℤ) (x : X) (xs : List X) → (place x ≡ n → ⊥) → at place n (x ∷ xs) ≡ at place n xs
+  pub passed_over : (n : ℤ) (x : X) (xs : List X) → (place x ≡ n → ⊥) → at place n (x ∷ xs) ≡ at place n xs
   passed_over n x xs ne = let f : int_eq (place x) n ≡ false = is_other (place x) n ne in rw f refl
 
   behind_all : (k n : ℤ) (xs : List X) → n ≤ℤ k → All (IsAfter place n) (after place k xs)

@@ -115,6 +115,7 @@ impl<T: Keyed> RisingList<T> {
         ensures before { result.before.now ≡ before T.place (T.number key) self.now.list }
         ensures here { option_map (λ r. r.now) result.here ≡ at T.place (T.number key) self.now.list }
         ensures after { result.after.now ≡ after T.place (T.number key) self.now.list }
+        ensures rising { IsRising T.place self.now.list }
     {
         let list = self.list.as_slice();
         let place = count_before(list, key);

@@ -1,14 +1,13 @@
 -- Readings are the same where each of their parts is.
-use Rattle.std.specs.Prelude.{◌≡◌, ◌≢◌, ◌&&◌, Bool, All, Contains, List}
+use Rattle.std.specs.Prelude.{◌≡◌, ◌&&◌, Bool, Some}
 use Rattle.std.specs.Bool.{Decides}
-use Rattle.std.proofs.Common.{refl, ap, int_eq, rules, subst}
+use Rattle.std.proofs.Common.{refl, ap, int_eq, rules}
 use Rattle.std.proofs.lemmas.Bool.Decides.{Decides-int_eq, Decides-and, Decides-like, not_from_Decides}
-use Rattle.std.proofs.lemmas.List.Elements.{contains_decides, Decides-contains, Contains-get_or}
 use denote.Enum.Bare.{sameb, same_true, true_same}
 use Rattle.fixed_units.specs.contracts.readings.Flag.{the_type}
 use Rattle.fixed_units.specs.declared.readings.Flag.{Flag}
 use Rattle.fixed_units.specs.declared.readings.Reading.{Reading}
-use Rattle.readings.proofs.lists.holds.Goals as goal
+use Rattle.readings.proofs.lists.is_same.Goals as goal
 
 abbrev is_same : Reading → Reading → Bool
 is_same r s = int_eq r.at s.at && (int_eq r.raw s.raw && sameb the_type r.flag s.flag)
@@ -28,18 +27,3 @@ readings_decide r s =
     (λ e. (ap (λ (x : Reading). x.at) e, (ap (λ (x : Reading). x.raw) e, ap (λ (x : Reading). x.flag) e)))
     (Decides-and (int_eq r.at s.at) (int_eq r.raw s.raw && sameb the_type r.flag s.flag) (Decides-int_eq r.at s.at)
     (Decides-and (int_eq r.raw s.raw) (sameb the_type r.flag s.flag) (Decides-int_eq r.raw s.raw) (flags_decide r.flag s.flag)))
-
-decided : (c : goal.After-contains) → Decides c.contains.result (Contains c.args.list.now c.args.reading.now)
-decided c =
-    Decides-contains c.args.list.now c.args.reading.now c.contains.result
-    (contains_decides is_same readings_decide c.args.list.now c.args.reading.now c.contains.result c.contains.ensures.cases)
-
-other : (r : Reading) (rs : List Reading) → (Contains rs r → ⊥) → All (λ s. s ≢ r) rs
-other r rs h = λ k d l e. h (subst (λ (s : Reading). Contains rs s) e (Contains-get_or rs k d l))
-
-pub returns-clause-there : goal.returns-clause-there
-returns-clause-there c = (decided c).0
-
-pub returns-clause-other : goal.returns-clause-other
-returns-clause-other c h =
-    other c.args.reading.now c.args.list.now (not_from_Decides c.contains.result (decided c) h)

@@ -72,16 +72,16 @@ impl<D: Disk> Office<D> {
     /// Opens an office on the journal of its edits, and accepts them again. A refusal gives the disk back. Nothing is
     /// written, and what was not yet safe from a stop is safe then.
     pub fn open(alloc: Global, disk: D, limits: Limits) -> Result<Office<D>, OpenRefused<D>>
-        ensures opened { IfOk result (IsOpened D.content D.may_leave disk) }
+        ensures opened { IfOk result (IsOpened disk) }
         ensures few { IfOk result (λ office. office.station.edits ≤ 2 ^ 63) }
         ensures limit { IfOk result (λ office. office.journal.limit ≡ limits.journal_bytes) }
         ensures same { IfOk result (λ office. IsUnchanged (D.content disk) (D.content office.journal.disk)) }
         ensures durable { IfOk result (λ office. IsDurable (D.content disk) (D.may_leave office.journal.disk)) }
-        ensures any_moment { IfOk result (λ office. LeavesOnly D.moment D.left_since disk office.journal.disk (D.may_leave disk)) }
+        ensures any_moment { IfOk result (λ office. LeavesOnly D.Disk disk office.journal.disk (D.may_leave disk)) }
         ensures counted { IfOk result (λ office. D.faults disk ≤ D.faults office.journal.disk) }
         ensures refused { IfErr result (λ refused. IsNotOpened (D.content disk) refused.fault (D.faults disk) (D.faults refused.disk)) }
         ensures refused_same { IfErr result (λ refused. IsUnchanged (D.content disk) (D.content refused.disk)) }
-        ensures refused_any_moment { IfErr result (λ refused. LeavesOnly D.moment D.left_since disk refused.disk (D.may_leave disk)) }
+        ensures refused_any_moment { IfErr result (λ refused. LeavesOnly D.Disk disk refused.disk (D.may_leave disk)) }
         ensures refused_counted { IfErr result (λ refused. D.faults disk ≤ D.faults refused.disk) }
     {
         let mut opening = journal::open(alloc, disk)?;
@@ -125,12 +125,12 @@ impl<D: Disk> Office<D> {
     pub fn edit(&mut self, what: What) -> Result<u64, Refusal>
         requires lawful { IsWhat what }
         requires room { self.old.station.edits < 2 ^ 64 - 1 }
-        ensures edited { (told : Bool) (events : List Event) → Stands D.content D.may_leave told events self.old
-            → Edits D.content D.may_leave told self.old.journal.limit events what self.new result }
-        ensures full { (told : Bool) (events : List Event) → Stands D.content D.may_leave told events self.old → IsFull self.old.journal.limit events what
+        ensures edited { (told : Bool) (events : List Event) → Stands told events self.old
+            → Edits told self.old.journal.limit events what self.new result }
+        ensures full { (told : Bool) (events : List Event) → Stands told events self.old → IsFull self.old.journal.limit events what
             → (result ≡ Err Refusal.JournalFull) ⊎ (result ≡ Err Refusal.NoMemory) }
-        ensures any_moment { (events : List Event) → Stands D.content D.may_leave true events self.old
-            → LeavesOnly D.moment D.left_since self.old.journal.disk self.new.journal.disk (StandsForEdits (accepted events) (in_flight (doubt events) what)) }
+        ensures any_moment { (events : List Event) → Stands true events self.old
+            → LeavesOnly D.Disk self.old.journal.disk self.new.journal.disk (StandsForEdits (accepted events) (in_flight (doubt events) what)) }
         ensures cause { (in_doubt : Bool) → result ≡ Err (Refusal.JournalFault in_doubt)
             → (self.old.journal.in_doubt ≡ true) ⊎ Rose (D.faults self.old.journal.disk) (D.faults self.new.journal.disk) }
         ensures calls { Lists (D.content self.old.journal.disk) (D.calls self.old.journal.disk) (D.calls self.new.journal.disk) (D.faults self.new.journal.disk)
@@ -169,8 +169,8 @@ impl<D: Disk> Office<D> {
     /// Computes and publishes the first day that awaits a computation, and gives it; `None` where none does. After
     /// `NoMemory` the history is as before.
     pub fn turn(&mut self) -> Result<Option<Day>, NoMemory>
-        ensures ok { IfOk result (λ day. (told : Bool) (events : List Event) → Stands D.content D.may_leave told events self.old
-            → (day ≡ next_day events) × Stands D.content D.may_leave told (after_turn events) self.new) }
+        ensures ok { IfOk result (λ day. (told : Bool) (events : List Event) → Stands told events self.old
+            → (day ≡ next_day events) × Stands told (after_turn events) self.new) }
         ensures journal { self.new.journal ≡ self.old.journal }
         ensures edits { self.new.station.edits ≡ self.old.station.edits }
         ensures err { OnErr result (self.new ≡ self.old) }
@@ -182,8 +182,8 @@ impl<D: Disk> Office<D> {
     /// doubt, and so is whatever a stop may leave.
     pub fn close(self) -> D
         ensures disk { result ≡ self.journal.disk }
-        ensures now { (events : List Event) → Stands D.content D.may_leave true events self → IfSome (D.content result) (StandsForEdits (accepted events) (doubt events)) }
-        ensures images { (events : List Event) → Stands D.content D.may_leave true events self
+        ensures now { (events : List Event) → Stands true events self → IfSome (D.content result) (StandsForEdits (accepted events) (doubt events)) }
+        ensures images { (events : List Event) → Stands true events self
             → (image : List ℕ) → D.may_leave result image → StandsForEdits (accepted events) (doubt events) image }
     {
         self.journal.close()

@@ -16,7 +16,7 @@ use Rattle.wire.specs.Messages.{Request, request_of}
 use Rattle.streamoffice.specs.Answering.{Answered}
 use Rattle.streamoffice.specs.Output.{asked, IsReply, AreReplies}
 use Rattle.streamoffice.specs.Passing.{Passes}
-use Rattle.streamoffice.specs.Served.{AreWritten}
+use Rattle.devices.specs.Sinks.{AreWritten}
 use Rattle.streamoffice.specs.Session.{IsServed, IsReadTo, IsUnderWay, GoesOn}
 use Rattle.streamoffice.specs.declared.sessions.SessionEnd.{SessionEnd}
 use Rattle.streamoffice.specs.declared.sessions.SessionEnd.TheVariants as ends

@@ -6,7 +6,7 @@ use Rattle.devices.specs.Faults.{Rose}
 use Rattle.journal.specs.JournalBytes.{HasHeader, IsDamagedAt, IsTaken, IsForeign}
 use Rattle.wire.specs.Messages.{Request, AreRequests, IsMalformed}
 use Rattle.streamoffice.specs.Places.{HasKept, bytes_found}
-use Rattle.streamoffice.specs.Served.{IsCutShort}
+use Rattle.devices.specs.Sinks.{IsCutShort}
 use Rattle.streamoffice.specs.Making.{IsMakingEnd, Makes}
 use Rattle.streamoffice.specs.Serving.{ServesUnder}
 use Rattle.streamoffice.specs.Endings.{status_of, line_of}

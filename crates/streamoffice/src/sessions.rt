@@ -8,11 +8,11 @@ ghost use Rattle.office.specs.Stands.{Stands};
 ghost use Rattle.devices.specs.Faults.{Rose};
 ghost use Rattle.streamoffice.specs.Answering.{Answered, IsLawful};
 ghost use Rattle.streamoffice.specs.Passing.{Passes};
-ghost use Rattle.streamoffice.specs.Served.{AreWritten};
+ghost use Rattle.devices.specs.Sinks.{AreWritten};
 ghost use Rattle.streamoffice.specs.Session.{HasCause, IsServed, IsUnderWay, GoesOn};
 
 use crate::answers::{Texts, answer};
-use devices::{Disk, Put, Sink, Source};
+use devices::{Disk, Sink, Source, put_all};
 use http_api::{Ask, read_ask};
 use office::Office;
 use std::alloc::Global;
@@ -160,20 +160,4 @@ fn reply_on<D: Disk, K: Sink>(
 {
     let told = answer(office, ask, texts);
     put_all(sink, texts.bytes(told))
-}
-
-/// Puts all bytes, piece by piece; whether the sink took them.
-pub fn put_all<K: Sink>(sink: &mut K, bytes: &[u8]) -> bool
-    ensures written { AreWritten (K.written sink.old) bytes.now (K.written sink.new) result }
-    ensures counted { K.faults sink.old ≤ K.faults sink.new }
-    ensures cause { result ≡ false → Rose (K.faults sink.old) (K.faults sink.new) }
-{
-    let mut rest = bytes;
-    while !rest.is_empty() {
-        match sink.put(rest) {
-            Put::Bytes(count) => rest = &rest[count..],
-            Put::Failed => return false,
-        }
-    }
-    true
 }

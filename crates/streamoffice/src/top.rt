@@ -7,15 +7,15 @@ ghost use Rattle.streamoffice.specs.Endings as endings;
 ghost use Rattle.streamoffice.specs.Endings.{status_of, line_of, usage_line};
 ghost use Rattle.streamoffice.specs.Making.{IsMakingEnd, Makes};
 ghost use Rattle.streamoffice.specs.RunEnds.{IsEarly, RunCause};
-ghost use Rattle.streamoffice.specs.Served.{AreWritten};
+ghost use Rattle.devices.specs.Sinks.{AreWritten};
 ghost use Rattle.streamoffice.specs.Serving.{ServesUnder};
 ghost use Rattle.streamoffice.specs.Top.{IsReported, RunsInit, RunsBatch, IsWellFormed, HasSound, HasRoom};
 ghost use Rattle.streamoffice.specs.Words.{Asked, Init, Batch, IsAsked};
 
 use crate::commands::{RunEnd, make_journal, serve_batch};
-use crate::sessions::{SessionEnd, put_all};
+use crate::sessions::SessionEnd;
 use crate::words::{Command, read_words};
-use devices::{Cabinet, Sink, Source};
+use devices::{Cabinet, Sink, Source, put_all};
 use std::alloc::Global;
 
 /// Runs the command that the words name: `init` makes a journal under a name of the cabinet, and `batch` reads requests

@@ -2,7 +2,7 @@ use Rattle.std.proofs.Common.{subst}
 use Rattle.wire.specs.declared.replies.TheConstants.{MALFORMED_REPLY}
 use Rattle.office.specs.Stands.{Stands}
 use Rattle.streamoffice.specs.Passing.{Passes}
-use Rattle.streamoffice.specs.Served.{AreWritten}
+use Rattle.devices.specs.Sinks.{AreWritten}
 use Rattle.streamoffice.proofs.EndLemmas.{ends_malformed, fails_malformed, ends_at_end, ends_at_fault, ends_at_limit}
 use Rattle.streamoffice.proofs.SessionLemmas.{after_reply, after_skip, answered_by}
 use Rattle.streamoffice.proofs.sessions.serve_next.Goals as goal

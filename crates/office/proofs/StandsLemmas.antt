@@ -6,7 +6,7 @@ use Rattle.records.specs.FirstPath.{IsFirstPath}
 use Rattle.records.specs.Payloads.{encoded}
 use Rattle.records.specs.declared.edits.Record.{Record}
 use Rattle.records.specs.declared.edits.What.{What}
-use Rattle.journal.specs.JournalBytes.{IsJournalOf, StandsFor}
+use Rattle.journal.specs.JournalBytes.{IsJournalOf, HasRecords, StandsFor}
 use Rattle.journal.specs.Keeping.{Holds}
 use Rattle.journal.specs.declared.keeping.Journal.{Journal}
 use Rattle.office.specs.Edits.{IsEncoded}
@@ -15,6 +15,7 @@ use Rattle.office.specs.JournalOfEdits.{AreRecords, IsRecordInDoubt, IsJournalOf
 use Rattle.office.specs.Kept.{Keeps}
 use Rattle.office.specs.Stands.{HoldsEdits, Stands}
 use Rattle.office.specs.declared.records_office.Office.{Office}
+use Rattle.journal.proofs.Stages.{records_stand}
 use Rattle.office.proofs.HistoryLemmas.{accepted-published, doubt-published}
 use Rattle.office.proofs.JournalLemmas.{records_push, encoded_length, size_push}
 
@@ -38,7 +39,7 @@ pub holds_images : {D : Type 0} {g : Ghosts D} (edits : List What) (last : Optio
     (journal : Journal D g) → HoldsEdits edits last journal
     → (image : List ℕ) → g.may_leave journal.disk image → StandsForEdits edits last image
 holds_images edits last journal h image m =
-    stands_for edits h.pieces last h.last image h.records h.last_is (h.holds.images image m)
+    stands_for edits h.pieces last h.last image h.records h.last_is (records_stand h.pieces h.last image (h.holds.images image m))
 
 if_some_weaker : {X : Type 0} (P Q : X → Type 0) (o : Option X) → ((x : X) → P x → Q x) → IfSome o P → IfSome o Q
 if_some_weaker P Q None k h = h
@@ -47,8 +48,8 @@ if_some_weaker P Q (Some x) k h = k x h
 pub holds_now : {D : Type 0} {g : Ghosts D} (edits : List What) (last : Option What)
     (journal : Journal D g) → HoldsEdits edits last journal → IfSome (g.content journal.disk) (StandsForEdits edits last)
 holds_now {g = g} edits last journal h =
-    if_some_weaker (StandsFor h.pieces h.last) (StandsForEdits edits last) (g.content journal.disk)
-    (λ bytes s. stands_for edits h.pieces last h.last bytes h.records h.last_is s) h.holds.now
+    if_some_weaker (HasRecords h.pieces h.last) (StandsForEdits edits last) (g.content journal.disk)
+    (λ bytes s. stands_for edits h.pieces last h.last bytes h.records h.last_is (records_stand h.pieces h.last bytes s)) h.holds.now
 
 -- where there is no doubt, there is none of a record
 none_settled : (o : Option What) → false ≡ is_some o → o ≡ None

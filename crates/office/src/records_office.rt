@@ -4,7 +4,7 @@ ghost use Rattle.std.specs.Prelude.{◌≡◌, ◌⊎◌, ◌+◌, ◌-◌, ◌^
 ghost use Rattle.devices.specs.Disks.{IsUnchanged, IsDurable};
 ghost use Rattle.devices.specs.Faults.{Rose};
 ghost use Rattle.records.specs.Edits.{IsWhat};
-ghost use Rattle.journal.specs.Moments.{LeavesOnly};
+ghost use Rattle.journal.specs.Moments.{LeavesOnly, SyncsFirst, IsContent};
 ghost use Rattle.journal.specs.Writing.{Lists};
 ghost use Rattle.office.specs.History.{Event, accepted, doubt, pending_days, next_day, after_turn};
 ghost use Rattle.office.specs.JournalOfEdits.{IsFull, StandsForEdits};
@@ -19,16 +19,20 @@ use fixed_units::{Day, NoMemory, Text};
 use journal::{AppendFault, Journal, OpenRefused};
 use records::What;
 use std::alloc::Global;
+use thiserror::Error;
 
 /// Why an edit is refused.
-#[derive(Clone, Copy, Debug, PartialEq, Eq)]
+#[derive(Clone, Copy, Debug, PartialEq, Eq, Error)]
 pub enum Refusal {
     /// There was no memory. Nothing has happened.
+    #[error("there was no memory for the edit")]
     NoMemory,
     /// With the edit the journal would pass its limit. Nothing has happened.
+    #[error("with the edit the journal would pass its limit")]
     JournalFull,
     /// The disk failed. Where that leaves the journal in doubt, the edit may stand in it or not, which the next opening
     /// shows, and no edit is accepted until then.
+    #[error("the disk failed; that an edit may stand in the journal is {0}")]
     JournalFault(bool),
 }
 
@@ -77,6 +81,7 @@ impl<D: Disk> Office<D> {
         ensures limit { IfOk result (λ office. office.journal.limit ≡ limits.journal_bytes) }
         ensures same { IfOk result (λ office. IsUnchanged (D.content disk) (D.content office.journal.disk)) }
         ensures durable { IfOk result (λ office. IsDurable (D.content disk) (D.may_leave office.journal.disk)) }
+        ensures synced { IfOk result (λ office. SyncsFirst D.Disk disk office.journal.disk (IsContent (D.content disk))) }
         ensures any_moment { IfOk result (λ office. LeavesOnly D.Disk disk office.journal.disk (D.may_leave disk)) }
         ensures counted { IfOk result (λ office. D.faults disk ≤ D.faults office.journal.disk) }
         ensures refused { IfErr result (λ refused. IsNotOpened (D.content disk) refused.fault (D.faults disk) (D.faults refused.disk)) }

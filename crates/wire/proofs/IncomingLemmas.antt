@@ -280,6 +280,28 @@ needed_ahead rest ahead left n splits unsettled block = (
   omega (arith, length-drop n ahead),
 )
 
+-- the end of a source that tells was found where nothing is left behind bytes that settle nothing
+pub ended_behind : (ahead seen : List ℕ) (left after : Option (List ℕ)) (before now : ℕ) → IsUnsettled seen
+    → Told left after (λ b a. ahead ++ b ≡ seen) → IfSome left (λ b. (now ≡ before) ⊎ IsUnsettled (ahead ++ b))
+ended_behind ahead seen None after before now unsettled told = tt
+ended_behind ahead seen (Some b) None before now unsettled told = absurd told
+ended_behind ahead seen (Some b) (Some a) before now unsettled told = inr (subst IsUnsettled (sym told) unsettled)
+
+-- and else it was not found
+pub ended_never : (ahead : List ℕ) (left : Option (List ℕ)) (before now : ℕ) → now ≡ before
+    → IfSome left (λ b. (now ≡ before) ⊎ IsUnsettled (ahead ++ b))
+ended_never ahead None before now same = tt
+ended_never ahead (Some b) before now same = inl same
+
+-- nor before what came of the rest
+pub ended_joins : (ahead at_hand : List ℕ) (left between : Option (List ℕ)) (before first now : ℕ) → first ≡ before
+    → Told left between (λ b m. ahead ++ b ≡ at_hand ++ m)
+    → IfSome between (λ m. (now ≡ first) ⊎ IsUnsettled (at_hand ++ m)) → IfSome left (λ b. (now ≡ before) ⊎ IsUnsettled (ahead ++ b))
+ended_joins ahead at_hand None between before first now same told ended = tt
+ended_joins ahead at_hand (Some b) None before first now same told ended = absurd told
+ended_joins ahead at_hand (Some b) (Some m) before first now same told ended =
+    ⊎_elim (λ e. inl (e ∙ same)) (λ unsettled. inr (subst IsUnsettled (sym told) unsettled)) ended
+
 -- ---- the limit
 
 -- what is behind the bytes at hand is left

@@ -76,6 +76,11 @@ Answers old before message new after =
 abbrev pub IsTakenAsNeeded : Held → Option (List ℕ) → Option (List ℕ) → Type 0
 IsTakenAsNeeded old before after = IfSome before (λ b. IsSomeAnd after (λ a. IsNeeded (old.ahead ++ b) a))
 
+-- A source that tells what is left is found at its end only where all of it, with the bytes at hand, settles nothing. So
+-- nobody who sends bytes that settle a message, and then waits for what is made of it, is waited for.
+abbrev pub IsEndedAsNeeded : Held → Option (List ℕ) → ℕ → ℕ → Type 0
+IsEndedAsNeeded old left before now = IfSome left (λ b. (now ≡ before) ⊎ IsUnsettled (old.ahead ++ b))
+
 -- no more of a stream is ever taken than may be: where the source tells what is left, the stream from its start is no
 -- longer than that and what is left
 abbrev pub IsWithinLimit : Held → Option (List ℕ) → Option (List ℕ) → Type 0

@@ -65,3 +65,10 @@ HasFault before now fills.More = ⊤
 HasFault before now fills.End = ⊤
 HasFault before now fills.Long = ⊤
 HasFault before now fills.Failed = Rose before now
+
+-- the source was found at its end only where that is told
+abbrev pub KeepsEnds : ℕ → ℕ → Filled → Type 0
+KeepsEnds before now fills.More = now ≡ before
+KeepsEnds before now fills.End = ⊤
+KeepsEnds before now fills.Long = now ≡ before
+KeepsEnds before now fills.Failed = now ≡ before

@@ -4,9 +4,9 @@ ghost use Rattle.std.specs.Prelude.{◌≡◌, ◌≢◌, ◌⊎◌, ℕ, ◌+�
 ghost use Rattle.wire.specs.Messages as messages;
 ghost use Rattle.httparse.specs.Grammar.{RequestHead};
 ghost use Rattle.devices.specs.Sources as sources;
-ghost use Rattle.devices.specs.Sources.{IsTakenWithin, Takes};
-ghost use Rattle.wire.specs.Incoming.{Held, taken, IsNext, Answers, IsUnsettled, IsTakenAsNeeded, IsWithinLimit, Proceeds, HasCause};
-ghost use Rattle.wire.specs.Looking.{IsRequestAt, IsBlankWindow, Looks, IsFilled, Keeps, HasFault};
+ghost use Rattle.devices.specs.Sources.{IsTakenWithin, Takes, IsEndCounted};
+ghost use Rattle.wire.specs.Incoming.{Held, taken, IsNext, Answers, IsUnsettled, IsTakenAsNeeded, IsEndedAsNeeded, IsWithinLimit, Proceeds, HasCause};
+ghost use Rattle.wire.specs.Looking.{IsRequestAt, IsBlankWindow, Looks, IsFilled, Keeps, KeepsEnds, HasFault};
 
 use crate::framing::{Found, Head, find_head};
 use crate::limits::{BLOCK_BYTES, HEAD_BYTES, STREAM_BYTES};
@@ -65,6 +65,7 @@ impl Incoming {
         ensures cause { HasCause (S.faults source.old) (S.faults source.new) result }
         ensures asked { (source.new ≡ source.old) ⊎ IsUnsettled self.old.ahead }
         ensures needed { IsTakenAsNeeded self.old (S.left source.old) (S.left source.new) }
+        ensures ended { IsEndedAsNeeded self.old (S.left source.old) (S.ends source.old) (S.ends source.new) }
     {
         let mut looked = 0;
         loop {
@@ -140,6 +141,7 @@ impl Incoming {
         ensures cause { HasCause (S.faults source.old) (S.faults source.new) result }
         ensures asked { (source.new ≡ source.old) ⊎ (messages.is_blank self.old.ahead ≡ true) }
         ensures needed { IsTakenAsNeeded self.old (S.left source.old) (S.left source.new) }
+        ensures ended { IsEndedAsNeeded self.old (S.left source.old) (S.ends source.old) (S.ends source.new) }
     {
         let begun = self.offset;
         while is_blank(self.held()) {
@@ -171,6 +173,7 @@ impl Incoming {
         ensures limit { taken self.new ≤ STREAM_BYTES }
         ensures counted { S.faults source.old ≤ S.faults source.new }
         ensures cause { HasFault (S.faults source.old) (S.faults source.new) result }
+        ensures ended { KeepsEnds (S.ends source.old) (S.ends source.new) result }
     {
         let held = self.end - self.start;
         let left = STREAM_BYTES - self.offset - held as u64;
@@ -217,6 +220,7 @@ fn take_behind<S: Source>(block: &mut [u8], end: usize, room: usize, source: &mu
     ensures taken { Takes (S.left source.old) (drop end block.new) (S.left source.new) result }
     ensures counted { S.faults source.old ≤ S.faults source.new }
     ensures cause { sources.HasCause (S.faults source.old) (S.faults source.new) result }
+    ensures ended { IsEndCounted (S.ends source.old) (S.ends source.new) result }
 {
     source.take(&mut block[end..end + room])
 }

@@ -1,6 +1,6 @@
-use Rattle.std.proofs.Common.{◌≡◌, ℕ, ◌+◌, ◌^◌, ◌<◌, ◌≤◌, List, [], ◌++◌, length, take, refl, sym, ap, ◌∙◌, subst, arith, inl, inr, ⊎_elim}
+use Rattle.std.proofs.Common.{◌≡◌, ℕ, ◌+◌, ◌^◌, ◌≤◌, List, [], ◌++◌, length, take, refl, sym, ap, ◌∙◌, subst, arith, append-nil, inl, inr, ⊎_elim}
 use Rattle.wire.specs.Incoming.{Held, IsNext, IsUnsettled, IsUnread, IsNeeded, Stays}
-use Rattle.wire.proofs.IncomingLemmas.{told_self, told_maps, told_joins, blank_unsettled, was_unsettled, unread_ahead, needed_unread, needed_ahead, within_rest}
+use Rattle.wire.proofs.IncomingLemmas.{told_self, told_maps, told_joins, blank_unsettled, ended_behind, ended_never, ended_joins, was_unsettled, unread_ahead, needed_unread, needed_ahead, within_rest}
 use Rattle.wire.proofs.incoming.Incoming.next.Goals as goal
 
 pub loop-head-init : goal.loop-head-init
@@ -12,6 +12,7 @@ loop-head-init g c = record {
   looked = omega arith;
   unsettled = blank_unsettled [] refl;
   counted = omega arith;
+  ended = refl;
   asked = inl (refl, refl);
 }
 
@@ -55,6 +56,7 @@ loop-head-preserved g c =
       looked = omega (arith, ap length c.held-looked.ensures.held, grown.more);
       unsettled = subst IsUnsettled (sym front) unsettled;
       counted = omega (arith, c.loop-head.invariant.counted, c.fill.ensures.counted);
+      ended = c.in-More.ensures.ended ∙ c.loop-head.invariant.ended;
       asked = inr (was_unsettled old.ahead now.ahead _ unsettled c.loop-head.invariant.asked);
     }
 
@@ -259,3 +261,34 @@ returns-in-Failed-clause-needed g c =
     (λ b m. old.ahead ++ b ≡ now.ahead ++ m) (λ m a. a ≡ m) (λ b a. IsNeeded (old.ahead ++ b) a)
     (λ b m a p q. needed_unread (old.ahead ++ b) now.ahead a m p q unsettled)
     c.loop-head.invariant.rest c.in-Failed.ensures.kept
+
+pub returns-in-Request-clause-ended : goal.returns-in-Request-clause-ended
+returns-in-Request-clause-ended g c = ended_never c.args.self.now.ahead (g.S.Source.left c.args.source.now) _ _ c.loop-head.invariant.ended
+
+pub returns-in-Malformed-clause-ended : goal.returns-in-Malformed-clause-ended
+returns-in-Malformed-clause-ended g c = ended_never c.args.self.now.ahead (g.S.Source.left c.args.source.now) _ _ c.loop-head.invariant.ended
+
+pub returns-in-Blank-clause-ended : goal.returns-in-Blank-clause-ended
+returns-in-Blank-clause-ended g c =
+    ended_joins c.args.self.now.ahead c.loop-head.self.ahead (g.S.Source.left c.args.source.now) (g.S.Source.left c.loop-head.source) _ _ _
+    c.loop-head.invariant.ended c.loop-head.invariant.rest c.skip_blank.ensures.ended
+
+pub returns-in-End-clause-ended : goal.returns-in-End-clause-ended
+returns-in-End-clause-ended g c =
+    let old = c.args.self.now in
+    let now = c.loop-head.self in
+    let unsettled : IsUnsettled now.ahead = subst IsUnsettled c.held.ensures.held c.in-Unfinished.ensures.1 in
+    let left = g.S.Source.left in
+    ended_behind old.ahead now.ahead (left c.args.source.now) (left c.fill.new.source) _ _ unsettled
+    (told_joins (left c.args.source.now) (left c.loop-head.source) (left c.fill.new.source)
+    (λ b m. old.ahead ++ b ≡ now.ahead ++ m) (λ m a. (m ≡ []) × (a ≡ [])) (λ b a. old.ahead ++ b ≡ now.ahead)
+    (λ b m a p q. p ∙ ap (λ (xs : List ℕ). now.ahead ++ xs) q.0 ∙ append-nil now.ahead)
+    c.loop-head.invariant.rest c.in-End.ensures.kept)
+
+pub returns-in-Long-clause-ended : goal.returns-in-Long-clause-ended
+returns-in-Long-clause-ended g c =
+    ended_never c.args.self.now.ahead (g.S.Source.left c.args.source.now) _ _ (c.in-Long.ensures.ended ∙ c.loop-head.invariant.ended)
+
+pub returns-in-Failed-clause-ended : goal.returns-in-Failed-clause-ended
+returns-in-Failed-clause-ended g c =
+    ended_never c.args.self.now.ahead (g.S.Source.left c.args.source.now) _ _ (c.in-Failed.ensures.ended ∙ c.loop-head.invariant.ended)

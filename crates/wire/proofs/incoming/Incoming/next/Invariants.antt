@@ -11,6 +11,7 @@ invariant-loop-head g l = record {
   looked : l.looked ≤ length l.self.ahead;
   unsettled : IsUnsettled (take l.looked l.self.ahead);
   counted : g.S.Source.faults l.fn.source ≤ g.S.Source.faults l.source;
+  ended : g.S.Source.ends l.source ≡ g.S.Source.ends l.fn.source;
   asked : ((l.source ≡ l.fn.source) × (l.self.ahead ≡ l.fn.self.ahead)) ⊎ IsUnsettled l.fn.self.ahead;
 }
 

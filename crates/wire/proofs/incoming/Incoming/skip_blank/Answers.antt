@@ -1,8 +1,8 @@
-use Rattle.std.proofs.Common.{◌≡◌, ℕ, ◌+◌, ◌-◌, ◌^◌, ◌≤◌, true, false, List, [], ◌++◌, length, drop, refl, sym, ap, ◌∙◌, subst, arith, append_assoc, length-append, inl, inr, ⊎_elim}
+use Rattle.std.proofs.Common.{◌≡◌, ℕ, ◌+◌, ◌-◌, ◌^◌, ◌≤◌, true, false, List, [], ◌++◌, length, drop, refl, sym, ap, ◌∙◌, subst, arith, append_assoc, append-nil, length-append, inl, inr, ⊎_elim}
 use Rattle.std.proofs.lemmas.List.{length-take}
 use Rattle.wire.specs.Incoming.{Held, taken, IsUnread, IsNeeded, Stays}
 use Rattle.wire.specs.Messages.{is_blank, IsMalformed}
-use Rattle.wire.proofs.IncomingLemmas.{told_self, told_maps, told_joins, blank-append, blank_window_more, blank_unsettled, malformed_behind, needed_unread, unread_blank, was_blank, within_skipped}
+use Rattle.wire.proofs.IncomingLemmas.{told_self, told_maps, told_joins, blank-append, blank_window_more, blank_unsettled, ended_behind, ended_never, malformed_behind, needed_unread, unread_blank, was_blank, within_skipped}
 use Rattle.wire.proofs.incoming.Incoming.skip_blank.Goals as goal
 
 pub loop-self-init : goal.loop-self-init
@@ -23,6 +23,7 @@ loop-self-init g c =
       begun = ap (λ (h : Held). h.offset) c.self.view_is;
       limit = omega (arith, c.self.invariant.limit, ap (λ (h : Held). length h.ahead) c.self.view_is, ap (λ (h : Held). h.offset) c.self.view_is, length-take (end - start) (drop start c.self.inside.block.items));
       counted = omega arith;
+      ended = refl;
       asked = inl (refl, refl);
     }
 
@@ -56,6 +57,7 @@ loop-self-preserved g c =
       begun = c.loop-self.invariant.begun;
       limit = c.fill.ensures.limit;
       counted = omega (arith, c.loop-self.invariant.counted, c.fill.ensures.counted);
+      ended = c.in-More.ensures.ended ∙ c.loop-self.invariant.ended;
       asked = inr (was_blank old.ahead now.ahead _ blank c.loop-self.invariant.asked);
     }
 
@@ -250,3 +252,29 @@ returns-clause-needed g c =
     (λ b a. old.ahead ++ b ≡ so_far.0 ++ (now.ahead ++ a)) (λ b a. IsNeeded (old.ahead ++ b) a)
     (λ b a p. (so_far.0, now.ahead, (p, blank_unsettled so_far.0 so_far.2), c.held.ensures.block))
     so_far.4
+
+pub returns-in-End-clause-ended : goal.returns-in-End-clause-ended
+returns-in-End-clause-ended g c =
+    let old = c.args.self.now in
+    let now = c.loop-self.self in
+    let so_far = c.loop-self.invariant.skipped in
+    let blank : is_blank now.ahead ≡ true = ap is_blank (sym c.held.ensures.held) ∙ sym c.loop-self-test.ensures in
+    let seen : List ℕ = so_far.0 ++ now.ahead in
+    let left = g.S.Source.left in
+    ended_behind old.ahead seen (left c.args.source.now) (left c.fill.new.source) _ _
+    (blank_unsettled seen (blank-append so_far.0 now.ahead so_far.2 blank))
+    (told_joins (left c.args.source.now) (left c.loop-self.source) (left c.fill.new.source)
+    (λ b m. old.ahead ++ b ≡ so_far.0 ++ (now.ahead ++ m)) (λ m a. (m ≡ []) × (a ≡ [])) (λ b a. old.ahead ++ b ≡ seen)
+    (λ b m a p q. p ∙ ap (λ (xs : List ℕ). so_far.0 ++ (now.ahead ++ xs)) q.0 ∙ ap (λ (xs : List ℕ). so_far.0 ++ xs) (append-nil now.ahead))
+    so_far.4 c.in-End.ensures.kept)
+
+pub returns-in-Long-clause-ended : goal.returns-in-Long-clause-ended
+returns-in-Long-clause-ended g c =
+    ended_never c.args.self.now.ahead (g.S.Source.left c.args.source.now) _ _ (c.in-Long.ensures.ended ∙ c.loop-self.invariant.ended)
+
+pub returns-in-Failed-clause-ended : goal.returns-in-Failed-clause-ended
+returns-in-Failed-clause-ended g c =
+    ended_never c.args.self.now.ahead (g.S.Source.left c.args.source.now) _ _ (c.in-Failed.ensures.ended ∙ c.loop-self.invariant.ended)
+
+pub returns-clause-ended : goal.returns-clause-ended
+returns-clause-ended g c = ended_never c.args.self.now.ahead (g.S.Source.left c.args.source.now) _ _ c.loop-self.invariant.ended

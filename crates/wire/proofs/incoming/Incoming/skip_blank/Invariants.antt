@@ -16,6 +16,7 @@ invariant-loop-self g l = record {
   begun : l.begun ≡ l.fn.self.offset;
   limit : l.self.offset + length l.self.ahead ≤ 2 ^ 36;
   counted : g.S.Source.faults l.fn.source ≤ g.S.Source.faults l.source;
+  ended : g.S.Source.ends l.source ≡ g.S.Source.ends l.fn.source;
   asked : ((l.source ≡ l.fn.source) × (l.self.ahead ≡ l.fn.self.ahead)) ⊎ (is_blank l.fn.self.ahead ≡ true);
 }
 

@@ -1,5 +1,6 @@
 pub mod DecimalLemmas
 pub mod DigitLemmas
+pub mod LineLemmas
 pub mod NearestLemmas
 pub mod PublishLemmas
 pub mod PublishedLemmas

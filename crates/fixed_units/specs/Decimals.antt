@@ -4,6 +4,7 @@ use Rattle.std.specs.Prelude.{ℕ, ◌-◌, ◌*◌, ◌^◌, Bool, ◌&&◌, �
 use Rattle.std.specs.List.{list_all, before_first, after_first}
 use Rattle.std.specs.Char.{is_ascii_digit}
 use Rattle.std.specs.Str.Parse.{digits_value, starts_with_minus, without_leading_sign}
+use Rattle.fixed_units.specs.Quantities.{most_stated}
 use Rattle.fixed_units.specs.declared.decimals.Bad.{Bad}
 use Rattle.fixed_units.specs.declared.decimals.Bad.TheVariants.{NotANumber, TooManyDecimals, OutOfRange}
 
@@ -37,5 +38,5 @@ abbrev pub decimal_of : List ℕ → Result ℤ Bad
 decimal_of text =
     if not (is_decimal text) then Err NotANumber
     else (if nat_lt 6 (length (fraction_part text)) then Err TooManyDecimals
-    else (if nat_lt (10 ^ 13) (millionths text) then Err OutOfRange
+    else (if nat_lt most_stated (millionths text) then Err OutOfRange
     else Ok (with_sign_of text (millionths text))))

@@ -1,4 +1,5 @@
 pub mod Decimals
+pub mod Lines
 pub mod Published
 pub mod PublishedText
 pub mod Quantities

@@ -3,16 +3,20 @@
 #![tactic(auto)]
 
 pub mod decimals;
+pub mod lines;
 pub mod published;
 pub mod quantities;
+pub mod ranges;
 pub mod readings;
 pub mod rounding;
 pub mod rounding_array;
 pub mod texts;
 
 pub use decimals::{Bad, read_decimal};
+pub use lines::line_at;
 pub use published::{Published, publish, write_hundredths, write_micro, write_published};
-pub use quantities::{Day, Micro, Second, Site};
+pub use quantities::{Day, FIRST_DAY, LAST_DAY, Micro, Second, Site};
+pub use ranges::{is_amount, is_discharge, is_stage, is_stamp};
 pub use readings::{Flag, Reading};
 pub use rounding::div_half_away;
 pub use rounding_array::RoundingArray;

@@ -2,6 +2,7 @@
 
 ghost use Rattle.std.specs.Prelude.{◌≡◌, ℕ, List, Ok, ◌-◌, ◌*◌, ◌^◌, ◌<◌, ◌≤◌, ◌++◌, ℤ, pos, neg_ℤ, ◌*ℤ◌, ◌≤ℤ◌, ◌<ℤ◌, unsigned_abs, length, take, replicate, OnOk, OnErr};
 ghost use Rattle.fixed_units.specs.Decimals.{decimal_of};
+ghost use Rattle.fixed_units.specs.Quantities.{most_millionths, most_stated};
 ghost use Rattle.fixed_units.specs.Published.{IsPublished, whole_digits, round_off, left_out, shown, published, published_digits};
 ghost use Rattle.fixed_units.specs.declared.published.Published.{Published};
 ghost use Rattle.fixed_units.specs.PublishedText.{with_zeros, decimals_text, pointed_text, sign_text, published_text, micro_text, hundredths_text};
@@ -26,25 +27,27 @@ pub struct Published {
 pub fn publish(num: i128, den: i128, array: &RoundingArray) -> Published
     requires positive { pos 0 <ℤ den }
     requires narrow { den ≤ℤ pos (10 ^ 9) }
-    requires low { neg_ℤ (den *ℤ pos (10 ^ 17)) ≤ℤ num }
-    requires high { num ≤ℤ (den *ℤ pos (10 ^ 17)) }
+    requires low { neg_ℤ (den *ℤ pos most_millionths) ≤ℤ num }
+    requires high { num ≤ℤ (den *ℤ pos most_millionths) }
     ensures nearest { IsPublished array.now num den result }
     ensures value { result ≡ published array.now num den }
 {
     publish_digits(num, den, array, whole_digits(num, den))
 }
 
-/// No fraction has two published values by one array.
-pub fn published_value_is_unique()
-    ensures { (array : List ℕ) (num den : ℤ) (v w : Published) → pos 0 <ℤ den → IsPublished array num den v → IsPublished array num den w → v ≡ w }
+/// Each fraction in range has exactly one published value by an array, and it is what `published` computes.
+pub fn published_values()
+    ensures value { (array : List ℕ) (num den : ℤ) → pos 0 <ℤ den → neg_ℤ (den *ℤ pos most_millionths) ≤ℤ num → num ≤ℤ (den *ℤ pos most_millionths)
+        → IsPublished array num den (published array num den) }
+    ensures unique { (array : List ℕ) (num den : ℤ) (v w : Published) → pos 0 <ℤ den → IsPublished array num den v → IsPublished array num den w → v ≡ w }
 {}
 
 /// The published value of a magnitude of so many digits of whole millionths.
 fn publish_digits(num: i128, den: i128, array: &RoundingArray, digits: u32) -> Published
     requires positive { pos 0 <ℤ den }
     requires narrow { den ≤ℤ pos (10 ^ 9) }
-    requires low { neg_ℤ (den *ℤ pos (10 ^ 17)) ≤ℤ num }
-    requires high { num ≤ℤ (den *ℤ pos (10 ^ 17)) }
+    requires low { neg_ℤ (den *ℤ pos most_millionths) ≤ℤ num }
+    requires high { num ≤ℤ (den *ℤ pos most_millionths) }
     requires digits { digits ≤ 18 }
     ensures { result ≡ published_digits array.now digits num den }
 {
@@ -61,8 +64,8 @@ fn publish_digits(num: i128, den: i128, array: &RoundingArray, digits: u32) -> P
 /// How many digits the whole millionths of a magnitude have.
 fn whole_digits(num: i128, den: i128) -> u32
     requires positive { pos 0 <ℤ den }
-    requires low { neg_ℤ (den *ℤ pos (10 ^ 17)) ≤ℤ num }
-    requires high { num ≤ℤ (den *ℤ pos (10 ^ 17)) }
+    requires low { neg_ℤ (den *ℤ pos most_millionths) ≤ℤ num }
+    requires high { num ≤ℤ (den *ℤ pos most_millionths) }
     ensures value { result ≡ whole_digits num den }
     ensures bound { result ≤ 18 }
 {
@@ -75,11 +78,11 @@ fn round_off(off: u32, num: i128, den: i128) -> i64
     requires off { off ≤ 17 }
     requires positive { pos 0 <ℤ den }
     requires narrow { den ≤ℤ pos (10 ^ 9) }
-    requires low { neg_ℤ (den *ℤ pos (10 ^ 17)) ≤ℤ num }
-    requires high { num ≤ℤ (den *ℤ pos (10 ^ 17)) }
+    requires low { neg_ℤ (den *ℤ pos most_millionths) ≤ℤ num }
+    requires high { num ≤ℤ (den *ℤ pos most_millionths) }
     ensures value { result ≡ round_off off num den }
-    ensures low { neg_ℤ (pos (10 ^ 17)) ≤ℤ result }
-    ensures high { result ≤ℤ pos (10 ^ 17) }
+    ensures low { neg_ℤ (pos most_millionths) ≤ℤ result }
+    ensures high { result ≤ℤ pos most_millionths }
 {
     let power = 10_i128.pow(off);
     (div_half_away(num, den * power) * power) as i64
@@ -151,9 +154,9 @@ pub fn write_hundredths(value: i64, out: &mut Text) -> Result<(), NoMemory>
 
 /// What is written of at most six decimals and a magnitude of at most 10,000,000 is read back as it was.
 pub fn written_values_are_read()
-    ensures values { (v : Published) → v.places ≤ 6 → unsigned_abs v.units * 10 ^ (6 - v.places) ≤ 10 ^ 13 →
+    ensures values { (v : Published) → v.places ≤ 6 → unsigned_abs v.units * 10 ^ (6 - v.places) ≤ most_stated →
         decimal_of (published_text v) ≡ Ok (v.units *ℤ pos (10 ^ (6 - v.places))) }
-    ensures quantities { (millionths : ℤ) → unsigned_abs millionths ≤ 10 ^ 13 → decimal_of (micro_text millionths) ≡ Ok millionths }
+    ensures quantities { (millionths : ℤ) → unsigned_abs millionths ≤ most_stated → decimal_of (micro_text millionths) ≡ Ok millionths }
 {}
 
 /// Two published values of at most 64 bits that have one text are one.

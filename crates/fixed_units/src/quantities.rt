@@ -1,9 +1,21 @@
 //! The numbers that every layer above speaks of: amounts in millionths, instants, days and sites.
 
 ghost use Rattle.std.specs.Prelude.{◌≡◌, ◌^◌, ◌<◌, ◌≤◌, ◌↔◌, ℤ, pos, neg_ℤ, ◌≤ℤ◌, IsSome, IfSome, if◌then◌else◌};
-ghost use Rattle.fixed_units.specs.Quantities.{IsMicro, IsSecond, IsDay, IsSite};
+ghost use Rattle.fixed_units.specs.Quantities.{IsMicro, IsSecond, IsDay, IsSite, most_stated, site_order};
 
 use std::marker::Model;
+
+/// The greatest magnitude of an amount, in millionths.
+const MOST_MILLIONTHS: i64 = 100_000_000_000_000_000;
+
+/// The greatest magnitude of an instant, in seconds.
+const MOST_SECONDS: i64 = 10_000_000_000;
+
+/// The first day of the calendar, 1900-01-01.
+pub const FIRST_DAY: i32 = -25_567;
+
+/// The last day of the calendar, 2099-12-31.
+pub const LAST_DAY: i32 = 47_481;
 
 /// A whole number of millionths of a foot or of a cubic foot per second, from -10^17 to 10^17.
 #[derive(Clone, Copy, Debug, PartialEq, Eq, PartialOrd, Ord)]
@@ -30,7 +42,7 @@ impl Micro {
         ensures range { IsSome result ↔ IsMicro value }
         ensures value { IfSome result (λ m. m ≡ value) }
     {
-        if (-100_000_000_000_000_000..=100_000_000_000_000_000).contains(&value) {
+        if (-MOST_MILLIONTHS..=MOST_MILLIONTHS).contains(&value) {
             Some(Micro { millionths: value })
         } else {
             None
@@ -39,7 +51,7 @@ impl Micro {
 
     /// The quantity of a sign and a magnitude of at most 10^13 millionths.
     pub(crate) fn of_magnitude(negative: bool, magnitude: u64) -> Micro
-        requires { magnitude ≤ 10 ^ 13 }
+        requires { magnitude ≤ most_stated }
         ensures { result ≡ (if negative then neg_ℤ (pos magnitude) else pos magnitude) }
     {
         let value = magnitude as i64;
@@ -82,7 +94,7 @@ impl Second {
         ensures range { IsSome result ↔ IsSecond value }
         ensures value { IfSome result (λ s. s ≡ value) }
     {
-        if (-10_000_000_000..=10_000_000_000).contains(&value) {
+        if (-MOST_SECONDS..=MOST_SECONDS).contains(&value) {
             Some(Second { seconds: value })
         } else {
             None
@@ -123,7 +135,7 @@ impl Day {
         ensures range { IsSome result ↔ IsDay value }
         ensures value { IfSome result (λ d. d ≡ value) }
     {
-        if (-25_567..=47_481).contains(&value) {
+        if (FIRST_DAY..=LAST_DAY).contains(&value) {
             Some(Day { number: value })
         } else {
             None
@@ -188,3 +200,8 @@ impl Site {
         self.value
     }
 }
+
+/// Sites are in the order of their digits, and of as many digits in that of their values.
+pub fn sites_are_in_order()
+    ensures { (a b : Site) → ⟦<Site as Ord>⟧.cmp a b ≡ site_order a b }
+{}

@@ -1,6 +1,7 @@
 //! A reading of a gauge: when, how high, and whether it may be used.
 
 use crate::quantities::{Micro, Second};
+use rising::Keyed;
 
 /// What a hydrographer says of a reading.
 #[derive(Clone, Copy, Debug, PartialEq, Eq)]
@@ -22,4 +23,24 @@ pub struct Reading {
     pub raw: Micro,
     /// What is said of it.
     pub flag: Flag,
+}
+
+impl Keyed for Reading {
+    type Key = Second;
+
+    ghost place = { λ r. r.at };
+
+    ghost number = { λ s. s };
+
+    fn key(&self) -> Second {
+        self.at
+    }
+
+    fn is_before(&self, key: Second) -> bool {
+        self.at < key
+    }
+
+    fn is_at(&self, key: Second) -> bool {
+        self.at == key
+    }
 }

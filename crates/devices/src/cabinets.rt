@@ -29,9 +29,9 @@ pub trait Cabinet {
     /// Takes out the disk under a name, which goes on by its clock. Where there is none, makes a disk of length 0 if `make`
     /// says so.
     fn open(&mut self, name: &str, make: bool) -> Opened<Self::Disk>
-        ensures opened { IsOpened Self.Disk.content Self.Disk.may_leave Self.Disk.moment Self.Disk.left_since Self.Disk.calls name.now make (places self.old) (places self.new) result }
+        ensures opened { IsOpened Self.Disk.Disk name.now make (places self.old) (places self.new) result }
         ensures asked { IsAsked make result }
-        ensures fresh { IsFresh Self.Disk.faults result }
+        ensures fresh { IsFresh Self.Disk.Disk result }
         ensures counted { faults self.old ≤ faults self.new }
         ensures cause { HasCause (faults self.old) (faults self.new) result };
 

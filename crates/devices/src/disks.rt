@@ -3,8 +3,11 @@
 ghost use Rattle.std.specs.Prelude.{◌≡◌, ℕ, ◌+◌, ◌^◌, ◌<◌, ◌≤◌, Bool, List, length, Option, Some, slice_range, IfSome, IfOk, OnOk, OnErr};
 ghost use Rattle.devices.specs.Disks.{Torn, IsUnchanged, IsOverwritten, IsTorn, NothingNew, Follows, IsDurable, Elapses, HasCause, IsListed};
 
+use thiserror::Error;
+
 /// The disk failed.
-#[derive(Clone, Copy, Debug, PartialEq, Eq)]
+#[derive(Clone, Copy, Debug, PartialEq, Eq, Error)]
+#[error("the disk failed")]
 pub struct DiskFailed;
 
 /// A disk of bytes, which are read and written at offsets. What is written may be lost at a stop, whole or in part,

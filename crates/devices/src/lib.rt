@@ -23,7 +23,7 @@ pub use memory_cabinet::MemoryCabinet;
 pub use memory_disk::MemoryDisk;
 pub use memory_sink::MemorySink;
 pub use memory_source::MemorySource;
-pub use sinks::{Put, Sink};
+pub use sinks::{Put, Sink, put_all};
 pub use sources::{Source, Took};
 pub use standard::{ReaderSource, StderrSink, StdinSource, StdoutSink, WriterSink};
 

@@ -1,10 +1,10 @@
 //! A cabinet in memory, which tells what it has under its names, and fails on command.
 ghost use Rattle.std.specs.Prelude.{◌≡◌, ◌≤◌, ℕ, List, nat_lt, false, if◌then◌else◌, OnOk, OnErr, MatchOption, Some};
-ghost use Rattle.devices.specs.Cabinets.{Free, Kept, Out, is_kept, IsAsked, IsFresh, HasCause, IsKept, IsCounted, OthersStay};
+ghost use Rattle.devices.specs.Cabinets.{Free, Kept, Out, is_kept, IsAsked, IsFresh, HasCause, Opens, IsKept, IsCounted, OthersStay};
 ghost use Rattle.devices.specs.Failures.{untouched, with_fault};
-ghost use Rattle.devices.specs.MemoryCabinets.{places_of, place_with, OpensPlace, OpensUnder, OpensOnCommand};
+ghost use Rattle.devices.specs.MemoryCabinets.{places_of, place_with, OpensPlace, OpensOnCommand};
 
-use crate::{Cabinet, Failures, MemoryDisk, Opened};
+use crate::{Cabinet, Disk, Failures, MemoryDisk, Opened};
 use std::alloc::{AllocError, Global};
 use std::collections::BTreeMap;
 
@@ -63,9 +63,9 @@ impl Cabinet for MemoryCabinet {
     ghost faults = { λ c. c.failures.faults };
 
     fn open(&mut self, name: &str, make: bool) -> Opened<MemoryDisk>
-        ensures opened { OpensUnder name.now make (places_of self.old.disks) (places_of self.new.disks) result }
+        ensures opened { Opens ⟦<MemoryDisk as Disk>⟧ name.now make (places_of self.old.disks) (places_of self.new.disks) result }
         ensures asked { IsAsked make result }
-        ensures fresh { IsFresh (λ d. d.counts.faults) result }
+        ensures fresh { IsFresh ⟦<MemoryDisk as Disk>⟧ result }
         ensures counted { self.old.failures.faults ≤ self.new.failures.faults }
         ensures cause { HasCause self.old.failures.faults self.new.failures.faults result }
         ensures on_command { OpensOnCommand self.old.failures result self.new.failures }
@@ -126,9 +126,9 @@ fn open_under(
     name: &str,
     make: bool,
 ) -> Opened<MemoryDisk>
-    ensures opened { OpensUnder name.now make (places_of disks.old) (places_of disks.new) result }
+    ensures opened { Opens ⟦<MemoryDisk as Disk>⟧ name.now make (places_of disks.old) (places_of disks.new) result }
     ensures asked { IsAsked make result }
-    ensures fresh { IsFresh (λ d. d.counts.faults) result }
+    ensures fresh { IsFresh ⟦<MemoryDisk as Disk>⟧ result }
 {
     if let Some(place) = disks.get_mut(name) {
         return open_place(place, alloc, make);
@@ -144,9 +144,9 @@ fn open_under(
 
 // Takes out the disk, and begins its count of faults anew. Where it is out already, makes one if it is asked to.
 fn open_place(place: &mut Option<MemoryDisk>, alloc: Global, make: bool) -> Opened<MemoryDisk>
-    ensures opened { OpensPlace make (place_with place.old) (place_with place.new) result }
+    ensures opened { OpensPlace ⟦<MemoryDisk as Disk>⟧ make (place_with place.old) (place_with place.new) result }
     ensures asked { IsAsked make result }
-    ensures fresh { IsFresh (λ d. d.counts.faults) result }
+    ensures fresh { IsFresh ⟦<MemoryDisk as Disk>⟧ result }
 {
     match place.take() {
         Some(disk) if disk.is_stuck() => {

@@ -1,7 +1,8 @@
 //! Where bytes go.
 
-ghost use Rattle.std.specs.Prelude.{ℕ, ◌<◌, ◌≤◌, List, length, Option};
-ghost use Rattle.devices.specs.Sinks.{IsPutWithin, Puts, HasCause};
+ghost use Rattle.std.specs.Prelude.{◌≡◌, ℕ, ◌<◌, ◌≤◌, false, List, length, Option};
+ghost use Rattle.devices.specs.Faults.{Rose};
+ghost use Rattle.devices.specs.Sinks.{AreWritten, IsPutWithin, Puts, HasCause};
 
 /// What a sink took.
 #[derive(Clone, Copy, Debug, PartialEq, Eq)]
@@ -27,4 +28,20 @@ pub trait Sink {
         ensures appended { Puts (written self.old) bytes.now (written self.new) result }
         ensures counted { faults self.old ≤ faults self.new }
         ensures cause { HasCause (faults self.old) (faults self.new) result };
+}
+
+/// Puts all bytes, piece by piece; whether the sink took them.
+pub fn put_all<K: Sink>(sink: &mut K, bytes: &[u8]) -> bool
+    ensures written { AreWritten (K.written sink.old) bytes.now (K.written sink.new) result }
+    ensures counted { K.faults sink.old ≤ K.faults sink.new }
+    ensures cause { result ≡ false → Rose (K.faults sink.old) (K.faults sink.new) }
+{
+    let mut rest = bytes;
+    while !rest.is_empty() {
+        match sink.put(rest) {
+            Put::Bytes(count) => rest = &rest[count..],
+            Put::Failed => return false,
+        }
+    }
+    true
 }

@@ -1,6 +1,7 @@
 -- An office that is opened stands for the edits of the journal that was found.
 use Rattle.std.specs.Prelude.{◌≡◌, ℕ, ◌+◌, true, false, List, Option, Some, None, is_some, IsSome, IfSome}
 use Rattle.std.proofs.Common.{arith, ap, sym, subst, ◌∙◌}
+use Rattle.devices.specs.declared.disks.Disk.{Ghosts}
 use Rattle.devices.specs.Disks.{IsDurable, NothingNew}
 use Rattle.records.specs.declared.edits.Record.{Record}
 use Rattle.records.specs.declared.edits.What.{What}
@@ -33,13 +34,13 @@ durable_still a b old new e n d =
     if_some_same _ a b (sym e) (if_some_weaker _ _ a (λ bytes only image m. only image (n image m)) d)
 
 -- the office
-pub opened : {D : Type 0} {g : _} (content : D → Option (List ℕ)) (may_leave : D → List ℕ → Type 0) (disk : D) (edits : List What)
-    (opening : Opening D g) (office : Office D g) → HasAllEdits content edits office.station opening → content opening.ahead.disk ≡ content disk
-    → IsDurable (content opening.ahead.disk) (may_leave opening.ahead.disk)
-    → ((pieces : List Record) → HasEnded content pieces opening → IsSome (content opening.ahead.disk)
-    → IsDurable (content opening.ahead.disk) (may_leave opening.ahead.disk) → Holds content may_leave pieces None office.journal)
-    → office.journal.gate ≡ opening.gate → office.journal.in_doubt ≡ false → IsOpened content may_leave disk office
-opened content may_leave disk edits opening office h same durable holds gate f =
+pub opened : {D : Type 0} {g : Ghosts D} (disk : D) (edits : List What)
+    (opening : Opening D g) (office : Office D g) → HasAllEdits edits office.station opening → g.content opening.ahead.disk ≡ g.content disk
+    → IsDurable (g.content opening.ahead.disk) (g.may_leave opening.ahead.disk)
+    → ((pieces : List Record) → HasEnded pieces opening → IsSome (g.content opening.ahead.disk)
+    → IsDurable (g.content opening.ahead.disk) (g.may_leave opening.ahead.disk) → Holds pieces None office.journal)
+    → office.journal.gate ≡ opening.gate → office.journal.in_doubt ≡ false → IsOpened disk office
+opened {g = g} disk edits opening office h same durable holds gate f =
     let all : accepted (reopen edits) ≡ edits = accepted-reopen edits in
     let none : doubt (reopen edits) ≡ None = doubt-reopen edits in
     let size = front_length edits h.pieces h.records in
@@ -47,20 +48,20 @@ opened content may_leave disk edits opening office h same durable holds gate f =
     let whole : office.journal.gate + 1 ≡ journal_size edits = omega arith in
     record {
       edits = edits;
-      found = if_some_same (IsJournalOfEdits edits) (content opening.ahead.disk) (content disk) same
-          (if_some_weaker _ (IsJournalOfEdits edits) (content opening.ahead.disk)
+      found = if_some_same (IsJournalOfEdits edits) (g.content opening.ahead.disk) (g.content disk) same
+          (if_some_weaker _ (IsJournalOfEdits edits) (g.content opening.ahead.disk)
           (λ bytes b. (h.pieces, h.records, record { numbered = h.ended.numbered; rest = b.0; bytes_are = b.1; closed = b.2 })) h.ended.bytes);
       stands = record {
         keeps = h.keeps;
         size = whole ∙ ap journal_size (sym all);
         in_doubt = f ∙ ap is_some (sym none);
         holds = λ t.
-            let held : HoldsEdits content may_leave edits None office.journal = record {
+            let held : HoldsEdits edits None office.journal = record {
               pieces = h.pieces;
               last = None;
               records = h.records;
               last_is = tt;
-              holds = holds h.pieces h.ended (subst (λ (o : Option (List ℕ)). IsSome o) (sym same) (is_told (content disk) t)) durable;
+              holds = holds h.pieces h.ended (subst (λ (o : Option (List ℕ)). IsSome o) (sym same) (is_told (g.content disk) t)) durable;
             } in
             rw (all, none) held;
       };

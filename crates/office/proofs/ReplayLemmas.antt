@@ -1,6 +1,7 @@
 -- An office that is opened accepts the edits of its journal again.
 use Rattle.std.specs.Prelude.{◌≡◌, ℕ, ◌+◌, ◌*◌, ◌<◌, ◌≤◌, List, [], ◌∷◌, ◌++◌, length, Option}
 use Rattle.std.proofs.Common.{arith, ap, subst, inl, inr, ◌∙◌}
+use Rattle.devices.specs.declared.disks.Disk.{Ghosts}
 use Rattle.records.specs.FirstPath.{IsFirstPath}
 use Rattle.records.specs.declared.edits.Record.{Record}
 use Rattle.records.specs.declared.edits.What.{What}
@@ -14,9 +15,9 @@ use Rattle.office.proofs.HistoryLemmas.{accepted-reopen, reopen-push}
 use Rattle.office.proofs.JournalLemmas.{records_push, records_length, numbered_last, numbered_first_path, front_length, size_least, size_push}
 
 -- each record takes more than two bytes
-pub few_edits : {D : Type 0} {g : _} (content : D → Option (List ℕ)) (edits : List What) (state : State) (opening : Opening D g)
-    → HasReadEdits content edits state opening → 5 * state.edits + 16 ≤ opening.gate
-few_edits content edits state opening h =
+pub few_edits : {D : Type 0} {g : Ghosts D} (edits : List What) (state : State) (opening : Opening D g)
+    → HasReadEdits edits state opening → 5 * state.edits + 16 ≤ opening.gate
+few_edits edits state opening h =
     let size = front_length edits h.pieces h.records in
     let least = size_least 1 edits in
     let gate = h.read.gate in
@@ -24,11 +25,11 @@ few_edits content edits state opening h =
     omega arith
 
 -- one edit more
-pub read_push : {D : Type 0} {g : _} (content : D → Option (List ℕ)) (edits : List What) (s t : State) (old new : Opening D g) (piece : Record)
-    → (h : HasReadEdits content edits s old) → HasRead content (h.pieces ++ piece ∷ []) new
+pub read_push : {D : Type 0} {g : Ghosts D} (edits : List What) (s t : State) (old new : Opening D g) (piece : Record)
+    → (h : HasReadEdits edits s old) → HasRead (h.pieces ++ piece ∷ []) new
     → (Keeps s (reopen edits) → Keeps t (after_edit (reopen edits) piece.edit.what))
-    → HasReadEdits content (edits ++ piece.edit.what ∷ []) t new
-read_push content edits s t old new piece h r k =
+    → HasReadEdits (edits ++ piece.edit.what ∷ []) t new
+read_push edits s t old new piece h r k =
     let count : length h.pieces ≡ length edits = records_length 1 edits h.pieces h.records in
     let path : IsFirstPath (length edits + 1) piece.edit.what piece =
     subst (λ (n : ℕ). IsFirstPath (n + 1) piece.edit.what piece) count
@@ -40,14 +41,14 @@ read_push content edits s t old new piece h r k =
       keeps = subst (Keeps t) (reopen-push edits piece.edit.what) (k h.keeps);
     }
 
-pub all_read : {D : Type 0} {g : _} (content : D → Option (List ℕ)) (edits : List What) (s : State) (old new : Opening D g)
-    → (h : HasReadEdits content edits s old) → HasEnded content h.pieces new → HasAllEdits content edits s new
-all_read content edits s old new h e = record { pieces = h.pieces; records = h.records; ended = e; keeps = h.keeps }
+pub all_read : {D : Type 0} {g : Ghosts D} (edits : List What) (s : State) (old new : Opening D g)
+    → (h : HasReadEdits edits s old) → HasEnded h.pieces new → HasAllEdits edits s new
+all_read edits s old new h e = record { pieces = h.pieces; records = h.records; ended = e; keeps = h.keeps }
 
 -- the gate moves on
-pub gate_moves : {D : Type 0} {g : _} (content : D → Option (List ℕ)) (edits : List What) (edit : What) (s t : State) (old new : Opening D g)
-    → HasReadEdits content edits s old → HasReadEdits content (edits ++ edit ∷ []) t new → old.gate < new.gate
-gate_moves content edits edit s t old new h k =
+pub gate_moves : {D : Type 0} {g : Ghosts D} (edits : List What) (edit : What) (s t : State) (old new : Opening D g)
+    → HasReadEdits edits s old → HasReadEdits (edits ++ edit ∷ []) t new → old.gate < new.gate
+gate_moves edits edit s t old new h k =
     let before = front_length edits h.pieces h.records in
     let after = front_length (edits ++ edit ∷ []) k.pieces k.records in
     let push = size_push 1 edits edit in
@@ -56,11 +57,10 @@ gate_moves content edits edit s t old new h k =
     omega arith
 
 -- reading on and on writes nothing
-pub reads_on : {D : Type 0} (content : D → Option (List ℕ)) (may_leave : D → List ℕ → Type 0) (moment : D → ℕ)
-    (left_since : D → ℕ → List ℕ → Type 0) (faults : D → ℕ) (a b c : D)
-    → OnlyReads content may_leave moment left_since faults a b → OnlyReads content may_leave moment left_since faults b c
-    → OnlyReads content may_leave moment left_since faults a c
-reads_on content may_leave moment left_since faults a b c h k =
+pub reads_on : {D : Type 0} (g : Ghosts D) (a b c : D)
+    → OnlyReads g a b → OnlyReads g b c
+    → OnlyReads g a c
+reads_on g a b c h k =
     let first = h.any_moment.later in
     let second = k.any_moment.later in
     let low = h.counted in
@@ -71,7 +71,7 @@ reads_on content may_leave moment left_since faults a b c h k =
       any_moment = record {
         later = omega arith;
         each = λ image l.
-            elim (k.any_moment.before (moment a) image first l) [
+            elim (k.any_moment.before (g.moment a) image first l) [
               | inl s ↦ h.any_moment.each image s
               | inr m ↦ h.images image m
             ];

@@ -1,11 +1,12 @@
 -- What an office stands for, before and after each of its calls.
 use Rattle.std.specs.Prelude.{◌≡◌, ℕ, ◌+◌, Bool, false, List, [], ◌∷◌, ◌++◌, length, Option, Some, None, is_some, IfSome, IfOk, Result, Ok, Err, ℤ}
 use Rattle.std.proofs.Common.{arith, refl, ap, sym, subst, inl, inr, ◌∙◌, length-append}
+use Rattle.devices.specs.declared.disks.Disk.{Ghosts}
 use Rattle.records.specs.FirstPath.{IsFirstPath}
 use Rattle.records.specs.Payloads.{encoded}
 use Rattle.records.specs.declared.edits.Record.{Record}
 use Rattle.records.specs.declared.edits.What.{What}
-use Rattle.journal.specs.JournalBytes.{IsJournalOf, StandsFor}
+use Rattle.journal.specs.JournalBytes.{IsJournalOf, HasRecords, StandsFor}
 use Rattle.journal.specs.Keeping.{Holds}
 use Rattle.journal.specs.declared.keeping.Journal.{Journal}
 use Rattle.office.specs.Edits.{IsEncoded}
@@ -14,6 +15,7 @@ use Rattle.office.specs.JournalOfEdits.{AreRecords, IsRecordInDoubt, IsJournalOf
 use Rattle.office.specs.Kept.{Keeps}
 use Rattle.office.specs.Stands.{HoldsEdits, Stands}
 use Rattle.office.specs.declared.records_office.Office.{Office}
+use Rattle.journal.proofs.Stages.{records_stand}
 use Rattle.office.proofs.HistoryLemmas.{accepted-published, doubt-published}
 use Rattle.office.proofs.JournalLemmas.{records_push, encoded_length, size_push}
 
@@ -33,21 +35,21 @@ stands_for edits pieces (Some last) (Some piece) bytes r d h =
       | inr j ↦ inr (pieces ++ piece ∷ [], records_push 1 edits pieces last piece r d, j)
     ]
 
-pub holds_images : {D : Type 0} {g : _} (content : D → Option (List ℕ)) (may_leave : D → List ℕ → Type 0) (edits : List What) (last : Option What)
-    (journal : Journal D g) → HoldsEdits content may_leave edits last journal
-    → (image : List ℕ) → may_leave journal.disk image → StandsForEdits edits last image
-holds_images content may_leave edits last journal h image m =
-    stands_for edits h.pieces last h.last image h.records h.last_is (h.holds.images image m)
+pub holds_images : {D : Type 0} {g : Ghosts D} (edits : List What) (last : Option What)
+    (journal : Journal D g) → HoldsEdits edits last journal
+    → (image : List ℕ) → g.may_leave journal.disk image → StandsForEdits edits last image
+holds_images edits last journal h image m =
+    stands_for edits h.pieces last h.last image h.records h.last_is (records_stand h.pieces h.last image (h.holds.images image m))
 
 if_some_weaker : {X : Type 0} (P Q : X → Type 0) (o : Option X) → ((x : X) → P x → Q x) → IfSome o P → IfSome o Q
 if_some_weaker P Q None k h = h
 if_some_weaker P Q (Some x) k h = k x h
 
-pub holds_now : {D : Type 0} {g : _} (content : D → Option (List ℕ)) (may_leave : D → List ℕ → Type 0) (edits : List What) (last : Option What)
-    (journal : Journal D g) → HoldsEdits content may_leave edits last journal → IfSome (content journal.disk) (StandsForEdits edits last)
-holds_now content may_leave edits last journal h =
-    if_some_weaker (StandsFor h.pieces h.last) (StandsForEdits edits last) (content journal.disk)
-    (λ bytes s. stands_for edits h.pieces last h.last bytes h.records h.last_is s) h.holds.now
+pub holds_now : {D : Type 0} {g : Ghosts D} (edits : List What) (last : Option What)
+    (journal : Journal D g) → HoldsEdits edits last journal → IfSome (g.content journal.disk) (StandsForEdits edits last)
+holds_now {g = g} edits last journal h =
+    if_some_weaker (HasRecords h.pieces h.last) (StandsForEdits edits last) (g.content journal.disk)
+    (λ bytes s. stands_for edits h.pieces last h.last bytes h.records h.last_is (records_stand h.pieces h.last bytes s)) h.holds.now
 
 -- where there is no doubt, there is none of a record
 none_settled : (o : Option What) → false ≡ is_some o → o ≡ None
@@ -59,32 +61,32 @@ none_last number None None e h = refl
 none_last number None (Some x) e h = absurd h
 none_last number (Some x) last e h = absurd (cc)
 
-pub settled : {D : Type 0} {g : _} (content : D → Option (List ℕ)) (may_leave : D → List ℕ → Type 0) (told : Bool) (events : List Event)
-    (o : Office D g) → Stands content may_leave told events o → o.journal.in_doubt ≡ false → doubt events ≡ None
-settled content may_leave told events o s f = none_settled (doubt events) (sym f ∙ s.in_doubt)
+pub settled : {D : Type 0} {g : Ghosts D} (told : Bool) (events : List Event)
+    (o : Office D g) → Stands told events o → o.journal.in_doubt ≡ false → doubt events ≡ None
+settled told events o s f = none_settled (doubt events) (sym f ∙ s.in_doubt)
 
-pub settled_holds : {D : Type 0} {g : _} (content : D → Option (List ℕ)) (may_leave : D → List ℕ → Type 0) (edits : List What) (last : Option What)
-    (journal : Journal D g) → last ≡ None → (h : HoldsEdits content may_leave edits last journal) → Holds content may_leave h.pieces None journal
-settled_holds content may_leave edits last journal e h =
-    subst (λ (l : Option Record). Holds content may_leave h.pieces l journal) (none_last (length edits + 1) last h.last e h.last_is) h.holds
+pub settled_holds : {D : Type 0} {g : Ghosts D} (edits : List What) (last : Option What)
+    (journal : Journal D g) → last ≡ None → (h : HoldsEdits edits last journal) → Holds h.pieces None journal
+settled_holds edits last journal e h =
+    subst (λ (l : Option Record). Holds h.pieces l journal) (none_last (length edits + 1) last h.last e h.last_is) h.holds
 
 -- an office whose journal stays as it was
-pub stands_kept : {D : Type 0} {g : _} (content : D → Option (List ℕ)) (may_leave : D → List ℕ → Type 0) (told : Bool) (events : List Event)
+pub stands_kept : {D : Type 0} {g : Ghosts D} (told : Bool) (events : List Event)
     (o p : Office D g) → p.journal ≡ o.journal → (Keeps o.station events → Keeps p.station events)
-    → Stands content may_leave told events o → Stands content may_leave told events p
-stands_kept {D = D} {g = g} content may_leave told events o p j k s = record {
+    → Stands told events o → Stands told events p
+stands_kept {D = D} {g = g} told events o p j k s = record {
   keeps = k s.keeps;
   size = ap (λ (x : Journal D g). x.gate + 1) j ∙ s.size;
   in_doubt = ap (λ (x : Journal D g). x.in_doubt) j ∙ s.in_doubt;
-  holds = λ t. subst (HoldsEdits content may_leave (accepted events) (doubt events)) (sym j) (s.holds t);
+  holds = λ t. subst (HoldsEdits (accepted events) (doubt events)) (sym j) (s.holds t);
 }
 
 -- a publication leaves the accepted edits and the doubt
-pub stands_published : {D : Type 0} {g : _} (content : D → Option (List ℕ)) (may_leave : D → List ℕ → Type 0) (told : Bool) (events : List Event)
+pub stands_published : {D : Type 0} {g : Ghosts D} (told : Bool) (events : List Event)
     (o p : Office D g) (day : Option ℤ) → p.journal ≡ o.journal → Keeps p.station (after_publication events day)
-    → Stands content may_leave told events o → Stands content may_leave told (after_publication events day) p
-stands_published content may_leave told events o p None j k s = stands_kept content may_leave told events o p j (λ _. k) s
-stands_published {D = D} {g = g} content may_leave told events o p (Some day) j k s =
+    → Stands told events o → Stands told (after_publication events day) p
+stands_published told events o p None j k s = stands_kept told events o p j (λ _. k) s
+stands_published {D = D} {g = g} told events o p (Some day) j k s =
     let edits : accepted (after_publication events (Some day)) ≡ accepted events = accepted-published events day in
     let last : doubt (after_publication events (Some day)) ≡ doubt events = doubt-published events day in
     record {
@@ -95,10 +97,10 @@ stands_published {D = D} {g = g} content may_leave told events o p (Some day) j 
     }
 
 -- how large the journal is with the next edit
-pub size_next : {D : Type 0} {g : _} (content : D → Option (List ℕ)) (may_leave : D → List ℕ → Type 0) (told : Bool) (events : List Event)
-    (edit : What) (bytes : List ℕ) (o : Office D g) → Stands content may_leave told events o → IsEncoded (o.station.edits + 1) edit bytes
+pub size_next : {D : Type 0} {g : Ghosts D} (told : Bool) (events : List Event)
+    (edit : What) (bytes : List ℕ) (o : Office D g) → Stands told events o → IsEncoded (o.station.edits + 1) edit bytes
     → o.journal.gate + 1 + length bytes ≡ journal_size (accepted events ++ edit ∷ [])
-size_next content may_leave told events edit bytes o s e =
+size_next told events edit bytes o s e =
     let number : o.station.edits + 1 ≡ length (accepted events) + 1 = ap (λ n. n + 1) s.keeps.edits in
     let path : IsFirstPath (length (accepted events) + 1) edit e.0 = subst (λ (n : ℕ). IsFirstPath n edit e.0) number e.1 in
     let long = encoded_length (length (accepted events) + 1) edit e.0 path in
@@ -107,14 +109,14 @@ size_next content may_leave told events edit bytes o s e =
     let push = size_push 1 (accepted events) edit in
     omega arith
 
-pub turn_stands : {D E : Type 0} {g : _} (content : D → Option (List ℕ)) (may_leave : D → List ℕ → Type 0) (o p : Office D g)
+pub turn_stands : {D E : Type 0} {g : Ghosts D} (o p : Office D g)
     (result : Result (Option ℤ) E)
     → IfOk result (λ day. (events : List Event) → Keeps o.station events → (day ≡ next_day events) × Keeps p.station (after_turn events))
     → p.journal ≡ o.journal
-    → IfOk result (λ day. (told : Bool) (events : List Event) → Stands content may_leave told events o
-    → (day ≡ next_day events) × Stands content may_leave told (after_turn events) p)
-turn_stands content may_leave o p (Ok day) h j =
+    → IfOk result (λ day. (told : Bool) (events : List Event) → Stands told events o
+    → (day ≡ next_day events) × Stands told (after_turn events) p)
+turn_stands o p (Ok day) h j =
     λ told events s.
     let t = h events s.keeps in
-    (t.0, stands_published content may_leave told events o p (next_day events) j t.1 s)
-turn_stands content may_leave o p (Err e) h j = h
+    (t.0, stands_published told events o p (next_day events) j t.1 s)
+turn_stands o p (Err e) h j = h

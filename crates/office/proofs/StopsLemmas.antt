@@ -1,6 +1,7 @@
 -- What a stop leaves, as a history goes on.
 use Rattle.std.specs.Prelude.{◌≡◌, ℕ, Bool, true, List, [], ◌∷◌, ◌++◌, Option, Some, None, ℤ}
 use Rattle.std.proofs.Common.{refl, ap, sym, subst, inl, ◌∙◌, append_assoc, append-nil}
+use Rattle.devices.specs.declared.disks.Disk.{Ghosts}
 use Rattle.records.specs.declared.edits.What.{What}
 use Rattle.journal.specs.Moments.{LeavesOnly}
 use Rattle.office.specs.Edits.{in_flight}
@@ -96,11 +97,10 @@ left_earlier events mid after image a h =
     }
 
 -- an office that writes nothing
-pub leaves_now : {D : Type 0} {g : _} (content : D → Option (List ℕ)) (may_leave : D → List ℕ → Type 0) (moment : D → ℕ)
-    (left_since : D → ℕ → List ℕ → Type 0) (events : List Event) (o : Office D g)
-    → ((disk : D) (image : List ℕ) → left_since disk (moment disk) image → may_leave disk image) → Stands content may_leave true events o
-    → LeavesOnly moment left_since o.journal.disk o.journal.disk (IsLeftBetween events events)
-leaves_now content may_leave moment left_since events o only s =
-    leaves_same moment left_since o.journal.disk (IsLeftBetween events events)
+pub leaves_now : {D : Type 0} {g : Ghosts D} (events : List Event) (o : Office D g)
+    → ((disk : D) (image : List ℕ) → g.left_since disk (g.moment disk) image → g.may_leave disk image) → Stands true events o
+    → LeavesOnly g o.journal.disk o.journal.disk (IsLeftBetween events events)
+leaves_now {g = g} events o only s =
+    leaves_same g o.journal.disk (IsLeftBetween events events)
     (λ image k. left_now events image
-    (holds_images content may_leave (accepted events) (doubt events) o.journal (s.holds refl) image (only o.journal.disk image k)))
+    (holds_images (accepted events) (doubt events) o.journal (s.holds refl) image (only o.journal.disk image k)))

@@ -1,5 +1,6 @@
 -- What an edit comes to.
 use Rattle.std.specs.Prelude.{◌≡◌, ℕ, ◌+◌, Bool, true, false, List, [], ◌∷◌, ◌++◌, length, Option, Some, None, Result, Ok, Err}
+use Rattle.devices.specs.declared.disks.Disk.{Ghosts}
 use Rattle.records.specs.FirstPath.{IsFirstPath}
 use Rattle.records.specs.Payloads.{encoded}
 use Rattle.records.specs.declared.edits.Record.{Record}
@@ -20,24 +21,24 @@ in_flight None edit = Some edit
 in_flight (Some last) edit = Some last
 
 -- after a fault the history has it, unless the journal was in doubt before: then nothing has happened
-abbrev pub AfterFault : {D : Type 0} {g : _} → (D → Option (List ℕ)) → (D → List ℕ → Type 0) → Bool → List Event → What → Bool
+abbrev pub AfterFault : {D : Type 0} {g : Ghosts D} → Bool → List Event → What → Bool
     → Option What → Office D g → Type 0
-AfterFault content may_leave told events edit in_doubt None office =
-    Stands content may_leave told (after_fault events edit in_doubt) office
-AfterFault content may_leave told events edit in_doubt (Some last) office =
-    (in_doubt ≡ true) × Stands content may_leave told events office
+AfterFault told events edit in_doubt None office =
+    Stands told (after_fault events edit in_doubt) office
+AfterFault told events edit in_doubt (Some last) office =
+    (in_doubt ≡ true) × Stands told events office
 
 -- what the office stands for after an edit that was asked of it when it stood for these events
-abbrev pub Edits : {D : Type 0} {g : _} → (D → Option (List ℕ)) → (D → List ℕ → Type 0) → Bool → ℕ → List Event → What → Office D g
+abbrev pub Edits : {D : Type 0} {g : Ghosts D} → Bool → ℕ → List Event → What → Office D g
     → Result ℕ Refusal → Type 0
-Edits content may_leave told limit events edit office (Ok number) =
+Edits told limit events edit office (Ok number) =
     (¬ IsFull limit events edit) × (doubt events ≡ None) × (number ≡ length (accepted events) + 1)
-    × Stands content may_leave told (after_edit events edit) office
-Edits content may_leave told limit events edit office (Err NoMemory) = Stands content may_leave told events office
-Edits content may_leave told limit events edit office (Err JournalFull) =
-    IsFull limit events edit × Stands content may_leave told events office
-Edits content may_leave told limit events edit office (Err (JournalFault in_doubt)) =
-    (¬ IsFull limit events edit) × AfterFault content may_leave told events edit in_doubt (doubt events) office
+    × Stands told (after_edit events edit) office
+Edits told limit events edit office (Err NoMemory) = Stands told events office
+Edits told limit events edit office (Err JournalFull) =
+    IsFull limit events edit × Stands told events office
+Edits told limit events edit office (Err (JournalFault in_doubt)) =
+    (¬ IsFull limit events edit) × AfterFault told events edit in_doubt (doubt events) office
 
 -- the refusal of an edit whose record was not appended
 abbrev pub refusal_of : AppendFault → Refusal

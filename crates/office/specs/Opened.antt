@@ -1,5 +1,6 @@
 -- What the opening of an office answers.
 use Rattle.std.specs.Prelude.{ℕ, List, Option, IfSome, is_some, ⊤}
+use Rattle.devices.specs.declared.disks.Disk.{Ghosts}
 use Rattle.devices.specs.Faults.{Rose}
 use Rattle.records.specs.declared.edits.What.{What}
 use Rattle.journal.specs.JournalBytes.{HasHeader, IsDamagedAt}
@@ -11,11 +12,11 @@ use Rattle.office.specs.Stands.{Stands}
 use Rattle.office.specs.declared.records_office.Office.{Office}
 
 -- the edits of the journal that was found are those that the office stands for, each accepted in its turn
-pub record IsOpened {D : Type 0} {g : _} (content : D → Option (List ℕ)) (may_leave : D → List ℕ → Type 0) (disk : D)
+pub record IsOpened {D : Type 0} {g : Ghosts D} (disk : D)
     (office : Office D g) : Type 0 where
   pub edits : List What
-  pub found : IfSome (content disk) (IsJournalOfEdits edits)
-  pub stands : Stands content may_leave (is_some (content disk)) (reopen edits) office
+  pub found : IfSome (g.content disk) (IsJournalOfEdits edits)
+  pub stands : Stands (is_some (g.content disk)) (reopen edits) office
 
 -- why an office is not opened, over a disk with this content and counts of faults
 abbrev pub IsNotOpened : Option (List ℕ) → OpenFault → ℕ → ℕ → Type 0

@@ -1,5 +1,6 @@
 -- How far an office that is being opened has read its journal.
 use Rattle.std.specs.Prelude.{ℕ, Bool, true, false, List, [], ◌∷◌, ◌++◌, Option, IfSome, Result, Ok, Err, ⊤}
+use Rattle.devices.specs.declared.disks.Disk.{Ghosts}
 use Rattle.devices.specs.Faults.{Rose}
 use Rattle.records.specs.declared.edits.Record.{Record}
 use Rattle.records.specs.declared.edits.What.{What}
@@ -13,26 +14,26 @@ use Rattle.office.specs.JournalOfEdits.{AreRecords}
 use Rattle.office.specs.Kept.{State, Keeps}
 
 -- the records of these edits were read, and the edits accepted in their turn
-pub record HasReadEdits {D : Type 0} {g : _} (content : D → Option (List ℕ)) (edits : List What) (state : State)
+pub record HasReadEdits {D : Type 0} {g : Ghosts D} (edits : List What) (state : State)
     (opening : Opening D g) : Type 0 where
   pub pieces : List Record
   pub records : AreRecords 1 edits pieces
-  pub read : HasRead content pieces opening
+  pub read : HasRead pieces opening
   pub keeps : Keeps state (reopen edits)
 
 -- and the gate behind them is closed
-pub record HasAllEdits {D : Type 0} {g : _} (content : D → Option (List ℕ)) (edits : List What) (state : State)
+pub record HasAllEdits {D : Type 0} {g : Ghosts D} (edits : List What) (state : State)
     (opening : Opening D g) : Type 0 where
   pub pieces : List Record
   pub records : AreRecords 1 edits pieces
-  pub ended : HasEnded content pieces opening
+  pub ended : HasEnded pieces opening
   pub keeps : Keeps state (reopen edits)
 
 -- what is read next, whether it is a record
-abbrev pub ReadsEdits : {D : Type 0} {g : _} → (D → Option (List ℕ)) → List What → State → Opening D g → Result Bool OpenFault → Type 0
-ReadsEdits content edits state opening (Ok true) = (edit : What) × HasReadEdits content (edits ++ edit ∷ []) state opening
-ReadsEdits content edits state opening (Ok false) = HasAllEdits content edits state opening
-ReadsEdits content edits state opening (Err _) = ⊤
+abbrev pub ReadsEdits : {D : Type 0} {g : Ghosts D} → List What → State → Opening D g → Result Bool OpenFault → Type 0
+ReadsEdits edits state opening (Ok true) = (edit : What) × HasReadEdits (edits ++ edit ∷ []) state opening
+ReadsEdits edits state opening (Ok false) = HasAllEdits edits state opening
+ReadsEdits edits state opening (Err _) = ⊤
 
 -- why the reading of a journal ends early
 abbrev pub IsReadFault : Option (List ℕ) → OpenFault → ℕ → ℕ → Type 0

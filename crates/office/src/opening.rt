@@ -25,12 +25,12 @@ pub(crate) fn read_all<D: Disk>(
     opening: &mut Opening<D>,
     station: &mut StationRecord,
 ) -> Result<(), OpenFault>
-    requires { HasReadEdits D.content [] station.old opening.old }
-    ensures all { OnOk result ((edits : List What) × HasAllEdits D.content edits station.new opening.new) }
+    requires { HasReadEdits [] station.old opening.old }
+    ensures all { OnOk result ((edits : List What) × HasAllEdits edits station.new opening.new) }
     ensures ended { OnOk result (opening.new.ended ≡ true) }
     ensures few { OnOk result (station.new.edits ≤ 2 ^ 63) }
     ensures refused { IfErr result (λ fault. IsReadFault (D.content opening.new.ahead.disk) fault (D.faults opening.old.ahead.disk) (D.faults opening.new.ahead.disk)) }
-    ensures disk { OnlyReads D.content D.may_leave D.moment D.left_since D.faults opening.old.ahead.disk opening.new.ahead.disk }
+    ensures disk { OnlyReads D.Disk opening.old.ahead.disk opening.new.ahead.disk }
 {
     while read_next(alloc, opening, station)? {}
     Ok(())
@@ -42,14 +42,14 @@ fn read_next<D: Disk>(
     opening: &mut Opening<D>,
     station: &mut StationRecord,
 ) -> Result<bool, OpenFault>
-    requires { (edits : List What) × HasReadEdits D.content edits station.old opening.old }
-    ensures reads { (edits : List What) → HasReadEdits D.content edits station.old opening.old → ReadsEdits D.content edits station.new opening.new result }
+    requires { (edits : List What) × HasReadEdits edits station.old opening.old }
+    ensures reads { (edits : List What) → HasReadEdits edits station.old opening.old → ReadsEdits edits station.new opening.new result }
     ensures ended { result ≡ Ok false → opening.new.ended ≡ true }
     ensures kept { result ≡ Ok false → station.new ≡ station.old }
     ensures within { result ≡ Ok true → opening.old.gate < 2 ^ 64 }
     ensures few { result ≡ Ok true → station.new.edits ≤ 2 ^ 63 }
     ensures refused { IfErr result (λ fault. IsReadFault (D.content opening.new.ahead.disk) fault (D.faults opening.old.ahead.disk) (D.faults opening.new.ahead.disk)) }
-    ensures disk { OnlyReads D.content D.may_leave D.moment D.left_since D.faults opening.old.ahead.disk opening.new.ahead.disk }
+    ensures disk { OnlyReads D.Disk opening.old.ahead.disk opening.new.ahead.disk }
 {
     let Some(piece) = opening.next(alloc)? else {
         return Ok(false);

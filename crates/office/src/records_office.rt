@@ -4,7 +4,7 @@ ghost use Rattle.std.specs.Prelude.{◌≡◌, ◌⊎◌, ◌+◌, ◌-◌, ◌^
 ghost use Rattle.devices.specs.Disks.{IsUnchanged, IsDurable};
 ghost use Rattle.devices.specs.Faults.{Rose};
 ghost use Rattle.records.specs.Edits.{IsWhat};
-ghost use Rattle.journal.specs.Moments.{LeavesOnly};
+ghost use Rattle.journal.specs.Moments.{LeavesOnly, SyncsFirst, IsContent};
 ghost use Rattle.journal.specs.Writing.{Lists};
 ghost use Rattle.office.specs.History.{Event, accepted, doubt, pending_days, next_day, after_turn};
 ghost use Rattle.office.specs.JournalOfEdits.{IsFull, StandsForEdits};
@@ -19,16 +19,20 @@ use fixed_units::{Day, NoMemory, Text};
 use journal::{AppendFault, Journal, OpenRefused};
 use records::What;
 use std::alloc::Global;
+use thiserror::Error;
 
 /// Why an edit is refused.
-#[derive(Clone, Copy, Debug, PartialEq, Eq)]
+#[derive(Clone, Copy, Debug, PartialEq, Eq, Error)]
 pub enum Refusal {
     /// There was no memory. Nothing has happened.
+    #[error("there was no memory for the edit")]
     NoMemory,
     /// With the edit the journal would pass its limit. Nothing has happened.
+    #[error("with the edit the journal would pass its limit")]
     JournalFull,
     /// The disk failed. Where that leaves the journal in doubt, the edit may stand in it or not, which the next opening
     /// shows, and no edit is accepted until then.
+    #[error("the disk failed; that an edit may stand in the journal is {0}")]
     JournalFault(bool),
 }
 
@@ -72,16 +76,17 @@ impl<D: Disk> Office<D> {
     /// Opens an office on the journal of its edits, and accepts them again. A refusal gives the disk back. Nothing is
     /// written, and what was not yet safe from a stop is safe then.
     pub fn open(alloc: Global, disk: D, limits: Limits) -> Result<Office<D>, OpenRefused<D>>
-        ensures opened { IfOk result (IsOpened D.content D.may_leave disk) }
+        ensures opened { IfOk result (IsOpened disk) }
         ensures few { IfOk result (λ office. office.station.edits ≤ 2 ^ 63) }
         ensures limit { IfOk result (λ office. office.journal.limit ≡ limits.journal_bytes) }
         ensures same { IfOk result (λ office. IsUnchanged (D.content disk) (D.content office.journal.disk)) }
         ensures durable { IfOk result (λ office. IsDurable (D.content disk) (D.may_leave office.journal.disk)) }
-        ensures any_moment { IfOk result (λ office. LeavesOnly D.moment D.left_since disk office.journal.disk (D.may_leave disk)) }
+        ensures synced { IfOk result (λ office. SyncsFirst D.Disk disk office.journal.disk (IsContent (D.content disk))) }
+        ensures any_moment { IfOk result (λ office. LeavesOnly D.Disk disk office.journal.disk (D.may_leave disk)) }
         ensures counted { IfOk result (λ office. D.faults disk ≤ D.faults office.journal.disk) }
         ensures refused { IfErr result (λ refused. IsNotOpened (D.content disk) refused.fault (D.faults disk) (D.faults refused.disk)) }
         ensures refused_same { IfErr result (λ refused. IsUnchanged (D.content disk) (D.content refused.disk)) }
-        ensures refused_any_moment { IfErr result (λ refused. LeavesOnly D.moment D.left_since disk refused.disk (D.may_leave disk)) }
+        ensures refused_any_moment { IfErr result (λ refused. LeavesOnly D.Disk disk refused.disk (D.may_leave disk)) }
         ensures refused_counted { IfErr result (λ refused. D.faults disk ≤ D.faults refused.disk) }
     {
         let mut opening = journal::open(alloc, disk)?;
@@ -125,12 +130,12 @@ impl<D: Disk> Office<D> {
     pub fn edit(&mut self, what: What) -> Result<u64, Refusal>
         requires lawful { IsWhat what }
         requires room { self.old.station.edits < 2 ^ 64 - 1 }
-        ensures edited { (told : Bool) (events : List Event) → Stands D.content D.may_leave told events self.old
-            → Edits D.content D.may_leave told self.old.journal.limit events what self.new result }
-        ensures full { (told : Bool) (events : List Event) → Stands D.content D.may_leave told events self.old → IsFull self.old.journal.limit events what
+        ensures edited { (told : Bool) (events : List Event) → Stands told events self.old
+            → Edits told self.old.journal.limit events what self.new result }
+        ensures full { (told : Bool) (events : List Event) → Stands told events self.old → IsFull self.old.journal.limit events what
             → (result ≡ Err Refusal.JournalFull) ⊎ (result ≡ Err Refusal.NoMemory) }
-        ensures any_moment { (events : List Event) → Stands D.content D.may_leave true events self.old
-            → LeavesOnly D.moment D.left_since self.old.journal.disk self.new.journal.disk (StandsForEdits (accepted events) (in_flight (doubt events) what)) }
+        ensures any_moment { (events : List Event) → Stands true events self.old
+            → LeavesOnly D.Disk self.old.journal.disk self.new.journal.disk (StandsForEdits (accepted events) (in_flight (doubt events) what)) }
         ensures cause { (in_doubt : Bool) → result ≡ Err (Refusal.JournalFault in_doubt)
             → (self.old.journal.in_doubt ≡ true) ⊎ Rose (D.faults self.old.journal.disk) (D.faults self.new.journal.disk) }
         ensures calls { Lists (D.content self.old.journal.disk) (D.calls self.old.journal.disk) (D.calls self.new.journal.disk) (D.faults self.new.journal.disk)
@@ -169,8 +174,8 @@ impl<D: Disk> Office<D> {
     /// Computes and publishes the first day that awaits a computation, and gives it; `None` where none does. After
     /// `NoMemory` the history is as before.
     pub fn turn(&mut self) -> Result<Option<Day>, NoMemory>
-        ensures ok { IfOk result (λ day. (told : Bool) (events : List Event) → Stands D.content D.may_leave told events self.old
-            → (day ≡ next_day events) × Stands D.content D.may_leave told (after_turn events) self.new) }
+        ensures ok { IfOk result (λ day. (told : Bool) (events : List Event) → Stands told events self.old
+            → (day ≡ next_day events) × Stands told (after_turn events) self.new) }
         ensures journal { self.new.journal ≡ self.old.journal }
         ensures edits { self.new.station.edits ≡ self.old.station.edits }
         ensures err { OnErr result (self.new ≡ self.old) }
@@ -182,8 +187,8 @@ impl<D: Disk> Office<D> {
     /// doubt, and so is whatever a stop may leave.
     pub fn close(self) -> D
         ensures disk { result ≡ self.journal.disk }
-        ensures now { (events : List Event) → Stands D.content D.may_leave true events self → IfSome (D.content result) (StandsForEdits (accepted events) (doubt events)) }
-        ensures images { (events : List Event) → Stands D.content D.may_leave true events self
+        ensures now { (events : List Event) → Stands true events self → IfSome (D.content result) (StandsForEdits (accepted events) (doubt events)) }
+        ensures images { (events : List Event) → Stands true events self
             → (image : List ℕ) → D.may_leave result image → StandsForEdits (accepted events) (doubt events) image }
     {
         self.journal.close()

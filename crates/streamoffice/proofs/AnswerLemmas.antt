@@ -1,5 +1,6 @@
 -- How asks are answered.
 use Rattle.std.proofs.Common.{◌≡◌, ◌≢◌, ◌⊎◌, ℕ, ◌+◌, Bool, true, false, List, length, Option, Some, None, is_some, Result, Ok, Err, OnOk, OnErr, is_err, refl, sym, ◌∙◌, ap, subst, inl, inr, ℤ}
+use Rattle.devices.specs.declared.disks.Disk.{Ghosts}
 use Rattle.devices.specs.Faults.{Rose}
 use Rattle.records.specs.declared.edits.What.{What}
 use Rattle.records.specs.declared.edits.What.TheVariants.{PutReadings}
@@ -49,23 +50,23 @@ accepted_reply limit events at raw reply StandsFor Passed fits calm is stands pa
     )
 
 -- an edit at which the journal failed
-faulted_reply : {D : Type 0} {g : _} (content : D → Option (List ℕ)) (may_leave : D → List ℕ → Type 0) (told : Bool)
+faulted_reply : {D : Type 0} {g : Ghosts D} (told : Bool)
     (limit : ℕ) (events : List Event) (at raw : ℤ) (office : Office D g) (in_doubt : Bool) (o : Option What)
     (Passed : List Event → List Event → Type 0)
     → ¬ (IsFull limit events (PutReadings at raw)) → doubt events ≡ o
-    → AfterFault content may_leave told events (PutReadings at raw) in_doubt o office
+    → AfterFault told events (PutReadings at raw) in_doubt o office
     → (o ≡ None → Passed events (after_fault events (PutReadings at raw) in_doubt))
     → ((last : What) → o ≡ Some last → Passed events events)
     → (next : List Event) × IsReply limit events (Some (Put at raw)) (fault_reply in_doubt) next
-    × Stands content may_leave told next office × Passed events next
-faulted_reply content may_leave told limit events at raw office in_doubt None Passed fits is stands fault doubted =
+    × Stands told next office × Passed events next
+faulted_reply told limit events at raw office in_doubt None Passed fits is stands fault doubted =
     let what = PutReadings at raw in (
       after_fault events what in_doubt,
       inr (inl (fits, is, (in_doubt, refl, refl))),
       stands,
       fault refl,
     )
-faulted_reply content may_leave told limit events at raw office in_doubt (Some last) Passed fits is stands fault doubted =
+faulted_reply told limit events at raw office in_doubt (Some last) Passed fits is stands fault doubted =
     let what = PutReadings at raw in
     let free : is_full limit events what ≡ false = room (is_full limit events what) fits in
     let same : reply_to limit events (Some (Put at raw)) ≡ fault_reply true =
@@ -87,21 +88,21 @@ pub forgone : (limit : ℕ) (events : List Event) (at raw : ℤ) (reply : List �
 forgone limit events at raw reply StandsFor Passed is stands passed = (events, inr (inr (is, refl)), stands, passed)
 
 -- an edit that was refused
-pub refused_reply : {D : Type 0} {g : _} (content : D → Option (List ℕ)) (may_leave : D → List ℕ → Type 0) (told : Bool)
+pub refused_reply : {D : Type 0} {g : Ghosts D} (told : Bool)
     (limit : ℕ) (events : List Event) (at raw : ℤ) (office : Office D g) (refusal : Refusal) (reply : List ℕ)
     (Passed : List Event → List Event → Type 0)
-    → Edits content may_leave told limit events (PutReadings at raw) office (Err refusal) → IsRefused refusal reply
+    → Edits told limit events (PutReadings at raw) office (Err refusal) → IsRefused refusal reply
     → (refusal ≡ refusals.NoMemory → Passed events events) → (refusal ≡ refusals.JournalFull → Passed events events)
     → ((in_doubt : Bool) → refusal ≡ refusals.JournalFault in_doubt → doubt events ≡ None
     → Passed events (after_fault events (PutReadings at raw) in_doubt))
     → ((last : What) → doubt events ≡ Some last → Passed events events)
     → (next : List Event) × IsReply limit events (Some (Put at raw)) reply next
-    × Stands content may_leave told next office × Passed events next
-refused_reply content may_leave told limit events at raw office refusals.NoMemory reply Passed edits is no_memory full fault doubted =
-    forgone limit events at raw reply (λ h. Stands content may_leave told h office) Passed is edits (no_memory refl)
-refused_reply content may_leave told limit events at raw office refusals.JournalFull reply Passed edits (inr is) no_memory full fault doubted =
-    forgone limit events at raw reply (λ h. Stands content may_leave told h office) Passed is edits.1 (full refl)
-refused_reply content may_leave told limit events at raw office refusals.JournalFull reply Passed edits (inl is) no_memory full fault doubted =
+    × Stands told next office × Passed events next
+refused_reply told limit events at raw office refusals.NoMemory reply Passed edits is no_memory full fault doubted =
+    forgone limit events at raw reply (λ h. Stands told h office) Passed is edits (no_memory refl)
+refused_reply told limit events at raw office refusals.JournalFull reply Passed edits (inr is) no_memory full fault doubted =
+    forgone limit events at raw reply (λ h. Stands told h office) Passed is edits.1 (full refl)
+refused_reply told limit events at raw office refusals.JournalFull reply Passed edits (inl is) no_memory full fault doubted =
     let what = PutReadings at raw in
     let past : is_full limit events what ≡ true = edits.0 in
     let same : reply_to limit events (Some (Put at raw)) ≡ reply_bytes 409 Json None journal_full_text =
@@ -113,8 +114,8 @@ refused_reply content may_leave told limit events at raw office refusals.Journal
       edits.1,
       full refl,
     )
-refused_reply content may_leave told limit events at raw office (refusals.JournalFault in_doubt) reply Passed edits is no_memory full fault doubted =
-    let done = faulted_reply content may_leave told limit events at raw office in_doubt (doubt events) Passed edits.0 refl edits.1
+refused_reply told limit events at raw office (refusals.JournalFault in_doubt) reply Passed edits is no_memory full fault doubted =
+    let done = faulted_reply told limit events at raw office in_doubt (doubt events) Passed edits.0 refl edits.1
     (fault in_doubt refl) doubted in (
       done.0,
       subst (λ (r : List ℕ). IsReply limit events (Some (Put at raw)) r done.0) (sym is) done.1,

@@ -5,7 +5,8 @@ use Rattle.office.specs.History.{Event}
 use Rattle.wire.specs.declared.messages.Message.TheVariants as messages
 use Rattle.wire.specs.declared.replies.TheConstants.{MALFORMED_REPLY}
 use Rattle.wire.specs.Incoming.{Held, IsNext, Answers, IsWithinLimit}
-use Rattle.streamoffice.specs.Served.{IsCutShort, StopsWithin, AreWritten, Serves}
+use Rattle.devices.specs.Sinks.{IsCutShort, AreWritten}
+use Rattle.streamoffice.specs.Served.{StopsWithin, Serves}
 use Rattle.streamoffice.specs.Session.{IsServed, IsReadTo, IsUnderWay}
 use Rattle.streamoffice.specs.declared.sessions.SessionEnd.{SessionEnd}
 use Rattle.streamoffice.specs.declared.sessions.SessionEnd.TheVariants as ends

@@ -1,5 +1,6 @@
 -- How the making of a journal ends.
-use Rattle.std.proofs.Common.{◌≡◌, ℕ, ◌≤◌, Bool, true, List, [], Option, Some, None, IfSome, Result, Ok, Err, refl, sym, subst, inl, inr, ⊎_elim, arith}
+use Rattle.std.proofs.Common.{◌≡◌, ℕ, ◌≤◌, true, List, [], Option, Some, None, IfSome, Result, Ok, Err, refl, sym, subst, inl, inr, ⊎_elim, arith}
+use Rattle.devices.specs.declared.disks.Disk.{Ghosts}
 use Rattle.devices.specs.Cabinets.{Place, Free, Kept, Out, IsEmptyDisk, IsGiven, IsOpened, IsKept, IsCounted}
 use Rattle.devices.specs.Disks.{NothingNew}
 use Rattle.devices.specs.Faults.{Rose}
@@ -17,24 +18,24 @@ use Rattle.streamoffice.specs.declared.commands.RunEnd.TheVariants as ends
 use Rattle.streamoffice.proofs.PlaceLemmas.{opened_and_kept, leaves_kept, all_stay, rose_kept}
 
 -- the end says what `init` answered
-made_by : {D T : Type 0} (content : D → Option (List ℕ)) (may_leave : D → List ℕ → Type 0) (bytes : List ℕ) (images : List ℕ → Type 0)
+made_by : {D T : Type 0} (g : Ghosts D) (bytes : List ℕ) (images : List ℕ → Type 0)
     (made : Result T InitFault) (disk : D)
-    → InitAnswers bytes made → InitLeaves bytes (content disk) images (may_leave disk) made
-    → MakesOn content may_leave bytes images (making_end made) disk
-made_by content may_leave bytes images (Ok done) disk answer left = (answer, left)
-made_by content may_leave bytes images (Err making.Exists) disk answer left = (answer, left)
-made_by content may_leave bytes images (Err making.NotAJournal) disk answer left = (answer, left)
-made_by content may_leave bytes images (Err making.Fault) disk answer left = left
+    → InitAnswers bytes made → InitLeaves bytes (g.content disk) images (g.may_leave disk) made
+    → MakesOn g bytes images (making_end made) disk
+made_by g bytes images (Ok done) disk answer left = (answer, left)
+made_by g bytes images (Err making.Exists) disk answer left = (answer, left)
+made_by g bytes images (Err making.NotAJournal) disk answer left = (answer, left)
+made_by g bytes images (Err making.Fault) disk answer left = left
 
-pub makes_on : {D T : Type 0} (content : D → Option (List ℕ)) (may_leave : D → List ℕ → Type 0) (o : Option (List ℕ))
+pub makes_on : {D T : Type 0} (g : Ghosts D) (o : Option (List ℕ))
     (images : List ℕ → Type 0) (made : Result T InitFault) (end : RunEnd) (disk : D)
     → end ≡ making_end made → IfSome o (λ bytes. InitAnswers bytes made)
-    → IfSome o (λ bytes. InitLeaves bytes (content disk) images (may_leave disk) made)
-    → IfSome o (λ bytes. MakesOn content may_leave bytes images end disk)
-makes_on content may_leave None images made end disk is answer left = tt
-makes_on content may_leave (Some bytes) images made end disk is answer left =
-    subst (λ (e : RunEnd). MakesOn content may_leave bytes images e disk) (sym is)
-    (made_by content may_leave bytes images made disk answer left)
+    → IfSome o (λ bytes. InitLeaves bytes (g.content disk) images (g.may_leave disk) made)
+    → IfSome o (λ bytes. MakesOn g bytes images end disk)
+makes_on g None images made end disk is answer left = tt
+makes_on g (Some bytes) images made end disk is answer left =
+    subst (λ (e : RunEnd). MakesOn g bytes images e disk) (sym is)
+    (made_by g bytes images made disk answer left)
 
 pub making_ends : {T : Type 0} (made : Result T InitFault) (end : RunEnd) (f f' : ℕ)
     → end ≡ making_end made → (made ≡ Err making.Fault → Rose f f') → IsMakingEnd end f f'
@@ -47,22 +48,22 @@ making_ends {T} made end f f' is cause = subst (λ (e : RunEnd). IsMakingEnd e f
     by_answer (Err making.Fault) cause = cause refl
 
 -- no more images may be left than these
-more_images : {D : Type 0} (content : D → Option (List ℕ)) (may_leave : D → List ℕ → Type 0) (bytes : List ℕ)
+more_images : {D : Type 0} (g : Ghosts D) (bytes : List ℕ)
     (few many : List ℕ → Type 0) (end : RunEnd) (disk : D) → NothingNew many few
-    → MakesOn content may_leave bytes few end disk → MakesOn content may_leave bytes many end disk
-more_images content may_leave bytes few many ends.Made disk wider h = h
-more_images content may_leave bytes few many ends.Exists disk wider h = (h.0, (h.1.0, λ image left. wider image (h.1.1 image left)))
-more_images content may_leave bytes few many ends.NotAJournal disk wider h = (h.0, (h.1.0, λ image left. wider image (h.1.1 image left)))
-more_images content may_leave bytes few many ends.DiskFault disk wider h = h
-more_images content may_leave bytes few many (ends.Served end) disk wider h = absurd h
-more_images content may_leave bytes few many (ends.Damaged at) disk wider h = absurd h
-more_images content may_leave bytes few many ends.NoMemory disk wider h = absurd h
+    → MakesOn g bytes few end disk → MakesOn g bytes many end disk
+more_images g bytes few many ends.Made disk wider h = h
+more_images g bytes few many ends.Exists disk wider h = (h.0, (h.1.0, λ image left. wider image (h.1.1 image left)))
+more_images g bytes few many ends.NotAJournal disk wider h = (h.0, (h.1.0, λ image left. wider image (h.1.1 image left)))
+more_images g bytes few many ends.DiskFault disk wider h = h
+more_images g bytes few many (ends.Served end) disk wider h = absurd h
+more_images g bytes few many (ends.Damaged at) disk wider h = absurd h
+more_images g bytes few many ends.NoMemory disk wider h = absurd h
 
-more_images_if : {D : Type 0} (content : D → Option (List ℕ)) (may_leave : D → List ℕ → Type 0) (o : Option (List ℕ))
+more_images_if : {D : Type 0} (g : Ghosts D) (o : Option (List ℕ))
     (few many : List ℕ → Type 0) (end : RunEnd) (disk : D) → NothingNew many few
-    → IfSome o (λ bytes. MakesOn content may_leave bytes few end disk) → IfSome o (λ bytes. MakesOn content may_leave bytes many end disk)
-more_images_if content may_leave None few many end disk wider h = tt
-more_images_if content may_leave (Some bytes) few many end disk wider h = more_images content may_leave bytes few many end disk wider h
+    → IfSome o (λ bytes. MakesOn g bytes few end disk) → IfSome o (λ bytes. MakesOn g bytes many end disk)
+more_images_if g None few many end disk wider h = tt
+more_images_if g (Some bytes) few many end disk wider h = more_images g bytes few many end disk wider h
 
 -- what a stop leaves of the making, by its end
 left_by : {T : Type 0} (images : List ℕ → Type 0) (made : Result T InitFault) (image : List ℕ)
@@ -72,12 +73,12 @@ left_by images (Err making.Exists) image h = h
 left_by images (Err making.NotAJournal) image h = h
 left_by images (Err making.Fault) image h = h
 
-pub leaves_on : {D T : Type 0} (moment : D → ℕ) (left_since : D → ℕ → List ℕ → Type 0) (images : List ℕ → Type 0) (made : Result T InitFault)
-    (end : RunEnd) (old new : D) → end ≡ making_end made → LeavesOnly moment left_since old new (IsLeftByInit images made)
-    → LeavesOnly moment left_since old new (IsLeftByMaking images end)
-leaves_on moment left_since images made end old new is leaves =
-    subst (λ (e : RunEnd). LeavesOnly moment left_since old new (IsLeftByMaking images e)) (sym is)
-    (widened moment left_since old new (IsLeftByInit images made) (IsLeftByMaking images (making_end made)) leaves (left_by images made))
+pub leaves_on : {D T : Type 0} (g : Ghosts D) (images : List ℕ → Type 0) (made : Result T InitFault)
+    (end : RunEnd) (old new : D) → end ≡ making_end made → LeavesOnly g old new (IsLeftByInit images made)
+    → LeavesOnly g old new (IsLeftByMaking images end)
+leaves_on g images made end old new is leaves =
+    subst (λ (e : RunEnd). LeavesOnly g old new (IsLeftByMaking images e)) (sym is)
+    (widened g old new (IsLeftByInit images made) (IsLeftByMaking images (making_end made)) leaves (left_by images made))
 
 -- of more images a stop may leave more
 left_more : (few many : List ℕ → Type 0) (end : RunEnd) (image : List ℕ) → NothingNew many few
@@ -91,62 +92,59 @@ left_more few many (ends.Damaged at) image wider h = absurd h
 left_more few many ends.NoMemory image wider h = absurd h
 
 -- what might have been left before may be left at each end that a making has
-left_before : {D : Type 0} (content : D → Option (List ℕ)) (may_leave : D → List ℕ → Type 0) (bytes : List ℕ) (images all : List ℕ → Type 0)
-    (end : RunEnd) (left : D) (image : List ℕ) → MakesOn content may_leave bytes images end left → all image → IsLeftByMaking all end image
-left_before content may_leave bytes images all ends.Made left image makes h = (image, h, whole 0 17 image)
-left_before content may_leave bytes images all ends.Exists left image makes h = h
-left_before content may_leave bytes images all ends.NotAJournal left image makes h = h
-left_before content may_leave bytes images all ends.DiskFault left image makes h = (image, h, whole 0 17 image)
-left_before content may_leave bytes images all (ends.Served end) left image makes h = absurd makes
-left_before content may_leave bytes images all (ends.Damaged at) left image makes h = absurd makes
-left_before content may_leave bytes images all ends.NoMemory left image makes h = absurd makes
+left_before : {D : Type 0} (g : Ghosts D) (bytes : List ℕ) (images all : List ℕ → Type 0)
+    (end : RunEnd) (left : D) (image : List ℕ) → MakesOn g bytes images end left → all image → IsLeftByMaking all end image
+left_before g bytes images all ends.Made left image makes h = (image, h, whole 0 17 image)
+left_before g bytes images all ends.Exists left image makes h = h
+left_before g bytes images all ends.NotAJournal left image makes h = h
+left_before g bytes images all ends.DiskFault left image makes h = (image, h, whole 0 17 image)
+left_before g bytes images all (ends.Served end) left image makes h = absurd makes
+left_before g bytes images all (ends.Damaged at) left image makes h = absurd makes
+left_before g bytes images all ends.NoMemory left image makes h = absurd makes
 
 -- a disk that was made left no bytes before
-leaves_made : {D : Type 0} (content : D → Option (List ℕ)) (may_leave : D → List ℕ → Type 0) (moment : D → ℕ)
-    (left_since : D → ℕ → List ℕ → Type 0) (end : RunEnd) (disk left : D) → IsEmptyDisk content may_leave left_since disk
-    → MakesOn content may_leave [] (λ image. image ≡ []) end left
-    → LeavesOnly moment left_since disk left (IsLeftByMaking (may_leave disk) end)
-    → (image : List ℕ) → left_since left 0 image → IsLeftByMaking (λ image. image ≡ []) end image
-leaves_made content may_leave moment left_since end disk left empty makes leaves image k =
+leaves_made : {D : Type 0} (g : Ghosts D) (end : RunEnd) (disk left : D) → IsEmptyDisk g disk
+    → MakesOn g [] (λ image. image ≡ []) end left
+    → LeavesOnly g disk left (IsLeftByMaking (g.may_leave disk) end)
+    → (image : List ℕ) → g.left_since left 0 image → IsLeftByMaking (λ image. image ≡ []) end image
+leaves_made g end disk left empty makes leaves image k =
     ⊎_elim
-    (λ was. left_before content may_leave [] (λ image. image ≡ []) (λ image. image ≡ []) end left image makes (empty.since 0 image was))
-    (λ now. left_more (may_leave disk) (λ image. image ≡ []) end image empty.images now)
+    (λ was. left_before g [] (λ image. image ≡ []) (λ image. image ≡ []) end left image makes (empty.since 0 image was))
+    (λ now. left_more (g.may_leave disk) (λ image. image ≡ []) end image empty.images now)
     (leaves.before 0 image (omega arith) k)
 
 -- what was made on the disk that was given is made at its place
-module _ {D : Type 0} (content : D → Option (List ℕ)) (may_leave : D → List ℕ → Type 0) (moment : D → ℕ)
-    (left_since : D → ℕ → List ℕ → Type 0) (calls : D → List Bool) (end : RunEnd) (disk left : D)
-    (makes : IfSome (content disk) (λ bytes. MakesOn content may_leave bytes (may_leave disk) end left))
-    (leaves : LeavesOnly moment left_since disk left (IsLeftByMaking (may_leave disk) end)) where
-  on_made : IsEmptyDisk content may_leave left_since disk → MakesOn content may_leave [] (λ image. image ≡ []) end left
+module _ {D : Type 0} (g : Ghosts D) (end : RunEnd) (disk left : D)
+    (makes : IfSome (g.content disk) (λ bytes. MakesOn g bytes (g.may_leave disk) end left))
+    (leaves : LeavesOnly g disk left (IsLeftByMaking (g.may_leave disk) end)) where
+  on_made : IsEmptyDisk g disk → MakesOn g [] (λ image. image ≡ []) end left
   on_made empty =
-      more_images content may_leave [] (may_leave disk) (λ image. image ≡ []) end left empty.images
-      (subst (λ (o : Option (List ℕ)). IfSome o (λ bytes. MakesOn content may_leave bytes (may_leave disk) end left)) empty.none makes)
+      more_images g [] (g.may_leave disk) (λ image. image ≡ []) end left empty.images
+      (subst (λ (o : Option (List ℕ)). IfSome o (λ bytes. MakesOn g bytes (g.may_leave disk) end left)) empty.none makes)
 
-  made_at : (place : Place D) → IsGiven content may_leave moment left_since calls true place disk
-      → MakesAt content may_leave moment left_since end place (Kept left)
+  made_at : (place : Place D) → IsGiven g true place disk
+      → MakesAt g end place (Kept left)
   made_at Free given =
-      inr (on_made given.1, leaves_made content may_leave moment left_since end disk left given.1 (on_made given.1) leaves)
+      inr (on_made given.1, leaves_made g end disk left given.1 (on_made given.1) leaves)
   made_at (Kept held) given =
       inr (
-        more_images_if content may_leave (content held) (may_leave disk) (may_leave held) end left given.images
-            (subst (λ (o : Option (List ℕ)). IfSome o (λ bytes. MakesOn content may_leave bytes (may_leave disk) end left)) given.same makes),
-        leaves_kept content may_leave moment left_since calls held disk left (IsLeftByMaking (may_leave disk) end) (IsLeftByMaking (may_leave held) end)
-            given leaves (λ image h. left_more (may_leave disk) (may_leave held) end image given.images h),
+        more_images_if g (g.content held) (g.may_leave disk) (g.may_leave held) end left given.images
+            (subst (λ (o : Option (List ℕ)). IfSome o (λ bytes. MakesOn g bytes (g.may_leave disk) end left)) given.same makes),
+        leaves_kept g held disk left (IsLeftByMaking (g.may_leave disk) end) (IsLeftByMaking (g.may_leave held) end)
+            given leaves (λ image h. left_more (g.may_leave disk) (g.may_leave held) end image given.images h),
       )
   made_at Out given =
-      inr (on_made given.1, leaves_made content may_leave moment left_since end disk left given.1 (on_made given.1) leaves)
+      inr (on_made given.1, leaves_made g end disk left given.1 (on_made given.1) leaves)
 
-pub makes_kept : {D : Type 0} (content : D → Option (List ℕ)) (may_leave : D → List ℕ → Type 0) (moment : D → ℕ)
-    (left_since : D → ℕ → List ℕ → Type 0) (calls : D → List Bool) (end : RunEnd)
+pub makes_kept : {D : Type 0} (g : Ghosts D) (end : RunEnd)
     (name : List ℕ) (p0 p1 p2 : Option (List ℕ → Place D)) (disk left : D)
-    → IsOpened content may_leave moment left_since calls name true p0 p1 (opens.Disk disk) → IsKept name left p1 p2
-    → IfSome (content disk) (λ bytes. MakesOn content may_leave bytes (may_leave disk) end left)
-    → LeavesOnly moment left_since disk left (IsLeftByMaking (may_leave disk) end)
-    → Makes content may_leave moment left_since end name p0 p2
-makes_kept content may_leave moment left_since calls end name p0 p1 p2 disk left opened kept makes leaves =
-    opened_and_kept content may_leave moment left_since calls name true p0 p1 p2 disk left (λ before after. MakesAt content may_leave moment left_since end before after)
-    opened kept (made_at content may_leave moment left_since calls end disk left makes leaves)
+    → IsOpened g name true p0 p1 (opens.Disk disk) → IsKept name left p1 p2
+    → IfSome (g.content disk) (λ bytes. MakesOn g bytes (g.may_leave disk) end left)
+    → LeavesOnly g disk left (IsLeftByMaking (g.may_leave disk) end)
+    → Makes g end name p0 p2
+makes_kept g end name p0 p1 p2 disk left opened kept makes leaves =
+    opened_and_kept g name true p0 p1 p2 disk left (λ before after. MakesAt g end before after)
+    opened kept (made_at g end disk left makes leaves)
 
 pub ends_kept : (end : RunEnd) (f f' c0 c1 c2 : ℕ) → IsMakingEnd end f f' → f ≡ 0 → c0 ≤ c1 → IsCounted f' c1 c2 → IsMakingEnd end c0 c2
 ends_kept ends.Made f f' c0 c1 c2 h fresh later counted = tt
@@ -158,11 +156,10 @@ ends_kept (ends.Damaged at) f f' c0 c1 c2 h fresh later counted = absurd h
 ends_kept ends.NoMemory f f' c0 c1 c2 h fresh later counted = absurd h
 
 -- the cabinet failed
-pub makes_failed : {D : Type 0} (content : D → Option (List ℕ)) (may_leave : D → List ℕ → Type 0) (moment : D → ℕ)
-    (left_since : D → ℕ → List ℕ → Type 0) (calls : D → List Bool)
+pub makes_failed : {D : Type 0} (g : Ghosts D)
     (name : List ℕ) (p0 p1 : Option (List ℕ → Place D))
-    → IsOpened content may_leave moment left_since calls name true p0 p1 opens.Failed → Makes content may_leave moment left_since ends.DiskFault name p0 p1
-makes_failed content may_leave moment left_since calls name None p1 opened = tt
-makes_failed content may_leave moment left_since calls name (Some b) None opened = absurd opened
-makes_failed content may_leave moment left_since calls name (Some b) (Some a) opened =
-    all_stay name b a (λ before after. MakesAt content may_leave moment left_since ends.DiskFault before after) opened (inl (refl, refl))
+    → IsOpened g name true p0 p1 opens.Failed → Makes g ends.DiskFault name p0 p1
+makes_failed g name None p1 opened = tt
+makes_failed g name (Some b) None opened = absurd opened
+makes_failed g name (Some b) (Some a) opened =
+    all_stay name b a (λ before after. MakesAt g ends.DiskFault before after) opened (inl (refl, refl))

@@ -1,6 +1,7 @@
 -- How a session goes on, message by message.
 use Rattle.std.proofs.Common.{◌≡◌, ℕ, ◌+◌, ◌^◌, ◌≤◌, Bool, if◌then◌else◌, true, false, List, [], ◌∷◌, ◌++◌, length, Option, Some, None, IfSome, IsSomeAnd, refl, sym, ◌∙◌, ap, subst, inl, inr, append-nil, length-append, arith}
 use Rattle.std.specs.List.{concat}
+use Rattle.devices.specs.declared.disks.Disk.{Ghosts}
 use Rattle.office.specs.History.{Event}
 use Rattle.http_api.specs.Asks.{ask_of}
 use Rattle.http_api.specs.declared.asks.Ask.{Ask}
@@ -15,7 +16,7 @@ use Rattle.wire.specs.Messages.{Request, request_of}
 use Rattle.streamoffice.specs.Answering.{Answered}
 use Rattle.streamoffice.specs.Output.{asked, IsReply, AreReplies}
 use Rattle.streamoffice.specs.Passing.{Passes}
-use Rattle.streamoffice.specs.Served.{AreWritten}
+use Rattle.devices.specs.Sinks.{AreWritten}
 use Rattle.streamoffice.specs.Session.{IsServed, IsReadTo, IsUnderWay, GoesOn}
 use Rattle.streamoffice.specs.declared.sessions.SessionEnd.{SessionEnd}
 use Rattle.streamoffice.specs.declared.sessions.SessionEnd.TheVariants as ends
@@ -247,17 +248,17 @@ after_skip false end limit events P held held' l0 l l' w0 w w' is u answers few 
     (fails_skipped limit events P held held' l0 l l' w0 w w' u answers few put)
 
 -- A request is answered by what it asks, and the history passes on to what follows.
-pub answered_by : {D : Type 0} (moment : D → ℕ) (left_since : D → ℕ → List ℕ → Type 0) (faults : D → ℕ) (told : Bool)
+pub answered_by : {D : Type 0} (g : Ghosts D) (told : Bool)
     (limit limit' : ℕ) (Old New : List Event → Type 0) (events : List Event) (first old new : D) (ask : Option Ask) (verb : Verb)
     (target target' reply : List ℕ)
     → limit' ≡ limit → ask ≡ ask_of verb target' → target' ≡ target
-    → Answered limit' Old ask reply New (λ h next. Passes moment left_since faults told h next old new)
-    → Replies limit (λ mid. Old mid × Passes moment left_since faults told events mid first old) (ask_of verb target) reply
-    (λ mid. New mid × Passes moment left_since faults told events mid first new)
-answered_by moment left_since faults told limit limit' Old New events first old new ask verb target target' reply at is same answered mid stood =
+    → Answered limit' Old ask reply New (λ h next. Passes g told h next old new)
+    → Replies limit (λ mid. Old mid × Passes g told events mid first old) (ask_of verb target) reply
+    (λ mid. New mid × Passes g told events mid first new)
+answered_by g told limit limit' Old New events first old new ask verb target target' reply at is same answered mid stood =
     let done = answered mid stood.0 in (
       done.0,
       subst (λ (n : ℕ). IsReply n mid (ask_of verb target) reply done.0) at
           (subst (λ (a : Option Ask). IsReply limit' mid a reply done.0) (is ∙ ap (ask_of verb) same) done.1),
-      (done.2, passes_more moment left_since faults told events mid done.0 first old new stood.1 done.3),
+      (done.2, passes_more g told events mid done.0 first old new stood.1 done.3),
     )

@@ -1,5 +1,6 @@
 -- What the end of a run says of the status.
 use Rattle.std.proofs.Common.{◌≡◌, ◌≢◌, ◌⊎◌, ℕ, ◌+◌, ◌<◌, ◌^◌, List, ◌++◌, length, Option, Some, None, IfSome, IsSome, IsSomeAnd, refl, ap, subst, inl, inr, arith}
+use Rattle.devices.specs.declared.disks.Disk.{Ghosts}
 use Rattle.devices.specs.Cabinets.{Place, Free, Kept, Out}
 use Rattle.devices.specs.Faults.{Rose}
 use Rattle.office.specs.History.{Event, reopen}
@@ -122,58 +123,55 @@ both None P Q p q = absurd q
 both (Some bytes) P Q p q = (bytes, p, q)
 
 -- where a journal may be made, none stands there already, and nothing that is none
-at_kept : {D : Type 0} (content : D → Option (List ℕ)) (may_leave : D → List ℕ → Type 0) (moment : D → ℕ)
-    (left_since : D → ℕ → List ℕ → Type 0) (end : RunEnd) (before after : Place D)
-    → MakesAt content may_leave moment left_since end before after → IsSomeAnd (bytes_found content before) (λ bytes. (¬ IsTaken bytes) × (¬ IsForeign bytes))
+at_kept : {D : Type 0} (g : Ghosts D) (end : RunEnd) (before after : Place D)
+    → MakesAt g end before after → IsSomeAnd (bytes_found g before) (λ bytes. (¬ IsTaken bytes) × (¬ IsForeign bytes))
     → (end ≡ ends.DiskFault) ⊎ ((bytes : List ℕ) × (disk : D)
-    × MakesOn content may_leave bytes (images_found may_leave before) end disk × ((¬ IsTaken bytes) × (¬ IsForeign bytes)))
-at_kept content may_leave moment left_since end before after (inl h) room = inl h.0
-at_kept content may_leave moment left_since end before Free (inr h) room = absurd h
-at_kept content may_leave moment left_since end before Out (inr h) room = absurd h
-at_kept content may_leave moment left_since end before (Kept disk) (inr h) room =
-    let found = both (bytes_found content before) (λ bytes. MakesOn content may_leave bytes (images_found may_leave before) end disk)
+    × MakesOn g bytes (images_found g before) end disk × ((¬ IsTaken bytes) × (¬ IsForeign bytes)))
+at_kept g end before after (inl h) room = inl h.0
+at_kept g end before Free (inr h) room = absurd h
+at_kept g end before Out (inr h) room = absurd h
+at_kept g end before (Kept disk) (inr h) room =
+    let found = both (bytes_found g before) (λ bytes. MakesOn g bytes (images_found g before) end disk)
     (λ bytes. (¬ IsTaken bytes) × (¬ IsForeign bytes)) h.0 room in
     inr (found.0, disk, found.1, found.2)
 
-makes_there : {D : Type 0} (content : D → Option (List ℕ)) (may_leave : D → List ℕ → Type 0) (moment : D → ℕ)
-    (left_since : D → ℕ → List ℕ → Type 0) (end : RunEnd) (name : List ℕ)
-    (p0 p2 : Option (List ℕ → Place D)) → Makes content may_leave moment left_since end name p0 p2 → HasRoom content name p0
+makes_there : {D : Type 0} (g : Ghosts D) (end : RunEnd) (name : List ℕ)
+    (p0 p2 : Option (List ℕ → Place D)) → Makes g end name p0 p2 → HasRoom g name p0
     → (images : List ℕ → Type 0) × ((end ≡ ends.DiskFault) ⊎ ((bytes : List ℕ) × (disk : D)
-    × MakesOn content may_leave bytes images end disk × ((¬ IsTaken bytes) × (¬ IsForeign bytes))))
-makes_there content may_leave moment left_since end name None p2 makes room = absurd room
-makes_there content may_leave moment left_since end name (Some b) None makes room = absurd makes
-makes_there content may_leave moment left_since end name (Some b) (Some a) makes room =
-    (images_found may_leave (b name), at_kept content may_leave moment left_since end (b name) (a name) makes.0 room)
+    × MakesOn g bytes images end disk × ((¬ IsTaken bytes) × (¬ IsForeign bytes))))
+makes_there g end name None p2 makes room = absurd room
+makes_there g end name (Some b) None makes room = absurd makes
+makes_there g end name (Some b) (Some a) makes room =
+    (images_found g (b name), at_kept g end (b name) (a name) makes.0 room)
 
-made_there : {D : Type 0} (content : D → Option (List ℕ)) (may_leave : D → List ℕ → Type 0) (end : RunEnd) (bytes : List ℕ)
-    (images : List ℕ → Type 0) (disk : D) → MakesOn content may_leave bytes images end disk
+made_there : {D : Type 0} (g : Ghosts D) (end : RunEnd) (bytes : List ℕ)
+    (images : List ℕ → Type 0) (disk : D) → MakesOn g bytes images end disk
     → (¬ IsTaken bytes) × (¬ IsForeign bytes) → (end ≡ ends.Made) ⊎ (end ≡ ends.DiskFault)
-made_there content may_leave ends.Made bytes images disk h room = inl refl
-made_there content may_leave ends.Exists bytes images disk h room = absurd (room.0 h.0)
-made_there content may_leave ends.NotAJournal bytes images disk h room = absurd (room.1 h.0)
-made_there content may_leave ends.DiskFault bytes images disk h room = inr refl
-made_there content may_leave (ends.Served end) bytes images disk h room = absurd h
-made_there content may_leave (ends.Damaged at) bytes images disk h room = absurd h
-made_there content may_leave ends.NoMemory bytes images disk h room = absurd h
+made_there g ends.Made bytes images disk h room = inl refl
+made_there g ends.Exists bytes images disk h room = absurd (room.0 h.0)
+made_there g ends.NotAJournal bytes images disk h room = absurd (room.1 h.0)
+made_there g ends.DiskFault bytes images disk h room = inr refl
+made_there g (ends.Served end) bytes images disk h room = absurd h
+made_there g (ends.Damaged at) bytes images disk h room = absurd h
+made_there g ends.NoMemory bytes images disk h room = absurd h
 
-made_or_failed : {D : Type 0} (content : D → Option (List ℕ)) (may_leave : D → List ℕ → Type 0) (end : RunEnd) (images : List ℕ → Type 0)
+made_or_failed : {D : Type 0} (g : Ghosts D) (end : RunEnd) (images : List ℕ → Type 0)
     → (end ≡ ends.DiskFault) ⊎ ((bytes : List ℕ) × (disk : D)
-    × MakesOn content may_leave bytes images end disk × ((¬ IsTaken bytes) × (¬ IsForeign bytes)))
+    × MakesOn g bytes images end disk × ((¬ IsTaken bytes) × (¬ IsForeign bytes)))
     → (end ≡ ends.Made) ⊎ (end ≡ ends.DiskFault)
-made_or_failed content may_leave end images (inl e) = inr e
-made_or_failed content may_leave end images (inr h) = made_there content may_leave end h.0 images h.1 h.2 h.3
+made_or_failed g end images (inl e) = inr e
+made_or_failed g end images (inr h) = made_there g end h.0 images h.1 h.2 h.3
 
 by_cause : (end : RunEnd) (c0 c2 : ℕ) → (end ≡ ends.Made) ⊎ (end ≡ ends.DiskFault) → IsMakingEnd end c0 c2 → ¬ (Rose c0 c2) → status_of end ≡ 0
 by_cause end c0 c2 (inl e) h calm = ap status_of e
 by_cause end c0 c2 (inr e) h calm = absurd (calm (subst (λ (x : RunEnd). IsMakingEnd x c0 c2) e h))
 
-pub completes_init : {D : Type 0} (content : D → Option (List ℕ)) (may_leave : D → List ℕ → Type 0) (moment : D → ℕ)
-    (left_since : D → ℕ → List ℕ → Type 0) (end : RunEnd) (name : List ℕ)
+pub completes_init : {D : Type 0} (g : Ghosts D) (end : RunEnd) (name : List ℕ)
     (p0 p2 : Option (List ℕ → Place D)) (c0 c2 : ℕ)
-    → Makes content may_leave moment left_since end name p0 p2 → IsMakingEnd end c0 c2 → HasRoom content name p0 → ¬ (Rose c0 c2) → status_of end ≡ 0
-completes_init content may_leave moment left_since end name p0 p2 c0 c2 makes h room calm =
-    let there = makes_there content may_leave moment left_since end name p0 p2 makes room in
-    by_cause end c0 c2 (made_or_failed content may_leave end there.0 there.1) h calm
+    → Makes g end name p0 p2 → IsMakingEnd end c0 c2 → HasRoom g name p0 → ¬ (Rose c0 c2) → status_of end ≡ 0
+completes_init g end name p0 p2 c0 c2 makes h room calm =
+    let there = makes_there g end name p0 p2 makes room in
+    by_cause end c0 c2 (made_or_failed g end there.0 there.1) h calm
 
 -- what a session served, where both streams tell their bytes
 abbrev IsTold : List Event → List Event → SessionEnd → Option (List ℕ) → Option (List ℕ) → Option (List ℕ) → Option (List ℕ) → Type 0
@@ -214,41 +212,39 @@ session_completes sessions.OutputFault events l0 l w0 w P a b c d served cause f
 session_completes sessions.NoMemory events l0 l w0 w P a b c d served cause formed told calm still = inr refl
 
 -- a place with a journal that is not damaged has a header and no damage
-sound_header : {D : Type 0} (content : D → Option (List ℕ)) (place : Place D)
-    → HasKept (λ disk. IsSomeAnd (content disk) IsSound) place → IfKept (λ disk. IfSome (content disk) (λ bytes. ¬ HasHeader bytes)) place → ⊥
-sound_header content Free sound none = sound
-sound_header content Out sound none = sound
-sound_header content (Kept disk) sound none =
-    let found = both (content disk) (λ bytes. ¬ HasHeader bytes) IsSound none sound in found.1 found.2.header
+sound_header : {D : Type 0} (g : Ghosts D) (place : Place D)
+    → HasKept (λ disk. IsSomeAnd (g.content disk) IsSound) place → IfKept (λ disk. IfSome (g.content disk) (λ bytes. ¬ HasHeader bytes)) place → ⊥
+sound_header g Free sound none = sound
+sound_header g Out sound none = sound
+sound_header g (Kept disk) sound none =
+    let found = both (g.content disk) (λ bytes. ¬ HasHeader bytes) IsSound none sound in found.1 found.2.header
 
-sound_whole : {D : Type 0} (content : D → Option (List ℕ)) (place : Place D) (at : ℕ)
-    → HasKept (λ disk. IsSomeAnd (content disk) IsSound) place → HasKept (λ disk. IfSome (content disk) (IsDamagedAt at)) place → ⊥
-sound_whole content Free at sound damaged = sound
-sound_whole content Out at sound damaged = sound
-sound_whole content (Kept disk) at sound damaged =
-    let found = both (content disk) (IsDamagedAt at) IsSound damaged sound in found.2.whole at found.1
+sound_whole : {D : Type 0} (g : Ghosts D) (place : Place D) (at : ℕ)
+    → HasKept (λ disk. IsSomeAnd (g.content disk) IsSound) place → HasKept (λ disk. IfSome (g.content disk) (IsDamagedAt at)) place → ⊥
+sound_whole g Free at sound damaged = sound
+sound_whole g Out at sound damaged = sound
+sound_whole g (Kept disk) at sound damaged =
+    let found = both (g.content disk) (IsDamagedAt at) IsSound damaged sound in found.2.whole at found.1
 
-not_stays : {D : Type 0} (content : D → Option (List ℕ)) (may_leave : D → List ℕ → Type 0) (moment : D → ℕ)
-    (left_since : D → ℕ → List ℕ → Type 0) (name : List ℕ) (P : Place D → Type 0)
-    (p0 p2 : Option (List ℕ → Place D)) → HasSound content name p0 → StaysWith content may_leave moment left_since name P p0 p2
-    → ((place : Place D) → HasKept (λ disk. IsSomeAnd (content disk) IsSound) place → P place → ⊥) → ⊥
-not_stays content may_leave moment left_since name P None p2 sound stays never = sound
-not_stays content may_leave moment left_since name P (Some b) None sound stays never = stays
-not_stays content may_leave moment left_since name P (Some b) (Some a) sound stays never = never (b name) sound stays.0
+not_stays : {D : Type 0} (g : Ghosts D) (name : List ℕ) (P : Place D → Type 0)
+    (p0 p2 : Option (List ℕ → Place D)) → HasSound g name p0 → StaysWith g name P p0 p2
+    → ((place : Place D) → HasKept (λ disk. IsSomeAnd (g.content disk) IsSound) place → P place → ⊥) → ⊥
+not_stays g name P None p2 sound stays never = sound
+not_stays g name P (Some b) None sound stays never = stays
+not_stays g name P (Some b) (Some a) sound stays never = never (b name) sound stays.0
 
-pub completes : {D : Type 0} (content : D → Option (List ℕ)) (may_leave : D → List ℕ → Type 0) (moment : D → ℕ)
-    (left_since : D → ℕ → List ℕ → Type 0) (faults : D → ℕ) (end : RunEnd)
+pub completes : {D : Type 0} (g : Ghosts D) (end : RunEnd)
     (name : List ℕ) (p0 p2 : Option (List ℕ → Place D)) (c0 c2 : ℕ) (l0 l w0 w : Option (List ℕ)) (a b c d : ℕ)
-    → ServesUnder content may_leave moment left_since faults name end p0 p2 c0 c2 l0 l w0 w → RunCause end a b c d → HasSound content name p0
+    → ServesUnder g name end p0 p2 c0 c2 l0 l w0 w → RunCause end a b c d → HasSound g name p0
     → IsSomeAnd l0 IsWellFormed → IsSome w0 → ¬ (Rose a b) → ¬ (Rose c d) → ¬ (Rose c0 c2)
     → (status_of end ≡ 0) ⊎ (status_of end ≡ 6)
-completes content may_leave moment left_since faults ends.Made name p0 p2 c0 c2 l0 l w0 w a b c d h cause sound formed told calm still quiet = absurd h
-completes content may_leave moment left_since faults ends.Exists name p0 p2 c0 c2 l0 l w0 w a b c d h cause sound formed told calm still quiet = absurd h
-completes content may_leave moment left_since faults (ends.Served end) name p0 p2 c0 c2 l0 l w0 w a b c d h cause sound formed told calm still quiet =
+completes g ends.Made name p0 p2 c0 c2 l0 l w0 w a b c d h cause sound formed told calm still quiet = absurd h
+completes g ends.Exists name p0 p2 c0 c2 l0 l w0 w a b c d h cause sound formed told calm still quiet = absurd h
+completes g (ends.Served end) name p0 p2 c0 c2 l0 l w0 w a b c d h cause sound formed told calm still quiet =
     session_completes end (reopen h.0) l0 l w0 w _ a b c d h.1 cause formed told calm still
-completes content may_leave moment left_since faults ends.DiskFault name p0 p2 c0 c2 l0 l w0 w a b c d h cause sound formed told calm still quiet = absurd (quiet h.1)
-completes content may_leave moment left_since faults ends.NotAJournal name p0 p2 c0 c2 l0 l w0 w a b c d h cause sound formed told calm still quiet =
-    absurd (not_stays content may_leave moment left_since name (IfKept (λ disk. IfSome (content disk) (λ bytes. ¬ HasHeader bytes))) p0 p2 sound h (sound_header content))
-completes content may_leave moment left_since faults (ends.Damaged at) name p0 p2 c0 c2 l0 l w0 w a b c d h cause sound formed told calm still quiet =
-    absurd (not_stays content may_leave moment left_since name (HasKept (λ disk. IfSome (content disk) (IsDamagedAt at))) p0 p2 sound h (λ place. sound_whole content place at))
-completes content may_leave moment left_since faults ends.NoMemory name p0 p2 c0 c2 l0 l w0 w a b c d h cause sound formed told calm still quiet = inr refl
+completes g ends.DiskFault name p0 p2 c0 c2 l0 l w0 w a b c d h cause sound formed told calm still quiet = absurd (quiet h.1)
+completes g ends.NotAJournal name p0 p2 c0 c2 l0 l w0 w a b c d h cause sound formed told calm still quiet =
+    absurd (not_stays g name (IfKept (λ disk. IfSome (g.content disk) (λ bytes. ¬ HasHeader bytes))) p0 p2 sound h (sound_header g))
+completes g (ends.Damaged at) name p0 p2 c0 c2 l0 l w0 w a b c d h cause sound formed told calm still quiet =
+    absurd (not_stays g name (HasKept (λ disk. IfSome (g.content disk) (IsDamagedAt at))) p0 p2 sound h (λ place. sound_whole g place at))
+completes g ends.NoMemory name p0 p2 c0 c2 l0 l w0 w a b c d h cause sound formed told calm still quiet = inr refl

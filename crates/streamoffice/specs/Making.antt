@@ -1,5 +1,6 @@
 -- What a run of `init` comes to.
 use Rattle.std.specs.Prelude.{◌≡◌, ◌⊎◌, ℕ, List, Option, Some, IfSome, IsSomeAnd, ⊤}
+use Rattle.devices.specs.declared.disks.Disk.{Ghosts}
 use Rattle.devices.specs.Cabinets.{Place, Free, Kept, Out, OthersStay}
 use Rattle.devices.specs.Disks.{Only, Torn, NothingNew}
 use Rattle.devices.specs.Faults.{Rose}
@@ -10,16 +11,16 @@ use Rattle.streamoffice.specs.Places.{HasKept, bytes_found, images_found}
 use Rattle.streamoffice.specs.declared.commands.RunEnd.{RunEnd}
 use Rattle.streamoffice.specs.declared.commands.RunEnd.TheVariants.{Made, Served, Exists, DiskFault, NotAJournal, Damaged, NoMemory}
 
-module _ {D : Type 0} (content : D → Option (List ℕ)) (may_leave : D → List ℕ → Type 0) where
+module _ {D : Type 0} (g : Ghosts D) where
   -- Exactly where which end comes, over these bytes of which a stop might leave these images, and what the disk has then: a
   -- journal of no records, or what it had. A fault may come in place of each, and leave any bytes in the place of the first
   -- 17.
   abbrev pub MakesOn : List ℕ → (List ℕ → Type 0) → RunEnd → D → Type 0
   MakesOn bytes images Made disk =
-      ((¬ IsTaken bytes) × (¬ IsForeign bytes)) × ((content disk ≡ Some empty_journal) × Only empty_journal (may_leave disk))
-  MakesOn bytes images Exists disk = IsTaken bytes × ((content disk ≡ Some bytes) × NothingNew images (may_leave disk))
-  MakesOn bytes images NotAJournal disk = IsForeign bytes × ((content disk ≡ Some bytes) × NothingNew images (may_leave disk))
-  MakesOn bytes images DiskFault disk = IsSomeAnd (content disk) (Torn 0 17 bytes)
+      ((¬ IsTaken bytes) × (¬ IsForeign bytes)) × ((g.content disk ≡ Some empty_journal) × Only empty_journal (g.may_leave disk))
+  MakesOn bytes images Exists disk = IsTaken bytes × ((g.content disk ≡ Some bytes) × NothingNew images (g.may_leave disk))
+  MakesOn bytes images NotAJournal disk = IsForeign bytes × ((g.content disk ≡ Some bytes) × NothingNew images (g.may_leave disk))
+  MakesOn bytes images DiskFault disk = IsSomeAnd (g.content disk) (Torn 0 17 bytes)
   MakesOn bytes images (Served end) disk = ⊥
   MakesOn bytes images (Damaged at) disk = ⊥
   MakesOn bytes images NoMemory disk = ⊥
@@ -45,23 +46,21 @@ IsLeftByMaking images (Served end) image = ⊥
 IsLeftByMaking images (Damaged at) image = ⊥
 IsLeftByMaking images NoMemory image = ⊥
 
-module _ {D : Type 0} (moment : D → ℕ) (left_since : D → ℕ → List ℕ → Type 0) where
+module _ {D : Type 0} (g : Ghosts D) where
   -- a stop at any moment of a run leaves an image that has P: of a disk that was under the name, at any moment since then,
   -- and of one that was made, at any moment of its own
   abbrev pub LeavesAt : (List ℕ → Type 0) → Place D → D → Type 0
-  LeavesAt P Free disk = (image : List ℕ) → left_since disk 0 image → P image
-  LeavesAt P (Kept held) disk = LeavesOnly moment left_since held disk P
-  LeavesAt P Out disk = (image : List ℕ) → left_since disk 0 image → P image
+  LeavesAt P Free disk = (image : List ℕ) → g.left_since disk 0 image → P image
+  LeavesAt P (Kept held) disk = LeavesOnly g held disk P
+  LeavesAt P Out disk = (image : List ℕ) → g.left_since disk 0 image → P image
 
-module _ {D : Type 0} (content : D → Option (List ℕ)) (may_leave : D → List ℕ → Type 0)
-    (moment : D → ℕ) (left_since : D → ℕ → List ℕ → Type 0) where
   -- The disk that was found or made is under its name, as its end says, and so is what a stop at any moment of the run left.
   -- But where the cabinet failed the place is as before.
   abbrev pub MakesAt : RunEnd → Place D → Place D → Type 0
   MakesAt end before after =
       ((end ≡ DiskFault) × (after ≡ before))
-      ⊎ HasKept (λ disk. IfSome (bytes_found content before) (λ bytes. MakesOn content may_leave bytes (images_found may_leave before) end disk)
-      × LeavesAt moment left_since (IsLeftByMaking (images_found may_leave before) end) before disk) after
+      ⊎ HasKept (λ disk. IfSome (bytes_found g before) (λ bytes. MakesOn g bytes (images_found g before) end disk)
+      × LeavesAt (IsLeftByMaking (images_found g before) end) before disk) after
 
   -- and under the other names nothing has changed
   abbrev pub Makes : RunEnd → List ℕ → Option (List ℕ → Place D) → Option (List ℕ → Place D) → Type 0

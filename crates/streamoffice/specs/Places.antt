@@ -1,5 +1,6 @@
 -- The place of a journal in a cabinet, before a run and after it.
 use Rattle.std.specs.Prelude.{◌≡◌, ℕ, List, [], Option, Some, ⊤}
+use Rattle.devices.specs.declared.disks.Disk.{Ghosts}
 use Rattle.devices.specs.Cabinets.{Place, Free, Kept, Out}
 use Rattle.devices.specs.Disks.{IsUnchanged, NothingNew}
 use Rattle.journal.specs.Moments.{LeavesOnly}
@@ -17,28 +18,27 @@ IfKept P (Kept disk) = P disk
 IfKept P Out = ⊤
 
 -- the bytes that are found where a disk is made if there is none, and what a stop may leave of them
-abbrev pub bytes_found : {D : Type 0} → (D → Option (List ℕ)) → Place D → Option (List ℕ)
-bytes_found content Free = Some []
-bytes_found content (Kept disk) = content disk
-bytes_found content Out = Some []
+abbrev pub bytes_found : {D : Type 0} → Ghosts D → Place D → Option (List ℕ)
+bytes_found g Free = Some []
+bytes_found g (Kept disk) = g.content disk
+bytes_found g Out = Some []
 
-abbrev pub images_found : {D : Type 0} → (D → List ℕ → Type 0) → Place D → List ℕ → Type 0
-images_found may_leave Free image = image ≡ []
-images_found may_leave (Kept disk) image = may_leave disk image
-images_found may_leave Out image = image ≡ []
+abbrev pub images_found : {D : Type 0} → Ghosts D → Place D → List ℕ → Type 0
+images_found g Free image = image ≡ []
+images_found g (Kept disk) image = g.may_leave disk image
+images_found g Out image = image ≡ []
 
 -- Nothing was written in a run: the disk has the same bytes, a stop may leave no more of them, and at any moment of the
 -- run it left what it might have left before.
-pub record IsLeftAlone {D : Type 0} (content : D → Option (List ℕ)) (may_leave : D → List ℕ → Type 0)
-    (moment : D → ℕ) (left_since : D → ℕ → List ℕ → Type 0) (found left : D) : Type 0 where
-  pub same : IsUnchanged (content found) (content left)
-  pub images : NothingNew (may_leave found) (may_leave left)
-  pub any_moment : LeavesOnly moment left_since found left (may_leave found)
+pub record IsLeftAlone {D : Type 0} (g : Ghosts D) (found left : D) : Type 0 where
+  pub same : IsUnchanged (g.content found) (g.content left)
+  pub images : NothingNew (g.may_leave found) (g.may_leave left)
+  pub any_moment : LeavesOnly g found left (g.may_leave found)
 
 -- the place has what it had: no disk, or one that was left alone
-abbrev pub HasTheSame : {D : Type 0} → (D → Option (List ℕ)) → (D → List ℕ → Type 0) → (D → ℕ) → (D → ℕ → List ℕ → Type 0)
+abbrev pub HasTheSame : {D : Type 0} → Ghosts D
     → Place D → Place D → Type 0
-HasTheSame content may_leave moment left_since (Kept held) place =
-    HasKept (λ disk. IsLeftAlone content may_leave moment left_since held disk) place
-HasTheSame content may_leave moment left_since Free place = place ≡ Free
-HasTheSame content may_leave moment left_since Out place = place ≡ Out
+HasTheSame g (Kept held) place =
+    HasKept (λ disk. IsLeftAlone g held disk) place
+HasTheSame g Free place = place ≡ Free
+HasTheSame g Out place = place ≡ Out

@@ -1,6 +1,7 @@
 -- What a session has read and written when it ends.
 use Rattle.std.specs.Prelude.{◌≡◌, ◌≢◌, ◌⊎◌, ℕ, ◌+◌, ◌^◌, ◌≤◌, Bool, true, false, Option, IfSome, IsSomeAnd, List, [], ◌∷◌, ◌++◌, length}
 use Rattle.std.specs.List.{concat}
+use Rattle.devices.specs.Sinks.{IsCutShort}
 use Rattle.office.specs.History.{Event}
 use Rattle.wire.specs.Incoming.{IsUnread}
 use Rattle.wire.specs.Messages.{Request, AreRequests, IsMalformed, is_blank}
@@ -8,10 +9,6 @@ use Rattle.wire.specs.declared.replies.TheConstants.{MALFORMED_REPLY}
 use Rattle.streamoffice.specs.Output.{AreReplies}
 use Rattle.streamoffice.specs.declared.sessions.SessionEnd.{SessionEnd}
 use Rattle.streamoffice.specs.declared.sessions.SessionEnd.TheVariants.{End, Malformed, Long, InputFault, OutputFault, NoMemory}
-
--- the bytes that were written are a front of these, and not all
-abbrev pub IsCutShort : List ℕ → List ℕ → Type 0
-IsCutShort written whole = (more : List ℕ) × (more ≢ []) × (whole ≡ written ++ more)
 
 -- after what was written so far came a front of a reply, and not all of it
 abbrev pub StopsWithin : List ℕ → List ℕ → List ℕ → Type 0
@@ -42,11 +39,3 @@ pub record Serves (limit : ℕ) (events after : List Event) (end : SessionEnd) (
   pub answers : AreReplies limit events requests replies after
   pub ends : EndsBy end input replies rest left written
   pub taken : length input ≤ 2 ^ 36 + length left
-
--- the sink has all bytes at its end, or where it failed a front of them that is not all
-abbrev pub IsWritten : Bool → List ℕ → List ℕ → List ℕ → Type 0
-IsWritten true before bytes after = after ≡ before ++ bytes
-IsWritten false before bytes after = (part : List ℕ) × (after ≡ before ++ part) × IsCutShort part bytes
-
-abbrev pub AreWritten : Option (List ℕ) → List ℕ → Option (List ℕ) → Bool → Type 0
-AreWritten before bytes after done = IfSome before (λ b. IsSomeAnd after (λ a. IsWritten done b bytes a))

@@ -1,5 +1,6 @@
 -- What a run of `batch` comes to.
 use Rattle.std.specs.Prelude.{◌≡◌, ◌⊎◌, ℕ, List, Option, IfSome, IsSomeAnd, ⊤}
+use Rattle.devices.specs.declared.disks.Disk.{Ghosts}
 use Rattle.devices.specs.Cabinets.{Place, OthersStay}
 use Rattle.devices.specs.Faults.{Rose}
 use Rattle.records.specs.declared.edits.What.{What}
@@ -18,31 +19,27 @@ use Rattle.streamoffice.specs.declared.commands.RunEnd.TheVariants.{Made, Served
 abbrev pub usual_limit : ℕ
 usual_limit = 536_870_912
 
-module _ {D : Type 0} (content : D → Option (List ℕ)) (may_leave : D → List ℕ → Type 0) where
+module _ {D : Type 0} (g : Ghosts D) where
   -- a file, and whatever a stop may leave of it, stands for the edits that were accepted, or for these and the one in doubt
   pub record IsLeftOn (events : List Event) (disk : D) : Type 0 where
-    pub now : IsSomeAnd (content disk) (StandsForEdits (accepted events) (doubt events))
-    pub images : (image : List ℕ) → may_leave disk image → StandsForEdits (accepted events) (doubt events) image
+    pub now : IsSomeAnd (g.content disk) (StandsForEdits (accepted events) (doubt events))
+    pub images : (image : List ℕ) → g.may_leave disk image → StandsForEdits (accepted events) (doubt events) image
 
-module _ {D : Type 0} (content : D → Option (List ℕ)) (may_leave : D → List ℕ → Type 0)
-    (moment : D → ℕ) (left_since : D → ℕ → List ℕ → Type 0) where
   -- a disk under the name, if there is one, has bytes with P, and all is as before
   abbrev pub StaysWith : List ℕ → (Place D → Type 0) → Option (List ℕ → Place D) → Option (List ℕ → Place D) → Type 0
   StaysWith name P places_before places_after =
       IfSome places_before (λ b. IsSomeAnd places_after (λ a.
-      P (b name) × (HasTheSame content may_leave moment left_since (b name) (a name) × OthersStay name b a)))
+      P (b name) × (HasTheSame g (b name) (a name) × OthersStay name b a)))
 
-module _ {D : Type 0} (content : D → Option (List ℕ)) (may_leave : D → List ℕ → Type 0)
-    (moment : D → ℕ) (left_since : D → ℕ → List ℕ → Type 0) (faults : D → ℕ) where
   -- The disk had the journal of these edits and is left with that of the history after them, where it tells its bytes. A
   -- stop at any moment left what it might have left before the journal was opened, or the journal of the edits that were
   -- accepted up to some point of that history, or of these and one more. No more faults are in the history than the disk
   -- had.
   pub record Carries (edits : List What) (after : List Event) (found left : D) : Type 0 where
-    pub journal : IfSome (content found) (λ bytes. IsJournalOfEdits edits bytes × IsLeftOn content may_leave after left)
-    pub any_moment : IfSome (content found) (λ bytes. LeavesOnly moment left_since found left
-        (λ image. may_leave found image ⊎ IsLeftBetween (reopen edits) after image))
-    pub causes : RoseBy (faulted_count after) 0 (faults left)
+    pub journal : IfSome (g.content found) (λ bytes. IsJournalOfEdits edits bytes × IsLeftOn after left)
+    pub any_moment : IfSome (g.content found) (λ bytes. LeavesOnly g found left
+        (λ image. g.may_leave found image ⊎ IsLeftBetween (reopen edits) after image))
+    pub causes : RoseBy (faulted_count after) 0 (g.faults left)
 
   -- what a batch over a disk comes to, whose counts of faults are given
   abbrev pub ServesDisk : RunEnd → D → D → Option (List ℕ) → Option (List ℕ) → Option (List ℕ) → Option (List ℕ) → Type 0
@@ -51,13 +48,13 @@ module _ {D : Type 0} (content : D → Option (List ℕ)) (may_leave : D → Lis
       × IsServed usual_limit (reopen edits) end left_before left_after written_before written_after
       (λ after. Carries edits after found left)
   ServesDisk NotAJournal found left left_before left_after written_before written_after =
-      IfSome (content found) (λ bytes. ¬ HasHeader bytes) × IsLeftAlone content may_leave moment left_since found left
+      IfSome (g.content found) (λ bytes. ¬ HasHeader bytes) × IsLeftAlone g found left
   ServesDisk (Damaged at) found left left_before left_after written_before written_after =
-      IfSome (content found) (IsDamagedAt at) × IsLeftAlone content may_leave moment left_since found left
+      IfSome (g.content found) (IsDamagedAt at) × IsLeftAlone g found left
   ServesDisk DiskFault found left left_before left_after written_before written_after =
-      Rose (faults found) (faults left) × IsLeftAlone content may_leave moment left_since found left
+      Rose (g.faults found) (g.faults left) × IsLeftAlone g found left
   ServesDisk NoMemory found left left_before left_after written_before written_after =
-      IsLeftAlone content may_leave moment left_since found left
+      IsLeftAlone g found left
   ServesDisk Made found left left_before left_after written_before written_after = ⊥
   ServesDisk Exists found left left_before left_after written_before written_after = ⊥
 
@@ -78,14 +75,14 @@ module _ {D : Type 0} (content : D → Option (List ℕ)) (may_leave : D → Lis
       × IsServed usual_limit (reopen edits) end left_before left_after written_before written_after
       (λ after. CarriesUnder name edits after places_before places_after × ((faulted_count after ≡ 0) ⊎ Rose before now))
   ServesUnder name NotAJournal places_before places_after before now left_before left_after written_before written_after =
-      StaysWith content may_leave moment left_since name (IfKept (λ disk. IfSome (content disk) (λ bytes. ¬ HasHeader bytes)))
+      StaysWith name (IfKept (λ disk. IfSome (g.content disk) (λ bytes. ¬ HasHeader bytes)))
       places_before places_after
   ServesUnder name (Damaged at) places_before places_after before now left_before left_after written_before written_after =
-      StaysWith content may_leave moment left_since name (HasKept (λ disk. IfSome (content disk) (IsDamagedAt at)))
+      StaysWith name (HasKept (λ disk. IfSome (g.content disk) (IsDamagedAt at)))
       places_before places_after
   ServesUnder name DiskFault places_before places_after before now left_before left_after written_before written_after =
-      StaysWith content may_leave moment left_since name (λ place. ⊤) places_before places_after × Rose before now
+      StaysWith name (λ place. ⊤) places_before places_after × Rose before now
   ServesUnder name NoMemory places_before places_after before now left_before left_after written_before written_after =
-      StaysWith content may_leave moment left_since name (λ place. ⊤) places_before places_after
+      StaysWith name (λ place. ⊤) places_before places_after
   ServesUnder name Made places_before places_after before now left_before left_after written_before written_after = ⊥
   ServesUnder name Exists places_before places_after before now left_before left_after written_before written_after = ⊥

@@ -1,11 +1,12 @@
 -- What the top call says of its devices.
 use Rattle.std.specs.Prelude.{◌≡◌, ◌⊎◌, ℕ, ◌<◌, ◌^◌, List, ◌++◌, length, Option, IfSome, IsSomeAnd}
+use Rattle.devices.specs.declared.disks.Disk.{Ghosts}
 use Rattle.devices.specs.Cabinets.{Place}
 use Rattle.devices.specs.Faults.{Rose}
 use Rattle.journal.specs.JournalBytes.{HasHeader, IsDamagedAt, IsTaken, IsForeign}
 use Rattle.wire.specs.Messages.{Request, AreRequests, IsMalformed}
 use Rattle.streamoffice.specs.Places.{HasKept, bytes_found}
-use Rattle.streamoffice.specs.Served.{IsCutShort}
+use Rattle.devices.specs.Sinks.{IsCutShort}
 use Rattle.streamoffice.specs.Making.{IsMakingEnd, Makes}
 use Rattle.streamoffice.specs.Serving.{ServesUnder}
 use Rattle.streamoffice.specs.Endings.{status_of, line_of}
@@ -19,27 +20,25 @@ IsReported line before after faults_before faults_now =
 
 -- A run of `init`: how it ended, its status, its line, what is under the name then, and what a stop at any moment of the
 -- run left there.
-pub record RunsInit {D : Type 0} (content : D → Option (List ℕ)) (may_leave : D → List ℕ → Type 0)
-    (moment : D → ℕ) (left_since : D → ℕ → List ℕ → Type 0) (name : List ℕ) (status : ℕ)
+pub record RunsInit {D : Type 0} (g : Ghosts D) (name : List ℕ) (status : ℕ)
     (places_before places_after : Option (List ℕ → Place D)) (before now : ℕ)
     (told_before told_after : Option (List ℕ)) (faults_before faults_now : ℕ) : Type 0 where
   pub end : RunEnd
   pub status_is : status ≡ status_of end
   pub line_is : IsReported (line_of end) told_before told_after faults_before faults_now
   pub ends : IsMakingEnd end before now
-  pub makes : Makes content may_leave moment left_since end name places_before places_after
+  pub makes : Makes g end name places_before places_after
 
 -- A run of `batch`: how it ended, its status, its line, what was read and written, what is under the name then, and what
 -- a stop at any moment of the run left there.
-pub record RunsBatch {D : Type 0} (content : D → Option (List ℕ)) (may_leave : D → List ℕ → Type 0)
-    (moment : D → ℕ) (left_since : D → ℕ → List ℕ → Type 0) (faults : D → ℕ)
+pub record RunsBatch {D : Type 0} (g : Ghosts D)
     (name : List ℕ) (status : ℕ) (places_before places_after : Option (List ℕ → Place D)) (before now : ℕ)
     (left_before left_after written_before written_after : Option (List ℕ))
     (told_before told_after : Option (List ℕ)) (faults_before faults_now : ℕ) : Type 0 where
   pub end : RunEnd
   pub status_is : status ≡ status_of end
   pub line_is : IsReported (line_of end) told_before told_after faults_before faults_now
-  pub serves : ServesUnder content may_leave moment left_since faults name end places_before places_after before now
+  pub serves : ServesUnder g name end places_before places_after before now
       left_before left_after written_before written_after
 
 -- an input of fewer than 2^36 bytes in which no message is malformed
@@ -53,10 +52,10 @@ pub record IsSound (bytes : List ℕ) : Type 0 where
   pub whole : (at : ℕ) → ¬ (IsDamagedAt at bytes)
 
 -- the name holds a journal that is not damaged
-abbrev pub HasSound : {D : Type 0} → (D → Option (List ℕ)) → List ℕ → Option (List ℕ → Place D) → Type 0
-HasSound content name places = IsSomeAnd places (λ p. HasKept (λ disk. IsSomeAnd (content disk) IsSound) (p name))
+abbrev pub HasSound : {D : Type 0} → Ghosts D → List ℕ → Option (List ℕ → Place D) → Type 0
+HasSound g name places = IsSomeAnd places (λ p. HasKept (λ disk. IsSomeAnd (g.content disk) IsSound) (p name))
 
 -- under the name is what a journal is made of: nothing, or bytes that are no journal and not too many for a stopped making
-abbrev pub HasRoom : {D : Type 0} → (D → Option (List ℕ)) → List ℕ → Option (List ℕ → Place D) → Type 0
-HasRoom content name places =
-    IsSomeAnd places (λ p. IsSomeAnd (bytes_found content (p name)) (λ bytes. (¬ IsTaken bytes) × (¬ IsForeign bytes)))
+abbrev pub HasRoom : {D : Type 0} → Ghosts D → List ℕ → Option (List ℕ → Place D) → Type 0
+HasRoom g name places =
+    IsSomeAnd places (λ p. IsSomeAnd (bytes_found g (p name)) (λ bytes. (¬ IsTaken bytes) × (¬ IsForeign bytes)))

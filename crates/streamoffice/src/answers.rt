@@ -103,9 +103,9 @@ pub(crate) fn answer<D: Disk>(office: &mut Office<D>, ask: Option<Ask>, texts: &
     requires lawful { IsLawful ask }
     requires room { office.old.station.edits < 2 ^ 64 - 1 }
     ensures answered { (told : Bool) → Answered office.old.journal.limit
-        (λ events. Stands D.content D.may_leave told events office.old) ask (told_bytes result texts.new.reply)
-        (λ events. Stands D.content D.may_leave told events office.new)
-        (λ events next. Passes D.moment D.left_since D.faults told events next office.old.journal.disk office.new.journal.disk) }
+        (λ events. Stands told events office.old) ask (told_bytes result texts.new.reply)
+        (λ events. Stands told events office.new)
+        (λ events next. Passes D.Disk told events next office.old.journal.disk office.new.journal.disk) }
     ensures edits { office.new.station.edits ≤ office.old.station.edits + 1 }
     ensures limit { office.new.journal.limit ≡ office.old.journal.limit }
     ensures counted { D.faults office.old.journal.disk ≤ D.faults office.new.journal.disk }
@@ -121,9 +121,9 @@ fn answer_ask<D: Disk>(office: &mut Office<D>, ask: Ask, texts: &mut Texts) -> T
     requires lawful { IsLawful (Some ask) }
     requires room { office.old.station.edits < 2 ^ 64 - 1 }
     ensures answered { (told : Bool) → Answered office.old.journal.limit
-        (λ events. Stands D.content D.may_leave told events office.old) (Some ask) (told_bytes result texts.new.reply)
-        (λ events. Stands D.content D.may_leave told events office.new)
-        (λ events next. Passes D.moment D.left_since D.faults told events next office.old.journal.disk office.new.journal.disk) }
+        (λ events. Stands told events office.old) (Some ask) (told_bytes result texts.new.reply)
+        (λ events. Stands told events office.new)
+        (λ events next. Passes D.Disk told events next office.old.journal.disk office.new.journal.disk) }
     ensures edits { office.new.station.edits ≤ office.old.station.edits + 1 }
     ensures limit { office.new.journal.limit ≡ office.old.journal.limit }
     ensures counted { D.faults office.old.journal.disk ≤ D.faults office.new.journal.disk }
@@ -141,9 +141,9 @@ fn put_reading<D: Disk>(office: &mut Office<D>, at: Second, raw: Micro, texts: &
     requires lawful { IsStamp at × IsStage raw }
     requires room { office.old.station.edits < 2 ^ 64 - 1 }
     ensures answered { (told : Bool) → Answered office.old.journal.limit
-        (λ events. Stands D.content D.may_leave told events office.old) (Some (Ask.Put at raw)) (told_bytes result texts.new.reply)
-        (λ events. Stands D.content D.may_leave told events office.new)
-        (λ events next. Passes D.moment D.left_since D.faults told events next office.old.journal.disk office.new.journal.disk) }
+        (λ events. Stands told events office.old) (Some (Ask.Put at raw)) (told_bytes result texts.new.reply)
+        (λ events. Stands told events office.new)
+        (λ events next. Passes D.Disk told events next office.old.journal.disk office.new.journal.disk) }
     ensures edits { office.new.station.edits ≤ office.old.station.edits + 1 }
     ensures limit { office.new.journal.limit ≡ office.old.journal.limit }
     ensures counted { D.faults office.old.journal.disk ≤ D.faults office.new.journal.disk }
@@ -163,10 +163,10 @@ fn put_reading<D: Disk>(office: &mut Office<D>, at: Second, raw: Micro, texts: &
 
 /// Makes a turn.
 fn turn<D: Disk>(office: &mut Office<D>, texts: &mut Texts) -> Result<(), NoMemory>
-    ensures ok { OnOk result ((told : Bool) → Answers office.old.journal.limit (λ events. Stands D.content D.may_leave told events office.old)
-        (Some Ask.Turn) texts.new.reply (λ events. Stands D.content D.may_leave told events office.new)) }
-    ensures err { OnErr result ((told : Bool) → Leaves (λ events. Stands D.content D.may_leave told events office.old)
-        (Some Ask.Turn) (λ events. Stands D.content D.may_leave told events office.new)) }
+    ensures ok { OnOk result ((told : Bool) → Answers office.old.journal.limit (λ events. Stands told events office.old)
+        (Some Ask.Turn) texts.new.reply (λ events. Stands told events office.new)) }
+    ensures err { OnErr result ((told : Bool) → Leaves (λ events. Stands told events office.old)
+        (Some Ask.Turn) (λ events. Stands told events office.new)) }
     ensures edits { office.new.station.edits ≡ office.old.station.edits }
     ensures journal { office.new.journal ≡ office.old.journal }
 {
@@ -190,8 +190,8 @@ fn count_of(day: Option<Day>) -> u64
 
 /// Tells what is known of a day.
 fn tell_day<D: Disk>(office: &Office<D>, day: Day, texts: &mut Texts) -> Result<(), NoMemory>
-    ensures { OnOk result ((told : Bool) → Answers office.now.journal.limit (λ events. Stands D.content D.may_leave told events office.now)
-        (Some (Ask.DayOf day)) texts.new.reply (λ events. Stands D.content D.may_leave told events office.now)) }
+    ensures { OnOk result ((told : Bool) → Answers office.now.journal.limit (λ events. Stands told events office.now)
+        (Some (Ask.DayOf day)) texts.new.reply (λ events. Stands told events office.now)) }
 {
     match office.answer(day) {
         Answer::Pending(edit) => texts.make(&Reply::Pending(edit)),

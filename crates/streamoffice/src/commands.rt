@@ -36,7 +36,7 @@ pub enum RunEnd {
 
 /// Makes a journal of no records under a name.
 pub(crate) fn make_journal<C: Cabinet>(cabinet: &mut C, name: &str) -> RunEnd
-    ensures makes { Makes C.Disk.content C.Disk.may_leave C.Disk.moment C.Disk.left_since result name.now (C.places cabinet.old) (C.places cabinet.new) }
+    ensures makes { Makes C.Disk.Disk result name.now (C.places cabinet.old) (C.places cabinet.new) }
     ensures ends { IsMakingEnd result (C.faults cabinet.old) (C.faults cabinet.new) }
 {
     match cabinet.open(name, true) {
@@ -51,8 +51,8 @@ pub(crate) fn make_journal<C: Cabinet>(cabinet: &mut C, name: &str) -> RunEnd
 
 /// Makes a journal of no records on a disk.
 fn make_on<D: Disk>(disk: D) -> (RunEnd, D)
-    ensures makes { IfSome (D.content disk) (λ bytes. MakesOn D.content D.may_leave bytes (D.may_leave disk) result.0 result.1) }
-    ensures any_moment { LeavesOnly D.moment D.left_since disk result.1 (IsLeftByMaking (D.may_leave disk) result.0) }
+    ensures makes { IfSome (D.content disk) (λ bytes. MakesOn D.Disk bytes (D.may_leave disk) result.0 result.1) }
+    ensures any_moment { LeavesOnly D.Disk disk result.1 (IsLeftByMaking (D.may_leave disk) result.0) }
     ensures ends { IsMakingEnd result.0 (D.faults disk) (D.faults result.1) }
     ensures counted { D.faults disk ≤ D.faults result.1 }
 {
@@ -80,7 +80,7 @@ pub(crate) fn serve_batch<C: Cabinet, S: Source, K: Sink>(
     input: &mut S,
     output: &mut K,
 ) -> RunEnd
-    ensures serves { ServesUnder C.Disk.content C.Disk.may_leave C.Disk.moment C.Disk.left_since C.Disk.faults name.now result
+    ensures serves { ServesUnder C.Disk.Disk name.now result
         (C.places cabinet.old) (C.places cabinet.new)
         (C.faults cabinet.old) (C.faults cabinet.new) (S.left input.old) (S.left input.new) (K.written output.old) (K.written output.new) }
     ensures cause { RunCause result (S.faults input.old) (S.faults input.new) (K.faults output.old) (K.faults output.new) }
@@ -105,7 +105,7 @@ fn serve_disk<D: Disk, S: Source, K: Sink>(
     output: &mut K,
 ) -> (RunEnd, D)
     requires { D.faults disk ≡ 0 }
-    ensures serves { ServesDisk D.content D.may_leave D.moment D.left_since D.faults result.0 disk result.1
+    ensures serves { ServesDisk D.Disk result.0 disk result.1
         (S.left input.old) (S.left input.new) (K.written output.old) (K.written output.new) }
     ensures cause { RunCause result.0 (S.faults input.old) (S.faults input.new) (K.faults output.old) (K.faults output.new) }
     ensures unserved { IsEarly result.0 → (input.new ≡ input.old) × (output.new ≡ output.old) }

@@ -8,11 +8,11 @@ ghost use Rattle.office.specs.Stands.{Stands};
 ghost use Rattle.devices.specs.Faults.{Rose};
 ghost use Rattle.streamoffice.specs.Answering.{Answered, IsLawful};
 ghost use Rattle.streamoffice.specs.Passing.{Passes};
-ghost use Rattle.streamoffice.specs.Served.{AreWritten};
+ghost use Rattle.devices.specs.Sinks.{AreWritten};
 ghost use Rattle.streamoffice.specs.Session.{HasCause, IsServed, IsUnderWay, GoesOn};
 
 use crate::answers::{Texts, answer};
-use devices::{Disk, Put, Sink, Source};
+use devices::{Disk, Sink, Source, put_all};
 use http_api::{Ask, read_ask};
 use office::Office;
 use std::alloc::Global;
@@ -46,10 +46,10 @@ pub fn session<D: Disk, S: Source, K: Sink>(
     sink: &mut K,
 ) -> SessionEnd
     requires room { office.old.station.edits ≤ 2 ^ 63 }
-    ensures served { (told : Bool) (events : List Event) → Stands D.content D.may_leave told events office.old
+    ensures served { (told : Bool) (events : List Event) → Stands told events office.old
         → IsServed office.old.journal.limit events result (S.left source.old) (S.left source.new) (K.written sink.old) (K.written sink.new)
-        (λ after. Stands D.content D.may_leave told after office.new
-        × Passes D.moment D.left_since D.faults told events after office.old.journal.disk office.new.journal.disk) }
+        (λ after. Stands told after office.new
+        × Passes D.Disk told events after office.old.journal.disk office.new.journal.disk) }
     ensures disk_counted { D.faults office.old.journal.disk ≤ D.faults office.new.journal.disk }
     ensures input_counted { S.faults source.old ≤ S.faults source.new }
     ensures output_counted { K.faults sink.old ≤ K.faults sink.new }
@@ -83,10 +83,10 @@ fn serve_next<D: Disk, S: Source, K: Sink>(
     requires limit { taken incoming.old ≤ 2 ^ 36 }
     ensures goes_on { (told : Bool) (limit : ℕ) (events : List Event) (first : D) (left written : Option (List ℕ))
         → office.old.journal.limit ≡ limit → IsUnderWay limit events
-        (λ after. Stands D.content D.may_leave told after office.old × Passes D.moment D.left_since D.faults told events after first office.old.journal.disk)
+        (λ after. Stands told after office.old × Passes D.Disk told events after first office.old.journal.disk)
         incoming.old left (S.left source.old) written (K.written sink.old)
         → GoesOn limit events result
-        (λ after. Stands D.content D.may_leave told after office.new × Passes D.moment D.left_since D.faults told events after first office.new.journal.disk)
+        (λ after. Stands told after office.new × Passes D.Disk told events after first office.new.journal.disk)
         incoming.new left (S.left source.new) written (K.written sink.new) }
     ensures room { result ≡ None → (office.new.station.edits ≤ 2 ^ 63 + incoming.new.offset) × (incoming.old.offset < incoming.new.offset) }
     ensures limit { taken incoming.new ≤ 2 ^ 36 }
@@ -148,9 +148,9 @@ fn reply_on<D: Disk, K: Sink>(
     requires lawful { IsLawful ask }
     requires room { office.old.station.edits < 2 ^ 64 - 1 }
     ensures answered { (reply : List ℕ) × ((told : Bool) → Answered office.old.journal.limit
-        (λ events. Stands D.content D.may_leave told events office.old) ask reply
-        (λ events. Stands D.content D.may_leave told events office.new)
-        (λ events next. Passes D.moment D.left_since D.faults told events next office.old.journal.disk office.new.journal.disk))
+        (λ events. Stands told events office.old) ask reply
+        (λ events. Stands told events office.new)
+        (λ events next. Passes D.Disk told events next office.old.journal.disk office.new.journal.disk))
         × AreWritten (K.written sink.old) reply (K.written sink.new) result }
     ensures edits { office.new.station.edits ≤ office.old.station.edits + 1 }
     ensures limit { office.new.journal.limit ≡ office.old.journal.limit }
@@ -160,20 +160,4 @@ fn reply_on<D: Disk, K: Sink>(
 {
     let told = answer(office, ask, texts);
     put_all(sink, texts.bytes(told))
-}
-
-/// Puts all bytes, piece by piece; whether the sink took them.
-pub fn put_all<K: Sink>(sink: &mut K, bytes: &[u8]) -> bool
-    ensures written { AreWritten (K.written sink.old) bytes.now (K.written sink.new) result }
-    ensures counted { K.faults sink.old ≤ K.faults sink.new }
-    ensures cause { result ≡ false → Rose (K.faults sink.old) (K.faults sink.new) }
-{
-    let mut rest = bytes;
-    while !rest.is_empty() {
-        match sink.put(rest) {
-            Put::Bytes(count) => rest = &rest[count..],
-            Put::Failed => return false,
-        }
-    }
-    true
 }

@@ -7,15 +7,15 @@ ghost use Rattle.streamoffice.specs.Endings as endings;
 ghost use Rattle.streamoffice.specs.Endings.{status_of, line_of, usage_line};
 ghost use Rattle.streamoffice.specs.Making.{IsMakingEnd, Makes};
 ghost use Rattle.streamoffice.specs.RunEnds.{IsEarly, RunCause};
-ghost use Rattle.streamoffice.specs.Served.{AreWritten};
+ghost use Rattle.devices.specs.Sinks.{AreWritten};
 ghost use Rattle.streamoffice.specs.Serving.{ServesUnder};
 ghost use Rattle.streamoffice.specs.Top.{IsReported, RunsInit, RunsBatch, IsWellFormed, HasSound, HasRoom};
 ghost use Rattle.streamoffice.specs.Words.{Asked, Init, Batch, IsAsked};
 
 use crate::commands::{RunEnd, make_journal, serve_batch};
-use crate::sessions::{SessionEnd, put_all};
+use crate::sessions::SessionEnd;
 use crate::words::{Command, read_words};
-use devices::{Cabinet, Sink, Source};
+use devices::{Cabinet, Sink, Source, put_all};
 use std::alloc::Global;
 
 /// Runs the command that the words name: `init` makes a journal under a name of the cabinet, and `batch` reads requests
@@ -43,7 +43,7 @@ pub fn run_office<R, S: Source, K: Sink, E: Sink, C: Cabinet>(
     ensures usage_line { result ≡ 1 → IsReported usage_line (E.written faults.old) (E.written faults.new) (E.faults faults.old) (E.faults faults.new) }
 
     ensures init { (name : List ℕ) → IsAsked (map string_bytes words.now) (Init name)
-        → RunsInit C.Disk.content C.Disk.may_leave C.Disk.moment C.Disk.left_since name result
+        → RunsInit C.Disk.Disk name result
         (C.places cabinet.old) (C.places cabinet.new) (C.faults cabinet.old) (C.faults cabinet.new)
         (E.written faults.old) (E.written faults.new) (E.faults faults.old) (E.faults faults.new) }
     ensures init_alone { (name : List ℕ) → IsAsked (map string_bytes words.now) (Init name) → (input.new ≡ input.old) × (output.new ≡ output.old) }
@@ -52,7 +52,7 @@ pub fn run_office<R, S: Source, K: Sink, E: Sink, C: Cabinet>(
     // what is left is the journal of the edits that were accepted. A stop at any moment of the run leaves what it might
     // have left before, or the journal of those accepted up to some point, or of these and one more.
     ensures batch { (name : List ℕ) → IsAsked (map string_bytes words.now) (Batch name)
-        → RunsBatch C.Disk.content C.Disk.may_leave C.Disk.moment C.Disk.left_since C.Disk.faults name result
+        → RunsBatch C.Disk.Disk name result
         (C.places cabinet.old) (C.places cabinet.new) (C.faults cabinet.old) (C.faults cabinet.new)
         (S.left input.old) (S.left input.new) (K.written output.old) (K.written output.new)
         (E.written faults.old) (E.written faults.new) (E.faults faults.old) (E.faults faults.new) }
@@ -61,9 +61,9 @@ pub fn run_office<R, S: Source, K: Sink, E: Sink, C: Cabinet>(
     ensures output_fault { result ≡ 3 → Rose (K.faults output.old) (K.faults output.new) }
     ensures disk_fault { result ≡ 4 → Rose (C.faults cabinet.old) (C.faults cabinet.new) }
     ensures unserved { (result ≡ 4) ⊎ ((result ≡ 5) ⊎ ((result ≡ 6) ⊎ (result ≡ 8))) → (input.new ≡ input.old) × (output.new ≡ output.old) }
-    ensures complete_init { (name : List ℕ) → IsAsked (map string_bytes words.now) (Init name) → HasRoom C.Disk.content name (C.places cabinet.old)
+    ensures complete_init { (name : List ℕ) → IsAsked (map string_bytes words.now) (Init name) → HasRoom C.Disk.Disk name (C.places cabinet.old)
         → ¬ (Rose (C.faults cabinet.old) (C.faults cabinet.new)) → result ≡ 0 }
-    ensures complete { (name : List ℕ) → IsAsked (map string_bytes words.now) (Batch name) → HasSound C.Disk.content name (C.places cabinet.old)
+    ensures complete { (name : List ℕ) → IsAsked (map string_bytes words.now) (Batch name) → HasSound C.Disk.Disk name (C.places cabinet.old)
         → IsSomeAnd (S.left input.old) IsWellFormed → IsSome (K.written output.old)
         → ¬ (Rose (S.faults input.old) (S.faults input.new)) → ¬ (Rose (K.faults output.old) (K.faults output.new))
         → ¬ (Rose (C.faults cabinet.old) (C.faults cabinet.new)) → (result ≡ 0) ⊎ (result ≡ 6) }
@@ -89,11 +89,11 @@ fn run_command<S: Source, K: Sink, C: Cabinet>(
     cabinet: &mut C,
 ) -> RunEnd
     ensures makes { (name : List ℕ) → asked_by command.entry ≡ Init name
-        → Makes C.Disk.content C.Disk.may_leave C.Disk.moment C.Disk.left_since result name (C.places cabinet.old) (C.places cabinet.new) }
+        → Makes C.Disk.Disk result name (C.places cabinet.old) (C.places cabinet.new) }
     ensures ends { (name : List ℕ) → asked_by command.entry ≡ Init name → IsMakingEnd result (C.faults cabinet.old) (C.faults cabinet.new) }
     ensures init_alone { (name : List ℕ) → asked_by command.entry ≡ Init name → (input.new ≡ input.old) × (output.new ≡ output.old) }
     ensures serves { (name : List ℕ) → asked_by command.entry ≡ Batch name
-        → ServesUnder C.Disk.content C.Disk.may_leave C.Disk.moment C.Disk.left_since C.Disk.faults name result (C.places cabinet.old) (C.places cabinet.new)
+        → ServesUnder C.Disk.Disk name result (C.places cabinet.old) (C.places cabinet.new)
         (C.faults cabinet.old) (C.faults cabinet.new) (S.left input.old) (S.left input.new) (K.written output.old) (K.written output.new) }
     ensures cause { RunCause result (S.faults input.old) (S.faults input.new) (K.faults output.old) (K.faults output.new) }
     ensures disk_cause { result ≡ RunEnd.DiskFault → Rose (C.faults cabinet.old) (C.faults cabinet.new) }

@@ -1,8 +1,7 @@
-use Rattle.std.proofs.Common.{◌≡◌, sym, subst, rules, arith}
+use Rattle.std.proofs.Common.{◌≡◌, rules, arith}
 use Rattle.std.proofs.lemmas.Map.Text.{text_keys}
-use Rattle.devices.specs.Cabinets.{Place, OthersStay}
-use Rattle.devices.specs.MemoryCabinets.{places_of, place_with, OpensPlace}
-use Rattle.devices.specs.MemoryDisks.{MemoryDiskState}
+use Rattle.devices.specs.Cabinets.{OthersStay}
+use Rattle.devices.specs.MemoryCabinets.{places_of, place_with}
 use Rattle.devices.proofs.Places.{opens_under}
 use Rattle.devices.proofs.memory_cabinet.open_under.Goals as goal
 
@@ -14,6 +13,4 @@ returns-in-Some-clause-opened c =
     let was : before name ≡ place_with c.in-Some.place.now = search rules in
     let is : after name ≡ place_with c.open_place.new.place = search rules in
     let others : OthersStay name before after = λ other ne. grind (arith, text_keys) in
-    let here = subst (λ (place : Place MemoryDiskState). OpensPlace c.args.make place (after name) c.open_place.result) (sym was)
-    (subst (λ (place : Place MemoryDiskState). OpensPlace c.args.make (place_with c.in-Some.place.now) place c.open_place.result) (sym is) c.open_place.ensures.opened) in
-    opens_under name c.args.make before after c.open_place.result here others
+    opens_under _ name c.args.make before after _ _ c.open_place.result was is c.open_place.ensures.opened others

@@ -9,27 +9,27 @@ use Rattle.office.proofs.opening.read_all.Goals as goal
 pub loop-smaller : goal.loop-smaller
 loop-smaller g c =
     let h = c.loop.invariant.read in
-    let next : (edit : What) × HasReadEdits g.D.Disk.content (h.0 ++ edit ∷ []) c.read_next.new.station c.read_next.new.opening =
+    let next : (edit : What) × HasReadEdits (h.0 ++ edit ∷ []) c.read_next.new.station c.read_next.new.opening =
     rw c.if-branch.true at c.in_ok-read_next.ensures.reads h.0 h.1 in
-    let moves = gate_moves g.D.Disk.content h.0 next.0 _ _ _ _ h.1 next.1 in
+    let moves = gate_moves h.0 next.0 _ _ _ _ h.1 next.1 in
     let within = c.in_ok-read_next.ensures.within (ap (λ (b : Bool). Ok b) c.if-branch.true) in
     omega arith
 
 pub loop-preserved : goal.loop-preserved
 loop-preserved g c =
     let h = c.loop.invariant.read in
-    let next : (edit : What) × HasReadEdits g.D.Disk.content (h.0 ++ edit ∷ []) c.read_next.new.station c.read_next.new.opening =
+    let next : (edit : What) × HasReadEdits (h.0 ++ edit ∷ []) c.read_next.new.station c.read_next.new.opening =
     rw c.if-branch.true at c.in_ok-read_next.ensures.reads h.0 h.1 in
     record {
       read = (h.0 ++ next.0 ∷ [], next.1);
       few = c.in_ok-read_next.ensures.few (ap (λ (b : Bool). Ok b) c.if-branch.true);
-      disk = reads_on g.D.Disk.content g.D.Disk.may_leave g.D.Disk.moment g.D.Disk.left_since g.D.Disk.faults _ _ _ c.loop.invariant.disk
+      disk = reads_on g.D.Disk _ _ _ c.loop.invariant.disk
           c.in_ok-read_next.ensures.disk;
     }
 
 pub returns-clause-all : goal.returns-clause-all
 returns-clause-all g c =
     let h = c.loop.invariant.read in
-    let all : HasAllEdits g.D.Disk.content h.0 c.read_next.new.station c.read_next.new.opening =
+    let all : HasAllEdits h.0 c.read_next.new.station c.read_next.new.opening =
     rw c.if-branch.false at c.in_ok-read_next.ensures.reads h.0 h.1 in
     (h.0, all)

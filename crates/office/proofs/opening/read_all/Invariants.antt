@@ -8,9 +8,9 @@ use Rattle.office.proofs.opening.read_all.Given as goal
 abbrev pub invariant-loop : goal.invariant-loop
 invariant-loop g l =
     record {
-      read : (edits : List What) × HasReadEdits g.D.Disk.content edits l.station l.opening;
+      read : (edits : List What) × HasReadEdits edits l.station l.opening;
       few : l.station.edits ≤ 2 ^ 63;
-      disk : OnlyReads g.D.Disk.content g.D.Disk.may_leave g.D.Disk.moment g.D.Disk.left_since g.D.Disk.faults l.fn.opening.ahead.disk l.opening.ahead.disk;
+      disk : OnlyReads g.D.Disk l.fn.opening.ahead.disk l.opening.ahead.disk;
     }
 
 abbrev pub decreases-loop : goal.decreases-loop

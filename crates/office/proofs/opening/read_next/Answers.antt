@@ -9,7 +9,7 @@ pub prove-unreachable-requires : goal.prove-unreachable-requires
 prove-unreachable-requires g c =
     let r = c.in_ok-piece.ensures {u = tt} in
     let place : c.next.new.self.last ≡ c.args.opening.now.gate = rw c.in-Some.is at r.offset in
-    let few : 5 * c.args.station.now.edits + 16 ≤ c.args.opening.now.gate = few_edits g.D.Disk.content _ _ _ c.requires.1 in
+    let few : 5 * c.args.station.now.edits + 16 ≤ c.args.opening.now.gate = few_edits _ _ _ c.requires.1 in
     let edits = c.edits-edits.ensures in
     let offset = c.offset-place.ensures in
     let other = c.if-prove.true in
@@ -20,7 +20,7 @@ returns-clause-reads g c =
     let r = c.in_ok-piece.ensures {u = tt} in
     λ edits h. (
       c.in-Some.piece.edit.what,
-      read_push g.D.Disk.content edits _ _ _ _ c.in-Some.piece h (rw c.in-Some.is at r.reads h.pieces h.read)
+      read_push edits _ _ _ _ c.in-Some.piece h (rw c.in-Some.is at r.reads h.pieces h.read)
           (λ k. c.in_ok-accept.ensures.accepted (reopen edits) k),
     )
 
@@ -29,7 +29,7 @@ returns-clause-few g c =
     λ e.
     let r = c.in_ok-piece.ensures {u = tt} in
     let place : c.next.new.self.last ≡ c.args.opening.now.gate = rw c.in-Some.is at r.offset in
-    let few : 5 * c.args.station.now.edits + 16 ≤ c.args.opening.now.gate = few_edits g.D.Disk.content _ _ _ c.requires.1 in
+    let few : 5 * c.args.station.now.edits + 16 ≤ c.args.opening.now.gate = few_edits _ _ _ c.requires.1 in
     let offset = c.offset-place.ensures in
     let fits = c.offset-place.type_inv in
     let more = c.in_ok-accept.ensures.edits in

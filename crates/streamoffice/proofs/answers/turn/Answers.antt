@@ -12,8 +12,8 @@ use Rattle.streamoffice.proofs.answers.turn.Goals as goal
 pub returns-clause-ok : goal.returns-clause-ok
 returns-clause-ok g c =
     let told_so : c.make.new.self.reply ≡ reply_bytes 200 Json None (turned_text c.pending.result c.count_of.result)
-    → (told : Bool) → Answers c.args.office.now.journal.limit (λ h. Stands g.D.Disk.content g.D.Disk.may_leave told h c.args.office.now)
-    (Some Turn) c.make.new.self.reply (λ h. Stands g.D.Disk.content g.D.Disk.may_leave told h c.turn.new.self) =
+    → (told : Bool) → Answers c.args.office.now.journal.limit (λ h. Stands told h c.args.office.now)
+    (Some Turn) c.make.new.self.reply (λ h. Stands told h c.turn.new.self) =
     λ is told events stands.
     let turned = c.in_ok-day.ensures.ok told events stands in (
       is ∙ ap (λ (n : ℕ). reply_bytes 200 Json None (turned_text n c.count_of.result)) (c.pending.ensures (after_turn events) turned.1.keeps)
@@ -26,7 +26,7 @@ returns-clause-ok g c =
 -- the turn was made, and there was no memory to tell it
 pub returns-clause-err : goal.returns-clause-err
 returns-clause-err g c =
-    let left : (told : Bool) → Leaves (λ h. Stands g.D.Disk.content g.D.Disk.may_leave told h c.args.office.now) (Some Turn)
-    (λ h. Stands g.D.Disk.content g.D.Disk.may_leave told h c.turn.new.self) =
+    let left : (told : Bool) → Leaves (λ h. Stands told h c.args.office.now) (Some Turn)
+    (λ h. Stands told h c.turn.new.self) =
     λ told events stands. (after_turn events, inr refl, (c.in_ok-day.ensures.ok told events stands).1) in
     any_err c.make.result _ left

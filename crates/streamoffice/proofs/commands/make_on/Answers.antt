@@ -3,12 +3,12 @@ use Rattle.streamoffice.proofs.commands.make_on.Goals as goal
 
 pub returns-clause-makes : goal.returns-clause-makes
 returns-clause-makes g c =
-    makes_on g.D.Disk.content g.D.Disk.may_leave (g.D.Disk.content c.args.disk) (g.D.Disk.may_leave c.args.disk)
+    makes_on g.D.Disk (g.D.Disk.content c.args.disk) (g.D.Disk.may_leave c.args.disk)
     c.init-made.result c.end_of_making.result c.init-made.new.disk c.end_of_making.ensures c.init-made.ensures.answer c.init-made.ensures.left
 
 pub returns-clause-any_moment : goal.returns-clause-any_moment
 returns-clause-any_moment g c =
-    leaves_on g.D.Disk.moment g.D.Disk.left_since (g.D.Disk.may_leave c.args.disk) c.init-made.result c.end_of_making.result
+    leaves_on g.D.Disk (g.D.Disk.may_leave c.args.disk) c.init-made.result c.end_of_making.result
     c.args.disk c.init-made.new.disk c.end_of_making.ensures c.init-made.ensures.any_moment
 
 pub returns-clause-ends : goal.returns-clause-ends

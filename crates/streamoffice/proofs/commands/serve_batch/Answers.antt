@@ -4,11 +4,11 @@ use Rattle.streamoffice.proofs.commands.serve_batch.Goals as goal
 
 pub keep-requires : goal.keep-requires
 keep-requires g c =
-    taken_out _ _ _ _ _ _ _ _ _ _ c.in-Disk.ensures.opened
+    taken_out _ _ _ _ _ _ c.in-Disk.ensures.opened
 
 pub returns-in-Disk-clause-serves : goal.returns-in-Disk-clause-serves
 returns-in-Disk-clause-serves g c =
-    serves_kept g.C.Disk.Disk.content g.C.Disk.Disk.may_leave g.C.Disk.Disk.moment g.C.Disk.Disk.left_since g.C.Disk.Disk.calls g.C.Disk.Disk.faults
+    serves_kept g.C.Disk.Disk
     c.serve_disk-end.result.0 c.args.name.now (g.C.Cabinet.places c.args.cabinet.now) (g.C.Cabinet.places c.open.new.self) (g.C.Cabinet.places c.keep.new.self)
     c.in-Disk.disk c.serve_disk-end.result.1 (g.C.Cabinet.faults c.args.cabinet.now) (g.C.Cabinet.faults c.open.new.self) (g.C.Cabinet.faults c.keep.new.self)
     (g.S.Source.left c.args.input.now) (g.S.Source.left c.serve_disk-end.new.input)

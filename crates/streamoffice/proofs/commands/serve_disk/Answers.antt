@@ -13,12 +13,12 @@ returns-in-Ok-clause-serves g c =
       served_as c.in-Ok.office.journal.limit usual_limit (reopen opened.edits) c.session-end.result
           (g.S.Source.left c.args.input.now) (g.S.Source.left c.session-end.new.source)
           (g.K.Sink.written c.args.output.now) (g.K.Sink.written c.session-end.new.sink)
-          (λ after. Stands g.D.Disk.content g.D.Disk.may_leave (is_some (g.D.Disk.content c.args.disk)) after c.session-end.new.office
-          × Passes g.D.Disk.moment g.D.Disk.left_since g.D.Disk.faults (is_some (g.D.Disk.content c.args.disk)) (reopen opened.edits) after
+          (λ after. Stands (is_some (g.D.Disk.content c.args.disk)) after c.session-end.new.office
+          × Passes g.D.Disk (is_some (g.D.Disk.content c.args.disk)) (reopen opened.edits) after
           c.in-Ok.office.journal.disk c.session-end.new.office.journal.disk)
-          (λ after. Carries g.D.Disk.content g.D.Disk.may_leave g.D.Disk.moment g.D.Disk.left_since g.D.Disk.faults opened.edits after c.args.disk c.close.result)
+          (λ after. Carries g.D.Disk opened.edits after c.args.disk c.close.result)
           (c.in-Ok.ensures.limit ∙ c.usual.ensures)
-          (λ after h. carries g.D.Disk.content g.D.Disk.may_leave g.D.Disk.moment g.D.Disk.left_since g.D.Disk.faults opened.edits after
+          (λ after h. carries opened.edits after
           c.args.disk c.in-Ok.office.journal.disk c.session-end.new.office c.close.result c.close.ensures.disk opened.found c.in-Ok.ensures.any_moment h)
           (c.session-end.ensures.served (is_some (g.D.Disk.content c.args.disk)) (reopen opened.edits) opened.stands),
     )
@@ -26,7 +26,7 @@ returns-in-Ok-clause-serves g c =
 pub returns-in-Err-clause-serves : goal.returns-in-Err-clause-serves
 returns-in-Err-clause-serves g c =
     let laws = g.met.D.Disk g.world.𝓛 g.world.𝓜 g.world.𝓡 ((λ s x. x), (λ x. x), (λ x. x), λ x. x) in
-    not_opened g.D.Disk.content g.D.Disk.may_leave g.D.Disk.moment g.D.Disk.left_since g.D.Disk.faults c.in-Err.refused.fault
+    not_opened g.D.Disk c.in-Err.refused.fault
     c.end_of_opening.result c.args.disk c.in-Err.refused.disk
     (g.S.Source.left c.args.input.now) (g.S.Source.left c.args.input.now) (g.K.Sink.written c.args.output.now) (g.K.Sink.written c.args.output.now)
     laws.counts_now c.end_of_opening.ensures c.in-Err.ensures.refused c.in-Err.ensures.refused_same c.in-Err.ensures.refused_any_moment

@@ -1,6 +1,6 @@
 use Rattle.std.proofs.Common.{List, ℕ, subst}
 use Rattle.streamoffice.specs.Answering.{told_bytes}
-use Rattle.streamoffice.specs.Served.{AreWritten}
+use Rattle.devices.specs.Sinks.{AreWritten}
 use Rattle.streamoffice.proofs.sessions.reply_on.Goals as goal
 
 pub returns-clause-answered : goal.returns-clause-answered

@@ -14,10 +14,10 @@ returns-in_default-clause-served g c = λ told events stands.
     let only = (g.met.D.Disk g.world.𝓛 g.world.𝓜 g.world.𝓡 ((λ s x. x), (λ x. x), (λ x. x), λ x. x)).only_now in
     let disk = c.args.office.now.journal.disk in
     ends_before c.args.office.now.journal.limit events
-    (λ h. Stands g.D.Disk.content g.D.Disk.may_leave told h c.args.office.now × Passes g.D.Disk.moment g.D.Disk.left_since g.D.Disk.faults told events h disk disk)
+    (λ h. Stands told h c.args.office.now × Passes g.D.Disk told events h disk disk)
     (g.S.Source.left c.args.source.now) (g.K.Sink.written c.args.sink.now) (
       stands,
-      passes_none g.D.Disk.content g.D.Disk.may_leave g.D.Disk.moment g.D.Disk.left_since g.D.Disk.faults told events
+      passes_none told events
           c.args.office.now c.args.office.now only refl stands,
     )
 
@@ -26,10 +26,10 @@ returns-in_default-new-clause-served g c = λ told events stands.
     let only = (g.met.D.Disk g.world.𝓛 g.world.𝓜 g.world.𝓡 ((λ s x. x), (λ x. x), (λ x. x), λ x. x)).only_now in
     let disk = c.args.office.now.journal.disk in
     ends_before c.args.office.now.journal.limit events
-    (λ h. Stands g.D.Disk.content g.D.Disk.may_leave told h c.args.office.now × Passes g.D.Disk.moment g.D.Disk.left_since g.D.Disk.faults told events h disk disk)
+    (λ h. Stands told h c.args.office.now × Passes g.D.Disk told events h disk disk)
     (g.S.Source.left c.args.source.now) (g.K.Sink.written c.args.sink.now) (
       stands,
-      passes_none g.D.Disk.content g.D.Disk.may_leave g.D.Disk.moment g.D.Disk.left_since g.D.Disk.faults told events
+      passes_none told events
           c.args.office.now c.args.office.now only refl stands,
     )
 
@@ -44,13 +44,13 @@ loop-end-init g c =
     record {
       under_way = λ told events stands.
           subst (λ (held : Held). IsUnderWay c.args.office.now.journal.limit events
-          (λ h. Stands g.D.Disk.content g.D.Disk.may_leave told h c.args.office.now × Passes g.D.Disk.moment g.D.Disk.left_since g.D.Disk.faults told events h disk disk)
+          (λ h. Stands told h c.args.office.now × Passes g.D.Disk told events h disk disk)
           held left left written written) (sym start)
           (begins c.args.office.now.journal.limit events
-          (λ h. Stands g.D.Disk.content g.D.Disk.may_leave told h c.args.office.now × Passes g.D.Disk.moment g.D.Disk.left_since g.D.Disk.faults told events h disk disk)
+          (λ h. Stands told h c.args.office.now × Passes g.D.Disk told events h disk disk)
           left written (
             stands,
-            passes_none g.D.Disk.content g.D.Disk.may_leave g.D.Disk.moment g.D.Disk.left_since g.D.Disk.faults told events
+            passes_none told events
                 c.args.office.now c.args.office.now only refl stands,
           ));
       journal_limit = refl;
@@ -64,8 +64,8 @@ loop-end-init g c =
 pub returns-in-Some-clause-served : goal.returns-in-Some-clause-served
 returns-in-Some-clause-served g c = λ told events stands.
     subst (λ (end : Option SessionEnd). GoesOn c.args.office.now.journal.limit events end
-    (λ h. Stands g.D.Disk.content g.D.Disk.may_leave told h c.serve_next-end.new.office
-    × Passes g.D.Disk.moment g.D.Disk.left_since g.D.Disk.faults told events h c.args.office.now.journal.disk c.serve_next-end.new.office.journal.disk)
+    (λ h. Stands told h c.serve_next-end.new.office
+    × Passes g.D.Disk told events h c.args.office.now.journal.disk c.serve_next-end.new.office.journal.disk)
     c.serve_next-end.new.incoming (g.S.Source.left c.args.source.now) (g.S.Source.left c.serve_next-end.new.source)
     (g.K.Sink.written c.args.sink.now) (g.K.Sink.written c.serve_next-end.new.sink)) c.in-Some.is
     (c.serve_next-end.ensures.goes_on told c.args.office.now.journal.limit events c.args.office.now.journal.disk
@@ -76,8 +76,8 @@ pub loop-end-preserved : goal.loop-end-preserved
 loop-end-preserved g c = record {
   under_way = λ told events stands.
       subst (λ (end : Option SessionEnd). GoesOn c.args.office.now.journal.limit events end
-      (λ h. Stands g.D.Disk.content g.D.Disk.may_leave told h c.serve_next-end.new.office
-      × Passes g.D.Disk.moment g.D.Disk.left_since g.D.Disk.faults told events h c.args.office.now.journal.disk c.serve_next-end.new.office.journal.disk)
+      (λ h. Stands told h c.serve_next-end.new.office
+      × Passes g.D.Disk told events h c.args.office.now.journal.disk c.serve_next-end.new.office.journal.disk)
       c.serve_next-end.new.incoming (g.S.Source.left c.args.source.now) (g.S.Source.left c.serve_next-end.new.source)
       (g.K.Sink.written c.args.sink.now) (g.K.Sink.written c.serve_next-end.new.sink)) c.in_default-end.is
       (c.serve_next-end.ensures.goes_on told c.args.office.now.journal.limit events c.args.office.now.journal.disk

@@ -13,10 +13,10 @@ invariant-loop-end g l =
     let written = g.K.Sink.written in
     let faults = g.D.Disk.faults in
     record {
-      under_way : (told : Bool) (events : List Event) → Stands g.D.Disk.content g.D.Disk.may_leave told events l.fn.office
+      under_way : (told : Bool) (events : List Event) → Stands told events l.fn.office
           → IsUnderWay l.fn.office.journal.limit events
-          (λ h. Stands g.D.Disk.content g.D.Disk.may_leave told h l.office
-          × Passes g.D.Disk.moment g.D.Disk.left_since g.D.Disk.faults told events h l.fn.office.journal.disk l.office.journal.disk)
+          (λ h. Stands told h l.office
+          × Passes g.D.Disk told events h l.fn.office.journal.disk l.office.journal.disk)
           l.incoming (left l.fn.source) (left l.source) (written l.fn.sink) (written l.sink);
       journal_limit : l.office.journal.limit ≡ l.fn.office.journal.limit;
       room : l.office.station.edits ≤ 2 ^ 63 + l.incoming.offset;

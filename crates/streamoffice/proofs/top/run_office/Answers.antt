@@ -55,7 +55,7 @@ pub returns-clause-complete_init : goal.returns-clause-complete_init
 returns-clause-complete_init g c = λ name is room calm.
     let same = asked_unique (map string_bytes c.args.words.now) (asked_by c.in-Some.command) (Init name) c.in-Some.ensures is in
     c.status.ensures
-    ∙ completes_init g.C.Disk.Disk.content g.C.Disk.Disk.may_leave g.C.Disk.Disk.moment g.C.Disk.Disk.left_since c.run_command-end.result name
+    ∙ completes_init g.C.Disk.Disk c.run_command-end.result name
     (g.C.Cabinet.places c.args.cabinet.now) (g.C.Cabinet.places c.run_command-end.new.cabinet)
     (g.C.Cabinet.faults c.args.cabinet.now) (g.C.Cabinet.faults c.run_command-end.new.cabinet)
     (c.run_command-end.ensures.makes name same) (c.run_command-end.ensures.ends name same) room calm
@@ -64,7 +64,7 @@ pub returns-clause-complete : goal.returns-clause-complete
 returns-clause-complete g c = λ name is sound formed told calm still quiet.
     let same = asked_unique (map string_bytes c.args.words.now) (asked_by c.in-Some.command) (Batch name) c.in-Some.ensures is in
     subst (λ (n : ℕ). (n ≡ 0) ⊎ (n ≡ 6)) (sym c.status.ensures)
-    (completes g.C.Disk.Disk.content g.C.Disk.Disk.may_leave g.C.Disk.Disk.moment g.C.Disk.Disk.left_since g.C.Disk.Disk.faults c.run_command-end.result name
+    (completes g.C.Disk.Disk c.run_command-end.result name
     (g.C.Cabinet.places c.args.cabinet.now) (g.C.Cabinet.places c.run_command-end.new.cabinet)
     (g.C.Cabinet.faults c.args.cabinet.now) (g.C.Cabinet.faults c.run_command-end.new.cabinet)
     (g.S.Source.left c.args.input.now) (g.S.Source.left c.run_command-end.new.input)

@@ -8,10 +8,10 @@ pub returns-clause-now : goal.returns-clause-now
 returns-clause-now g c =
     λ events s.
     rw c.close.ensures
-    (holds_now g.D.Disk.content g.D.Disk.may_leave (accepted events) (doubt events) c.args.self.journal (s.holds refl))
+    (holds_now (accepted events) (doubt events) c.args.self.journal (s.holds refl))
 
 pub returns-clause-images : goal.returns-clause-images
 returns-clause-images g c =
     λ events s.
     rw c.close.ensures
-    (holds_images g.D.Disk.content g.D.Disk.may_leave (accepted events) (doubt events) c.args.self.journal (s.holds refl))
+    (holds_images (accepted events) (doubt events) c.args.self.journal (s.holds refl))

@@ -4,4 +4,4 @@ use Rattle.office.proofs.StandsLemmas.{turn_stands}
 use Rattle.office.proofs.records_office.Office.turn.Goals as goal
 
 pub returns-clause-ok : goal.returns-clause-ok
-returns-clause-ok g c = turn_stands g.D.Disk.content g.D.Disk.may_leave c.args.self.now _ c.turn.result c.turn.ensures.ok refl
+returns-clause-ok g c = turn_stands c.args.self.now _ c.turn.result c.turn.ensures.ok refl

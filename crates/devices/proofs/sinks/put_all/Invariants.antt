@@ -1,5 +1,5 @@
 use Rattle.std.proofs.Common.{◌≡◌, ◌++◌, ◌≤◌, length, List, ℕ, Some, IfSome}
-use Rattle.streamoffice.proofs.sessions.put_all.Given as goal
+use Rattle.devices.proofs.sinks.put_all.Given as goal
 
 -- a front of the bytes was put, and the count of faults has not fallen
 abbrev pub invariant-loop-rest : goal.invariant-loop-rest

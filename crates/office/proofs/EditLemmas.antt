@@ -18,8 +18,8 @@ use Rattle.office.specs.History.{Event, accepted, doubt, after_edit, after_fault
 use Rattle.office.specs.JournalOfEdits.{AreRecords, IsRecordInDoubt, StandsForEdits, IsFull, journal_size}
 use Rattle.office.specs.Kept.{Keeps}
 use Rattle.office.specs.Stands.{HoldsEdits, Stands}
-use Rattle.office.specs.declared.records_office.Office.{Office}
-use Rattle.office.specs.declared.records_office.Refusal.{Refusal}
+use Rattle.office.specs.declared.offices.Office.{Office}
+use Rattle.office.specs.declared.offices.Refusal.{Refusal}
 use Rattle.office.proofs.HistoryLemmas.{accepted-edit, accepted-faulted, doubt-edit, doubt-faulted}
 use Rattle.office.proofs.JournalLemmas.{records_push, records_length, first_path_numbered}
 use Rattle.office.proofs.KeptLemmas.{keeps_fault}

@@ -13,7 +13,7 @@ use Rattle.office.specs.JournalOfEdits.{IsJournalOfEdits, journal_size}
 use Rattle.office.specs.Opened.{IsOpened}
 use Rattle.office.specs.Replay.{HasAllEdits}
 use Rattle.office.specs.Stands.{HoldsEdits}
-use Rattle.office.specs.declared.records_office.Office.{Office}
+use Rattle.office.specs.declared.offices.Office.{Office}
 use Rattle.office.proofs.JournalLemmas.{front_length}
 use Rattle.office.proofs.HistoryLemmas.{accepted-reopen, doubt-reopen}
 

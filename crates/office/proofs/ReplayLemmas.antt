@@ -1,5 +1,5 @@
 -- An office that is opened accepts the edits of its journal again.
-use Rattle.std.specs.Prelude.{◌≡◌, ℕ, ◌+◌, ◌*◌, ◌<◌, ◌≤◌, List, [], ◌∷◌, ◌++◌, length, Option}
+use Rattle.std.specs.Prelude.{◌≡◌, ℕ, ◌+◌, ◌*◌, ◌<◌, ◌≤◌, List, [], ◌∷◌, ◌++◌, length}
 use Rattle.std.proofs.Common.{arith, ap, subst, inl, inr, ◌∙◌}
 use Rattle.devices.specs.declared.disks.Disk.{Ghosts}
 use Rattle.records.specs.FirstPath.{IsFirstPath}

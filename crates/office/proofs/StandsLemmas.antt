@@ -14,7 +14,7 @@ use Rattle.office.specs.History.{Event, accepted, doubt, after_publication, afte
 use Rattle.office.specs.JournalOfEdits.{AreRecords, IsRecordInDoubt, IsJournalOfEdits, StandsForEdits, journal_size}
 use Rattle.office.specs.Kept.{Keeps}
 use Rattle.office.specs.Stands.{HoldsEdits, Stands}
-use Rattle.office.specs.declared.records_office.Office.{Office}
+use Rattle.office.specs.declared.offices.Office.{Office}
 use Rattle.journal.proofs.Stages.{records_stand}
 use Rattle.office.proofs.HistoryLemmas.{accepted-published, doubt-published}
 use Rattle.office.proofs.JournalLemmas.{records_push, encoded_length, size_push}

@@ -9,7 +9,7 @@ use Rattle.office.specs.History.{Event, Accepted, Published, Faulted, accepted, 
 use Rattle.office.specs.JournalOfEdits.{StandsForEdits}
 use Rattle.office.specs.Stands.{Stands}
 use Rattle.office.specs.Stops.{Extends, IsLeftBetween, edit_in_flight}
-use Rattle.office.specs.declared.records_office.Office.{Office}
+use Rattle.office.specs.declared.offices.Office.{Office}
 use Rattle.office.proofs.EditLemmas.{leaves_same}
 use Rattle.office.proofs.StandsLemmas.{holds_images}
 

@@ -1,8 +1,8 @@
 -- What the office answers for a day, as its contract says it.
 use Rattle.std.specs.Prelude.{◌≡◌, List, Some, None, ℤ}
 use Rattle.office.specs.History.{Event, awaited, value_at}
-use Rattle.office.specs.declared.station_record.Answer.{Answer}
-use Rattle.office.specs.declared.station_record.Answer.TheVariants.{Pending, Computed}
+use Rattle.office.specs.declared.station_state.Answer.{Answer}
+use Rattle.office.specs.declared.station_state.Answer.TheVariants.{Pending, Computed}
 
 -- the edit that the day awaits, or else its value computed from scratch
 abbrev pub IsAnswer : List Event → ℤ → Answer → Type 0

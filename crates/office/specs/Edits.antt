@@ -11,9 +11,9 @@ use Rattle.journal.specs.declared.keeping.AppendFault.TheVariants.{Full, Fault}
 use Rattle.office.specs.History.{Event, accepted, doubt, after_edit, after_fault}
 use Rattle.office.specs.JournalOfEdits.{IsFull}
 use Rattle.office.specs.Stands.{Stands}
-use Rattle.office.specs.declared.records_office.Office.{Office}
-use Rattle.office.specs.declared.records_office.Refusal.{Refusal}
-use Rattle.office.specs.declared.records_office.Refusal.TheVariants.{NoMemory, JournalFull, JournalFault}
+use Rattle.office.specs.declared.offices.Office.{Office}
+use Rattle.office.specs.declared.offices.Refusal.{Refusal}
+use Rattle.office.specs.declared.offices.Refusal.TheVariants.{NoMemory, JournalFull, JournalFault}
 
 -- the edit that a stop may leave beside the accepted ones: the one that was in doubt before, or else this one
 abbrev pub in_flight : Option What → What → Option What

@@ -1,7 +1,7 @@
 -- The journal of accepted edits: the record of each, numbered from 1.
 use Rattle.std.specs.Prelude.{◌≡◌, ◌⊎◌, ℕ, ◌+◌, Bool, true, nat_lt, List, [], ◌∷◌, ◌++◌, length, Option, Some, None, ⊤}
 use Rattle.records.specs.FirstPath.{IsFirstPath, first_by, first_reference, first_site}
-use Rattle.records.specs.Payloads.{fields, kind, short_text, site_number}
+use Rattle.records.specs.Payloads.{bytes_of_parts}
 use Rattle.records.specs.declared.edits.Record.{Record}
 use Rattle.records.specs.declared.edits.What.{What}
 use Rattle.journal.specs.JournalBytes.{IsJournalOf}
@@ -32,8 +32,7 @@ StandsForEdits edits (Some last) bytes = IsJournalOfEdits edits bytes ⊎ IsJour
 
 -- the payload of the record of the edit of that number
 unfoldable pub payload_of : ℕ → What → List ℕ
-payload_of number edit =
-    kind edit ∷ short_text first_by ++ short_text (first_reference number) ++ site_number first_site ++ fields edit
+payload_of number edit = bytes_of_parts first_by (first_reference number) first_site edit
 
 -- the bytes of the records of these edits, numbered from there: of each an open gate, a length and the payload
 abbrev pub records_size : ℕ → List What → ℕ

@@ -9,7 +9,7 @@ use Rattle.journal.specs.declared.opening.OpenFault.TheVariants.{Fault, NotAJour
 use Rattle.office.specs.History.{reopen}
 use Rattle.office.specs.JournalOfEdits.{IsJournalOfEdits}
 use Rattle.office.specs.Stands.{Stands}
-use Rattle.office.specs.declared.records_office.Office.{Office}
+use Rattle.office.specs.declared.offices.Office.{Office}
 
 -- the edits of the journal that was found are those that the office stands for, each accepted in its turn
 pub record IsOpened {D : Type 0} {g : Ghosts D} (disk : D)

@@ -1,5 +1,5 @@
 -- Which history an office stands for, in its memory and on its disk.
-use Rattle.std.specs.Prelude.{◌≡◌, ℕ, ◌+◌, Bool, true, List, length, Option, is_some}
+use Rattle.std.specs.Prelude.{◌≡◌, ◌+◌, Bool, true, List, length, Option, is_some}
 use Rattle.devices.specs.declared.disks.Disk.{Ghosts}
 use Rattle.records.specs.declared.edits.Record.{Record}
 use Rattle.records.specs.declared.edits.What.{What}
@@ -8,7 +8,7 @@ use Rattle.journal.specs.declared.keeping.Journal.{Journal}
 use Rattle.office.specs.History.{Event, accepted, doubt}
 use Rattle.office.specs.JournalOfEdits.{AreRecords, IsRecordInDoubt, journal_size}
 use Rattle.office.specs.Kept.{Keeps}
-use Rattle.office.specs.declared.records_office.Office.{Office}
+use Rattle.office.specs.declared.offices.Office.{Office}
 
 -- the journal holds the records of these edits, and perhaps that of the one in doubt
 pub record HoldsEdits {D : Type 0} {g : Ghosts D}

@@ -29,7 +29,7 @@ pub fn changed_days_await_the_edit()
 {}
 
 /// The number that a day awaits is that of an accepted edit which changed the day.
-pub fn awaited_numbers_name_edits()
+pub fn awaited_edits_changed_their_day()
     ensures { (events : List Event) (day : ℤ) (number : ℕ) → awaited events day ≡ Some number → IsNamed events day number }
 {}
 

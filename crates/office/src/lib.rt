@@ -7,13 +7,13 @@ pub mod from_scratch;
 pub mod laws;
 pub mod limits;
 pub mod marks;
+pub mod offices;
 mod opening;
-pub mod records_office;
 pub mod station;
-pub mod station_record;
+pub mod station_state;
 #[cfg(test)]
 mod tests;
 
 pub use limits::Limits;
-pub use records_office::{Office, Refusal};
-pub use station_record::{Answer, StationRecord};
+pub use offices::{Office, Refusal};
+pub use station_state::{Answer, StationState};

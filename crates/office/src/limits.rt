@@ -2,6 +2,9 @@
 
 ghost use Rattle.std.specs.Prelude.{◌≡◌};
 
+/// How many bytes a journal may usually have: 512 MiB.
+pub const USUAL_JOURNAL_BYTES: u64 = 536_870_912;
+
 /// The numbers that an office keeps to.
 #[derive(Clone, Copy, Debug, PartialEq, Eq)]
 pub struct Limits {
@@ -10,12 +13,12 @@ pub struct Limits {
 }
 
 impl Limits {
-    /// 512 MiB of journal.
+    /// Those of every run.
     pub fn usual() -> Limits
-        ensures { result.journal_bytes ≡ 536_870_912 }
+        ensures { result.journal_bytes ≡ USUAL_JOURNAL_BYTES }
     {
         Limits {
-            journal_bytes: 536_870_912,
+            journal_bytes: USUAL_JOURNAL_BYTES,
         }
     }
 }

@@ -12,7 +12,7 @@ ghost use Rattle.office.specs.History.{Event, after_edit};
 ghost use Rattle.office.specs.Kept.{Keeps};
 ghost use Rattle.office.specs.Replay.{HasReadEdits, HasAllEdits, ReadsEdits, IsReadFault};
 
-use crate::station_record::StationRecord;
+use crate::station_state::StationState;
 use devices::Disk;
 use fixed_units::NoMemory;
 use journal::{OpenFault, Opening};
@@ -23,7 +23,7 @@ use std::alloc::Global;
 pub(crate) fn read_all<D: Disk>(
     alloc: Global,
     opening: &mut Opening<D>,
-    station: &mut StationRecord,
+    station: &mut StationState,
 ) -> Result<(), OpenFault>
     requires { HasReadEdits [] station.old opening.old }
     ensures all { OnOk result ((edits : List What) × HasAllEdits edits station.new opening.new) }
@@ -40,7 +40,7 @@ pub(crate) fn read_all<D: Disk>(
 fn read_next<D: Disk>(
     alloc: Global,
     opening: &mut Opening<D>,
-    station: &mut StationRecord,
+    station: &mut StationState,
 ) -> Result<bool, OpenFault>
     requires { (edits : List What) × HasReadEdits edits station.old opening.old }
     ensures reads { (edits : List What) → HasReadEdits edits station.old opening.old → ReadsEdits edits station.new opening.new result }
@@ -62,7 +62,7 @@ fn read_next<D: Disk>(
 }
 
 /// Accepts the edit of a record, which was accepted before.
-fn accept(station: &mut StationRecord, piece: &Record) -> Result<(), OpenFault>
+fn accept(station: &mut StationState, piece: &Record) -> Result<(), OpenFault>
     requires room { station.old.edits < 2 ^ 64 - 1 }
     ensures accepted { OnOk result ((events : List Event) → Keeps station.old events → Keeps station.new (after_edit events piece.now.edit.what)) }
     ensures edits { OnOk result (station.new.edits ≡ station.old.edits + 1) }

@@ -6,8 +6,8 @@ ghost use Rattle.records.specs.Edits.{IsWhat};
 
 use crate::from_scratch::changed_days;
 use crate::limits::Limits;
-use crate::records_office::{Office, Refusal};
-use crate::station_record::Answer;
+use crate::offices::{Office, Refusal};
+use crate::station_state::Answer;
 use daily_values::DayValue;
 use devices::MemoryDisk;
 use fixed_units::{Day, Flag, Micro, Published, Reading, Second};

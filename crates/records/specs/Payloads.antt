@@ -26,8 +26,12 @@ kind (PutReadings at raw) = 3
 abbrev pub fields : What → List ℕ
 fields (PutReadings at raw) = to_le_bytes w32 1 ++ signed_number at ++ signed_number raw ++ 0 ∷ []
 
+-- an edit by its parts: who makes it, under which reference, of which station, and what it is
+abbrev pub bytes_of_parts : List ℕ → List ℕ → SiteNumber → What → List ℕ
+bytes_of_parts by reference site what = kind what ∷ short_text by ++ short_text reference ++ site_number site ++ fields what
+
 abbrev pub edit_bytes : Edit → List ℕ
-edit_bytes edit = kind edit.what ∷ short_text edit.by ++ short_text edit.reference ++ site_number edit.site ++ fields edit.what
+edit_bytes edit = bytes_of_parts edit.by edit.reference edit.site edit.what
 
 abbrev pub payload : Record → List ℕ
 payload piece = edit_bytes piece.edit

@@ -59,6 +59,7 @@ impl Incoming {
     pub fn next<S: Source>(&mut self, alloc: Global, source: &mut S) -> Message
         ensures answer { Answers self.old (S.left source.old) result self.new (S.left source.new) }
         ensures proceeds { Proceeds self.old result self.new }
+        ensures block { length self.new.ahead ≤ BLOCK_BYTES }
         ensures limit { taken self.new ≤ STREAM_BYTES }
         ensures within { IsWithinLimit self.old (S.left source.old) (S.left source.new) }
         ensures counted { S.faults source.old ≤ S.faults source.new }
@@ -99,6 +100,7 @@ impl Incoming {
         requires { (found : RequestHead) × IsRequestAt self.old.ahead head found }
         ensures answer { (left : List ℕ) → IsNext (self.old.ahead ++ left) self.old.offset result (self.new.ahead ++ left) left self.new.offset }
         ensures proceeds { Proceeds self.old result self.new }
+        ensures block { length self.new.ahead ≤ BLOCK_BYTES }
         ensures limit { taken self.new ≤ STREAM_BYTES }
         ensures cause { (before now : ℕ) → HasCause before now result }
     {
@@ -135,6 +137,7 @@ impl Incoming {
         requires { IsBlankWindow self.old.ahead }
         ensures answer { Answers self.old (S.left source.old) result self.new (S.left source.new) }
         ensures proceeds { Proceeds self.old result self.new }
+        ensures block { length self.new.ahead ≤ BLOCK_BYTES }
         ensures limit { taken self.new ≤ STREAM_BYTES }
         ensures within { IsWithinLimit self.old (S.left source.old) (S.left source.new) }
         ensures counted { S.faults source.old ≤ S.faults source.new }
@@ -170,6 +173,7 @@ impl Incoming {
         requires { length self.old.ahead < HEAD_BYTES }
         ensures filled { IsFilled self.old result self.new }
         ensures kept { Keeps self.old (S.left source.old) result self.new (S.left source.new) }
+        ensures block { length self.new.ahead ≤ BLOCK_BYTES }
         ensures limit { taken self.new ≤ STREAM_BYTES }
         ensures counted { S.faults source.old ≤ S.faults source.new }
         ensures cause { HasFault (S.faults source.old) (S.faults source.new) result }

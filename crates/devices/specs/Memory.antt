@@ -6,9 +6,10 @@ use Rattle.devices.specs.declared.sinks.Put.{Put}
 use Rattle.devices.specs.declared.sinks.Put.TheVariants.{Bytes as PutBytes, Failed as PutFailed}
 use Rattle.devices.specs.Failures.{Counts, Fails, with_call, with_fault}
 
--- a source: the bytes that are left
+-- a source: the bytes that are left, and how often it was found at its end
 pub record Supply : Type 0 where
   pub left : List ℕ
+  pub ends : ℕ
   pub counts : Counts
 
 -- a sink: the bytes that were put

@@ -25,3 +25,9 @@ abbrev pub HasCause : ℕ → ℕ → Took → Type 0
 HasCause before now (Bytes n) = ⊤
 HasCause before now End = ⊤
 HasCause before now Failed = Rose before now
+
+-- the count of ends rises where nothing was left, and only there
+abbrev pub IsEndCounted : ℕ → ℕ → Took → Type 0
+IsEndCounted before now (Bytes n) = now ≡ before
+IsEndCounted before now End = Rose before now
+IsEndCounted before now Failed = now ≡ before

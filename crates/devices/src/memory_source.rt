@@ -2,7 +2,7 @@
 ghost use Rattle.std.specs.Prelude.{◌≡◌, ℕ, ◌<◌, ◌≤◌, length, drop, Some};
 ghost use Rattle.devices.specs.Failures.{untouched};
 ghost use Rattle.devices.specs.Memory.{Supply, TakesOnCommand};
-ghost use Rattle.devices.specs.Sources.{IsTakenWithin, TakesFrom, HasCause};
+ghost use Rattle.devices.specs.Sources.{IsTakenWithin, TakesFrom, HasCause, IsEndCounted};
 
 use crate::{Failures, Source, Took};
 use std::marker::Model;
@@ -13,13 +13,14 @@ pub struct MemorySource {
     bytes: Vec<u8>,
     position: usize,
     piece: usize,
+    ends: u64,
     failures: Failures,
 }
 
 impl Model for MemorySource {
     ghost Value = { Supply };
 
-    ghost view = { λ s. record { left = drop s.position s.bytes.items; counts = s.failures } };
+    ghost view = { λ s. record { left = drop s.position s.bytes.items; ends = s.ends; counts = s.failures } };
 
     ghost invariant = { λ s. (s.position ≤ length s.bytes.items) × (0 < s.piece) };
 }
@@ -30,12 +31,14 @@ impl MemorySource {
     pub fn new(bytes: Vec<u8>, failing: Vec<u64>, piece: usize) -> Self
         requires { 0 < piece }
         ensures left { result.left ≡ bytes.items }
+        ensures ends { result.ends ≡ 0 }
         ensures counts { result.counts ≡ untouched failing.items }
     {
         MemorySource {
             bytes,
             position: 0,
             piece,
+            ends: 0,
             failures: Failures::new(failing),
         }
     }
@@ -53,6 +56,13 @@ impl MemorySource {
         self.failures.calls()
     }
 
+    /// How often it was found at its end.
+    pub fn end_count(&self) -> u64
+        ensures { result ≡ self.now.ends }
+    {
+        self.ends
+    }
+
     /// How many faults there were.
     pub fn fault_count(&self) -> u64
         ensures { result ≡ self.now.counts.faults }
@@ -66,12 +76,15 @@ impl Source for MemorySource {
 
     ghost faults = { λ s. s.counts.faults };
 
+    ghost ends = { λ s. s.ends };
+
     fn take(&mut self, into: &mut [u8]) -> Took
         requires { 0 < length into.old }
         ensures within { IsTakenWithin (length into.old) result }
         ensures taken { TakesFrom self.old.left into.new self.new.left result }
         ensures counted { self.old.counts.faults ≤ self.new.counts.faults }
         ensures cause { HasCause self.old.counts.faults self.new.counts.faults result }
+        ensures ended { IsEndCounted self.old.ends self.new.ends result }
         ensures on_command { TakesOnCommand self.old.counts result self.new.counts }
     {
         if self.failures.fails_next() {
@@ -79,6 +92,7 @@ impl Source for MemorySource {
         }
         let rest = self.rest();
         if rest.is_empty() {
+            self.ends = self.ends.saturating_add(1);
             return Took::End;
         }
         let count = self.piece.min(into.len()).min(rest.len());

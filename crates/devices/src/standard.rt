@@ -8,11 +8,12 @@ use crate::{Put, Sink, Source, Took};
 use std::io;
 use std::io::{ErrorKind, Read, Stderr, Stdin, Stdout, Write};
 
-/// A reader as a source, with its count of faults.
+/// A reader as a source, with its counts of faults and ends.
 #[derive(Drop)]
 pub struct ReaderSource<R> {
     reader: R,
     faults: u64,
+    ends: u64,
 }
 
 /// A writer as a sink, with its count of faults. One with a buffer of its own would keep bytes back: the
@@ -37,8 +38,13 @@ impl<R: Read> ReaderSource<R> {
     pub fn new(reader: R) -> Self
         ensures left { ⟦<ReaderSource<R> as Source>⟧.left result ≡ R.remaining reader }
         ensures faults { ⟦<ReaderSource<R> as Source>⟧.faults result ≡ 0 }
+        ensures ends { ⟦<ReaderSource<R> as Source>⟧.ends result ≡ 0 }
     {
-        ReaderSource { reader, faults: 0 }
+        ReaderSource {
+            reader,
+            faults: 0,
+            ends: 0,
+        }
     }
 
     /// How many faults there were.
@@ -54,9 +60,14 @@ impl<R: Read> Source for ReaderSource<R> {
 
     ghost faults = { λ s. s.faults };
 
+    ghost ends = { λ s. s.ends };
+
     fn take(&mut self, into: &mut [u8]) -> Took {
         match read_once(&mut self.reader, into) {
-            Ok(0) => Took::End,
+            Ok(0) => {
+                self.ends = self.ends.saturating_add(1);
+                Took::End
+            }
             Ok(count) => Took::Bytes(count),
             Err(_) => {
                 self.faults = self.faults.saturating_add(1);

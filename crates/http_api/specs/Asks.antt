@@ -1,18 +1,19 @@
 -- What a request asks of the office: its verb and its target, as they stand.
-use Rattle.std.specs.Prelude.{ℕ, ◌&&◌, if◌then◌else◌, List, length, drop, codes, bytes_eq, nat_eq, nat_le, Option, Some, None, option_map, option_and_then, Result, Ok, Err, ℤ, pos, neg_ℤ, int_le, ◌==◌, Bool}
+use Rattle.std.specs.Prelude.{ℕ, ◌&&◌, if◌then◌else◌, List, length, drop, codes, bytes_eq, nat_eq, nat_le, Option, Some, None, option_map, option_and_then, Result, Ok, Err, ℤ, ◌==◌, Bool}
 use Rattle.std.specs.List.{list_all, starts_with, before_first, after_first}
 use Rattle.std.specs.Char.{is_ascii_digit}
 use Rattle.std.specs.Str.Parse.{digits_value, starts_with_minus}
 use Rattle.fixed_units.specs.Decimals.{decimal_of, with_sign_of}
+use Rattle.fixed_units.specs.Quantities.{is_day, is_stage, is_stamp}
 use Rattle.fixed_units.specs.declared.decimals.Bad.{Bad}
 use Rattle.wire.specs.declared.messages.Verb.{Verb}
 use Rattle.wire.specs.declared.messages.Verb.TheVariants.{Get, Post, Other}
 use Rattle.http_api.specs.declared.asks.Ask.{Ask}
 use Rattle.http_api.specs.declared.asks.Ask.TheVariants.{Put, Turn, DayOf}
 
--- the number, if it is from low to high
-abbrev pub between : ℤ → ℤ → ℤ → Option ℤ
-between low high n = if int_le low n && int_le n high then Some n else None
+-- the number, if it passes the test
+abbrev pub passing : (ℤ → Bool) → ℤ → Option ℤ
+passing test n = if test n then Some n else None
 
 -- the digits behind a minus, where there is one
 abbrev pub digits_of : List ℕ → List ℕ
@@ -27,17 +28,17 @@ abbrev pub whole_number : ℕ → List ℕ → Option ℤ
 whole_number most text =
     if is_number most (digits_of text) then Some (with_sign_of text (digits_value 10 (digits_of text))) else None
 
--- a stamp, from 1900-01-03T00:00:00Z to 2099-12-28T23:59:59Z, in up to ten digits
+-- a stamp, in up to ten digits
 abbrev pub stamp_in : List ℕ → Option ℤ
-stamp_in text = option_and_then (between (neg_ℤ (pos 2_208_816_000)) (pos 4_102_185_599)) (whole_number 10 text)
+stamp_in text = option_and_then (passing is_stamp) (whole_number 10 text)
 
 -- a day of the calendar, in up to five digits
 abbrev pub day_in : List ℕ → Option ℤ
-day_in text = option_and_then (between (neg_ℤ (pos 25_567)) (pos 47_481)) (whole_number 5 text)
+day_in text = option_and_then (passing is_day) (whole_number 5 text)
 
 -- the millionths of a decimal that is a stage
 abbrev pub stage_by : Result ℤ Bad → Option ℤ
-stage_by (Ok n) = between (neg_ℤ (pos 100_000_000_000)) (pos 100_000_000_000) n
+stage_by (Ok n) = passing is_stage n
 stage_by (Err bad) = None
 
 abbrev pub stage_in : List ℕ → Option ℤ

@@ -7,7 +7,7 @@ ghost use Rattle.std.specs.Str.Parse.{digits_value};
 ghost use Rattle.http_api.specs.declared.asks.Denied.TheVariants.{NoRoute};
 ghost use Rattle.http_api.specs.Asks.{ask_of, reading_in, stamp_in, stage_in, day_in, whole_number, digits_of, is_number, is_first, behind_first, is_slash};
 
-use fixed_units::{Day, Micro, Second, read_decimal};
+use fixed_units::{Day, Micro, Second, is_stage, is_stamp, read_decimal};
 use thiserror::Error;
 use wire::Verb;
 
@@ -31,7 +31,7 @@ pub enum Ask {
 #[derive(Clone, Copy, Debug, PartialEq, Eq, Error)]
 pub enum Denied {
     /// No route has this verb and this target, or a part of the target is not of its grammar.
-    #[error("no route")]
+    #[error("no route has this verb and this target")]
     NoRoute,
 }
 
@@ -102,7 +102,7 @@ fn read_stamp(text: &[u8]) -> Option<Second>
     ensures { result ≡ stamp_in text.now }
 {
     let seconds = read_whole_number(text, 10)?;
-    if !(-2_208_816_000..=4_102_185_599).contains(&seconds) {
+    if !is_stamp(seconds) {
         return None;
     }
     Second::new(seconds)
@@ -113,7 +113,7 @@ fn read_stage(text: &[u8]) -> Option<Micro>
     ensures { result ≡ stage_in text.now }
 {
     let stage = read_decimal(text).ok()?;
-    if !(-100_000_000_000..=100_000_000_000).contains(&stage.get()) {
+    if !is_stage(stage.get()) {
         return None;
     }
     Some(stage)

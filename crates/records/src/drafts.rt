@@ -8,7 +8,7 @@ ghost use Rattle.records.specs.declared.edits.What.TheVariants.{PutReadings};
 
 use crate::edits::{By, Edit, Record, Ref, What, are_initials, is_reference};
 use crate::first_path::{is_first_by, is_first_site, number_of};
-use fixed_units::{Micro, NoMemory, Second, Site, Text};
+use fixed_units::{Micro, NoMemory, Second, Site, Text, is_stage, is_stamp};
 use std::alloc::Global;
 
 /// The parts of a payload as they stand in its bytes, whatever their ranges.
@@ -40,20 +40,6 @@ pub(crate) fn is_first(draft: &Draft<'_>) -> bool
     is_first_by(draft.by)
         && is_first_site(draft.digits, draft.value)
         && number_of(draft.reference).is_some()
-}
-
-/// Whether an instant of that many seconds is a stamp.
-pub(crate) fn is_stamp(seconds: i64) -> bool
-    ensures { result ≡ true ↔ IsStamp seconds }
-{
-    (-2_208_816_000..=4_102_185_599).contains(&seconds)
-}
-
-/// Whether that many millionths of a foot are a stage that a gauge may give.
-pub(crate) fn is_stage(millionths: i64) -> bool
-    ensures { result ≡ true ↔ IsStage millionths }
-{
-    (-100_000_000_000..=100_000_000_000).contains(&millionths)
 }
 
 /// The record that the parts make.

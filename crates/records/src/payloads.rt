@@ -18,10 +18,10 @@ use thiserror::Error;
 #[derive(Clone, Copy, Debug, PartialEq, Eq, Error)]
 pub enum DecodeFault {
     /// The bytes are no payload of a record.
-    #[error("not a record")]
+    #[error("the bytes are not the payload of a record")]
     NotARecord,
     /// There was no memory for the record.
-    #[error("out of memory")]
+    #[error("there was no memory for the record")]
     NoMemory,
 }
 

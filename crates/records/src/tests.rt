@@ -1,13 +1,13 @@
 //! What no clause says: that the bytes are the ones meant, by records written out by hand, and that the calls succeed.
 
-use crate::drafts::{is_stage, is_stamp, what_from};
+use crate::drafts::what_from;
 use crate::edits::{By, Record, Ref, What};
 use crate::first_path::{is_numbered, record_of};
 use crate::laws::{
     built_in_keeps_grammar, keeps_grammar, none_begins_another, payload_of_one_record, sizes,
 };
 use crate::payloads::{DecodeFault, decode, encode};
-use fixed_units::Text;
+use fixed_units::{Text, is_stage, is_stamp};
 use std::alloc::Global;
 use std::test::Fail;
 

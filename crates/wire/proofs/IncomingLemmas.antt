@@ -1,20 +1,21 @@
 -- What a look at the bytes at hand tells of the rest of a stream, and what becomes of the bytes in a block.
-use Rattle.std.proofs.Common.{◌≡◌, ℕ, ◌+◌, ◌-◌, ◌^◌, ◌<◌, ◌≤◌, Bool, true, false, ◌&&◌, List, [], ◌++◌, length, take, drop, slice_range, Option, Some, None, IfSome, refl, sym, ap, ◌∙◌, subst, arith, append_assoc, length-append, length-drop, if◌then◌else◌}
+use Rattle.std.proofs.Common.{◌≡◌, ◌≢◌, ℕ, ◌+◌, ◌-◌, ◌^◌, ◌<◌, ◌≤◌, Bool, true, false, ◌&&◌, List, [], ◌++◌, length, take, drop, slice_range, Option, Some, None, IfSome, refl, sym, ap, ◌∙◌, subst, arith, append_assoc, append-nil, length-append, length-drop, if◌then◌else◌, inl, inr, ◌⊎◌, ⊎_elim}
 use Rattle.std.specs.Prelude.{IsSomeAnd}
 use Rattle.std.specs.Option.{is_some}
-use Rattle.std.proofs.lemmas.Bool.{true≢false, and_right}
+use Rattle.std.proofs.lemmas.Bool.{true≢false, and_right, eq-eqb}
 use Rattle.std.proofs.lemmas.List.Folds.{list_all-append}
+use Rattle.std.proofs.lemmas.List.Elements.{All-nil, All-append, All-from_get_or}
 use Rattle.memchr.specs.Find.{IsFirstByte, is_byte}
 use Rattle.std.proofs.Math.Seq.{take-add, take-append_seam}
 use Rattle.std.proofs.lemmas.List.{length-take, take-take, take-append-le, take-append-drop, drop-append-le, drop-take, drop-drop}
-use Rattle.httparse.specs.Grammar.{RequestHead, print_request}
+use Rattle.httparse.specs.Grammar.{RequestHead, HasNoRequest, MayBecomeRequest, print_request}
 use Rattle.wire.specs.declared.framing.Head.{Head}
 use Rattle.wire.specs.declared.incoming.Front.TheVariants as fronts
 use Rattle.wire.specs.Found.{IsHeadAt}
-use Rattle.wire.specs.Messages.{is_blank, HasNoHead, IsRequest, IsMalformed}
-use Rattle.wire.specs.Incoming.{Held, Passes, IsUnread, Stays}
+use Rattle.wire.specs.Messages.{is_blank, IsRequest, IsMalformed}
+use Rattle.wire.specs.Incoming.{Held, Passes, IsUnsettled, IsUnread, IsNeeded, Stays}
 use Rattle.wire.specs.Looking.{IsRequestAt, IsBlankWindow, Looks, HasGrown}
-use Rattle.wire.proofs.HeadLemmas.{has_head, found_splits, head_has_length, malformed_head, malformed_no_head, not_blank_more, blank_no_head, blank_full_no_head}
+use Rattle.wire.proofs.HeadLemmas.{has_head, found_splits, head_has_length, malformed_head, malformed_no_head, not_blank_more, blank_no_head, blank_full_no_head, no_head_short, no_head_without_line_feed}
 
 -- ---- a head that was found
 
@@ -87,7 +88,7 @@ passes ahead after left offset offset' found head at behind moved = (
 -- ---- bytes that are read into a block
 
 -- what stands in a block below a place stays there
-pub same_below : (before after : List ℕ) (start end : ℕ) → start ≤ end → take end after ≡ take end before
+same_below : (before after : List ℕ) (start end : ℕ) → start ≤ end → take end after ≡ take end before
     → slice_range after start end ≡ slice_range before start end
 same_below before after start end le same =
     sym (slice-take end after start end le (omega arith))
@@ -95,7 +96,7 @@ same_below before after start end le same =
     ∙ slice-take end before start end le (omega arith)
 
 -- the bytes behind it are added to it
-pub read_behind : (before after : List ℕ) (start end count : ℕ) → start ≤ end → take end after ≡ take end before
+read_behind : (before after : List ℕ) (start end count : ℕ) → start ≤ end → take end after ≡ take end before
     → slice_range after start (end + count) ≡ slice_range before start end ++ take count (drop end after)
 read_behind before after start end count le same =
     let e : (end - start) + count ≡ (end + count) - start = omega arith in
@@ -105,6 +106,22 @@ read_behind before after start end count le same =
     (take-add (end - start) count (drop start after)
     ∙ ap (λ (xs : List ℕ). slice_range after start end ++ take count xs) back
     ∙ ap (λ (xs : List ℕ). xs ++ take count (drop end after)) (same_below before after start end le same))
+
+-- The bytes at hand stand in a block: where others are read behind them, with these,
+pub held_grows : (items before moved read held : List ℕ) (start end count : ℕ) → items ≡ read → take end read ≡ take end before
+    → before ≡ moved → start ≤ end → slice_range moved start end ≡ held
+    → slice_range items start (end + count) ≡ held ++ take count (drop end read)
+held_grows items before moved read held start end count whole front same le kept =
+    ap (λ (xs : List ℕ). slice_range xs start (end + count)) whole
+    ∙ read_behind moved read start end count le (front ∙ ap (take end) same)
+    ∙ ap (λ (xs : List ℕ). xs ++ take count (drop end read)) kept
+
+-- and where none are read, alone
+pub held_stays : (items before moved read held : List ℕ) (start end : ℕ) → items ≡ read → take end read ≡ take end before
+    → before ≡ moved → start ≤ end → slice_range moved start end ≡ held → slice_range items start end ≡ held
+held_stays items before moved read held start end whole front same le kept =
+    ap (λ (xs : List ℕ). slice_range xs start end) whole
+    ∙ same_below moved read start end le (front ∙ ap (take end) same) ∙ kept
 
 -- bytes that stand behind those at hand
 pub grown : (old new : Held) (more : List ℕ) → new.offset ≡ old.offset → new.ahead ≡ old.ahead ++ more
@@ -151,6 +168,11 @@ found_none bytes (Some place) none search = absurd (true≢false none)
 pub blank-append : (front back : List ℕ) → is_blank front ≡ true → is_blank back ≡ true → is_blank (front ++ back) ≡ true
 blank-append front back x y = list_all-append _ front back ∙ ap (λ (b : Bool). b && is_blank back) x ∙ y
 
+-- what is at hand is blank, and it is what was at hand first unless that was blank too
+pub was_blank : (first now : List ℕ) (Same : Type 0) → is_blank now ≡ true → (Same × (now ≡ first)) ⊎ (is_blank first ≡ true)
+    → is_blank first ≡ true
+was_blank first now Same blank asked = ⊎_elim (λ same. ap is_blank (sym same.1) ∙ blank) (λ was. was) asked
+
 -- a window of blank bytes stays one, whatever follows
 pub blank_window_more : (seen more : List ℕ) → IsBlankWindow seen → IsBlankWindow (seen ++ more)
 blank_window_more seen more window = (
@@ -173,15 +195,58 @@ not_blank_window seen more visible =
     not_blank_more seen more
     (ap is_blank (sym (take-append-drop 8192 seen)) ∙ not_blank_more (take 8192 seen) (drop 8192 seen) visible)
 
+-- ---- bytes that settle nothing
+
+-- CR and LF
+pub blank_unsettled : (bytes : List ℕ) → is_blank bytes ≡ true → IsUnsettled bytes
+blank_unsettled bytes blank = record {
+  none = blank_no_head bytes blank;
+  short = λ visible. absurd (true≢false (sym blank ∙ visible));
+  begins = (bytes, [], sym (append-nil bytes), All-nil _, inl blank);
+}
+
+-- what a head may begin with
+pub part_unsettled : (bytes : List ℕ) → length bytes < 8192 → HasNoRequest bytes × MayBecomeRequest bytes → IsUnsettled bytes
+part_unsettled bytes short part = record {
+  none = no_head_short bytes part.0 (omega arith);
+  short = λ _. short;
+  begins = (bytes, [], sym (append-nil bytes), All-nil _, inr part.1);
+}
+
+-- more bytes without a line feed
+pub unsettled_without_line_feed : (n : ℕ) (seen : List ℕ) → n ≤ length seen → length seen < 8192
+    → IsUnsettled (take n seen) → IsFirstByte (is_byte 10) (drop n seen) None → IsUnsettled seen
+unsettled_without_line_feed n seen le short before feeds =
+    let begins = before.begins in
+    let front = begins.0 in
+    let behind = begins.1 in
+    let InLine : ℕ → Type 0 = λ b. b ≢ 10 in record {
+      none = no_head_without_line_feed n seen le (omega arith) before.none feeds;
+      short = λ _. short;
+      begins = (
+        front,
+        behind ++ drop n seen,
+        sym (take-append-drop n seen) ∙ ap (λ (xs : List ℕ). xs ++ drop n seen) begins.2 ∙ append_assoc front behind (drop n seen),
+        All-append InLine behind (drop n seen) begins.3
+            (All-from_get_or InLine (drop n seen) 0 (λ i inside feed. feeds i (omega arith) inside (eq-eqb _ _ feed))),
+        begins.4,
+      );
+    }
+
+-- what is at hand settles nothing, and it is what was at hand first unless that settled nothing too
+pub was_unsettled : (first now : List ℕ) (Same : Type 0) → IsUnsettled now → (Same × (now ≡ first)) ⊎ IsUnsettled first
+    → IsUnsettled first
+was_unsettled first now Same unsettled asked = ⊎_elim (λ same. subst IsUnsettled same.1 unsettled) (λ was. was) asked
+
 -- ---- bytes that stay unread
 
--- no head stands in the bytes at hand, and all of them stay
+-- the bytes at hand settle nothing, and all of them stay
 pub unread_ahead : (rest ahead after left between : List ℕ) (offset offset' : ℕ) → rest ≡ ahead ++ between → left ≡ between
-    → HasNoHead ahead → length ahead < 8192 → after ≡ ahead ++ left → offset' ≡ offset
+    → IsUnsettled ahead → after ≡ ahead ++ left → offset' ≡ offset
     → IsUnread rest ahead left × Stays rest offset after offset'
-unread_ahead rest ahead after left between offset offset' splits same none short stays moved =
+unread_ahead rest ahead after left between offset offset' splits same unsettled stays moved =
     let whole : rest ≡ ahead ++ left = splits ∙ ap (λ (xs : List ℕ). ahead ++ xs) (sym same) in (
-      record { taken = whole; none = none; short = λ _. short },
+      (whole, unsettled),
       ([], refl, whole ∙ sym stays, omega (arith, moved)),
     )
 
@@ -191,13 +256,51 @@ pub unread_blank : (rest blank after left between : List ℕ) (offset offset' : 
     → IsUnread rest blank left × Stays rest offset after offset'
 unread_blank rest blank after left between offset offset' splits same skipped stays moved =
     let whole : rest ≡ blank ++ left = splits ∙ ap (λ (xs : List ℕ). blank ++ xs) (sym same) in (
-      record {
-        taken = whole;
-        none = blank_no_head blank skipped;
-        short = λ visible. absurd (true≢false (sym skipped ∙ visible));
-      },
+      (whole, blank_unsettled blank skipped),
       (blank, skipped, whole ∙ ap (λ (xs : List ℕ). blank ++ xs) (sym stays), moved),
     )
+
+-- ---- what was needed
+
+-- bytes that settle nothing were
+pub needed_unread : (rest seen left between : List ℕ) → rest ≡ seen ++ between → left ≡ between → IsUnsettled seen → IsNeeded rest left
+needed_unread rest seen left between splits same unsettled =
+    (seen, [], (splits ∙ ap (λ (xs : List ℕ). seen ++ xs) (sym same), unsettled), omega arith)
+
+-- and so were those at hand, of which the first n settle nothing
+pub needed_ahead : (rest ahead left : List ℕ) (n : ℕ) → rest ≡ ahead ++ left → IsUnsettled (take n ahead)
+    → length ahead ≤ 65_536 → IsNeeded rest left
+needed_ahead rest ahead left n splits unsettled block = (
+  take n ahead,
+  drop n ahead,
+  (
+    splits ∙ ap (λ (xs : List ℕ). xs ++ left) (sym (take-append-drop n ahead)) ∙ append_assoc (take n ahead) (drop n ahead) left,
+    unsettled,
+  ),
+  omega (arith, length-drop n ahead),
+)
+
+-- the end of a source that tells was found where nothing is left behind bytes that settle nothing
+pub ended_behind : (ahead seen : List ℕ) (left after : Option (List ℕ)) (before now : ℕ) → IsUnsettled seen
+    → Told left after (λ b a. ahead ++ b ≡ seen) → IfSome left (λ b. (now ≡ before) ⊎ IsUnsettled (ahead ++ b))
+ended_behind ahead seen None after before now unsettled told = tt
+ended_behind ahead seen (Some b) None before now unsettled told = absurd told
+ended_behind ahead seen (Some b) (Some a) before now unsettled told = inr (subst IsUnsettled (sym told) unsettled)
+
+-- and else it was not found
+pub ended_never : (ahead : List ℕ) (left : Option (List ℕ)) (before now : ℕ) → now ≡ before
+    → IfSome left (λ b. (now ≡ before) ⊎ IsUnsettled (ahead ++ b))
+ended_never ahead None before now same = tt
+ended_never ahead (Some b) before now same = inl same
+
+-- nor before what came of the rest
+pub ended_joins : (ahead at_hand : List ℕ) (left between : Option (List ℕ)) (before first now : ℕ) → first ≡ before
+    → Told left between (λ b m. ahead ++ b ≡ at_hand ++ m)
+    → IfSome between (λ m. (now ≡ first) ⊎ IsUnsettled (at_hand ++ m)) → IfSome left (λ b. (now ≡ before) ⊎ IsUnsettled (ahead ++ b))
+ended_joins ahead at_hand None between before first now same told ended = tt
+ended_joins ahead at_hand (Some b) None before first now same told ended = absurd told
+ended_joins ahead at_hand (Some b) (Some m) before first now same told ended =
+    ⊎_elim (λ e. inl (e ∙ same)) (λ unsettled. inr (subst IsUnsettled (sym told) unsettled)) ended
 
 -- ---- the limit
 

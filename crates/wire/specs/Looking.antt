@@ -1,11 +1,12 @@
 -- What a look at the bytes at hand tells, and what asking the source for more does to them.
-use Rattle.std.specs.Prelude.{◌≡◌, ℕ, ◌^◌, ◌<◌, ◌≤◌, true, List, [], ◌++◌, length, take, drop, Option, IfSome, IsSomeAnd, ⊤}
+use Rattle.std.specs.Prelude.{◌≡◌, ℕ, ◌<◌, ◌≤◌, true, List, [], ◌++◌, length, take, drop, Option, IfSome, IsSomeAnd, ⊤}
 use Rattle.httparse.specs.Grammar.{RequestHead, print_request}
 use Rattle.httparse.specs.Spans.{span_bytes, IsWithin}
 use Rattle.devices.specs.Faults.{Rose}
 use Rattle.wire.specs.Framing.{verb_of}
-use Rattle.wire.specs.Messages.{is_blank, IsRequest, IsMalformed, HasNoHead}
-use Rattle.wire.specs.Incoming.{Held, taken}
+use Rattle.wire.specs.Messages.{is_blank, IsRequest, IsMalformed}
+use Rattle.wire.specs.Incoming.{Held, taken, IsUnsettled}
+use Rattle.wire.specs.declared.limits.TheConstants.{HEAD_BYTES, STREAM_BYTES}
 use Rattle.wire.specs.declared.framing.Head.{Head}
 use Rattle.wire.specs.declared.incoming.Front.{Front}
 use Rattle.wire.specs.declared.incoming.Front.TheVariants as fronts
@@ -22,17 +23,17 @@ pub record IsRequestAt (ahead : List ℕ) (found : Head) (head : RequestHead) : 
   pub verb : found.verb ≡ verb_of head.method
   pub request : (more : List ℕ) → IsRequest (ahead ++ more) head (drop found.len ahead ++ more)
 
--- only CR and LF stand in the first 8,192 bytes, and there are so many
+-- as many bytes as a head may have are there, and they are CR and LF
 abbrev pub IsBlankWindow : List ℕ → Type 0
-IsBlankWindow ahead = (8192 ≤ length ahead) × (is_blank (take 8192 ahead) ≡ true)
+IsBlankWindow ahead = (HEAD_BYTES ≤ length ahead) × (is_blank (take HEAD_BYTES ahead) ≡ true)
 
--- a well framed request; none, whatever follows; a window of CR and LF; or no head in fewer bytes than a
--- head may have
+-- a well framed request; none, whatever follows; a window of CR and LF; or fewer bytes than a head may have,
+-- which settle nothing
 abbrev pub Looks : List ℕ → Front → Type 0
 Looks ahead (fronts.Request found) = (head : RequestHead) × IsRequestAt ahead found head
 Looks ahead fronts.Malformed = (more : List ℕ) → IsMalformed (ahead ++ more)
 Looks ahead fronts.Blank = IsBlankWindow ahead
-Looks ahead fronts.Unfinished = (length ahead < 8192) × HasNoHead ahead
+Looks ahead fronts.Unfinished = (length ahead < HEAD_BYTES) × IsUnsettled ahead
 
 -- more bytes stand behind those at hand
 pub record HasGrown (old new : Held) : Type 0 where
@@ -44,7 +45,7 @@ pub record HasGrown (old new : Held) : Type 0 where
 abbrev pub IsFilled : Held → Filled → Held → Type 0
 IsFilled old fills.More new = HasGrown old new
 IsFilled old fills.End new = new ≡ old
-IsFilled old fills.Long new = (new ≡ old) × (taken old ≡ 2 ^ 36)
+IsFilled old fills.Long new = (new ≡ old) × (taken old ≡ STREAM_BYTES)
 IsFilled old fills.Failed new = new ≡ old
 
 -- the rest of the stream stays the same; at its end the source has nothing
@@ -64,3 +65,10 @@ HasFault before now fills.More = ⊤
 HasFault before now fills.End = ⊤
 HasFault before now fills.Long = ⊤
 HasFault before now fills.Failed = Rose before now
+
+-- the source was found at its end only where that is told
+abbrev pub KeepsEnds : ℕ → ℕ → Filled → Type 0
+KeepsEnds before now fills.More = now ≡ before
+KeepsEnds before now fills.End = ⊤
+KeepsEnds before now fills.Long = now ≡ before
+KeepsEnds before now fills.Failed = now ≡ before

@@ -2,12 +2,13 @@
 use Rattle.std.specs.Prelude.{◌≡◌, ℕ, ◌≤◌, Bool, true, false, ◌||◌, ◌==◌, List, [], ◌∷◌, ◌++◌, length, take}
 use Rattle.std.specs.List.{list_all}
 use Rattle.httparse.specs.Grammar.{RequestHead, ReadsRequest, print_request}
+use Rattle.wire.specs.declared.limits.TheConstants.{HEAD_BYTES, HEAD_FIELDS}
 use Rattle.wire.specs.declared.messages.Verb.{Verb}
 use Rattle.wire.specs.Framing.{verb_of, is_framed}
 
--- the first 8,192 bytes of the rest begin with this head, which has at most 64 fields
+-- as many bytes of the rest as a head may have begin with this head, which has no more fields than it may have
 abbrev pub HasHead : List ℕ → RequestHead → Type 0
-HasHead rest head = (behind : List ℕ) × ReadsRequest (take 8192 rest) head behind × (length head.fields ≤ 64)
+HasHead rest head = (behind : List ℕ) × ReadsRequest (take HEAD_BYTES rest) head behind × (length head.fields ≤ HEAD_FIELDS)
 
 -- only CR and LF
 abbrev pub is_blank : List ℕ → Bool
@@ -29,8 +30,8 @@ pub record IsRequest (rest : List ℕ) (head : RequestHead) (after : List ℕ) :
   pub framed : is_framed head ≡ true
   pub splits : rest ≡ print_request head ++ after
 
--- the rest is neither blank nor a well framed request: no head stands in its first 8,192 bytes, or the one
--- that does is ill framed
+-- the rest is neither blank nor a well framed request: no head stands at its front, or the one that does
+-- is ill framed
 pub record IsMalformed (rest : List ℕ) : Type 0 where
   pub visible : is_blank rest ≡ false
   pub ill_framed : (head : RequestHead) → HasHead rest head → is_framed head ≡ false

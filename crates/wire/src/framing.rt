@@ -7,12 +7,10 @@ ghost use Rattle.httparse.specs.Spans.{IsHeaderWithin, header_bytes};
 ghost use Rattle.wire.specs.Framing.{verb_of, is_named, values_of, stated_length, is_allowed, are_framing};
 ghost use Rattle.wire.specs.Found.{IsFound};
 
+use crate::limits::HEAD_FIELDS;
 use crate::messages::Verb;
 use httparse::Status;
 use httparse::spans::{EMPTY_HEADER_SPAN, HeaderSpan, Span, parse_request};
-
-/// How many fields a head may have.
-pub(crate) const ROOM: usize = 64;
 
 /// The length that a head states for its body.
 #[derive(Clone, Copy, Debug, PartialEq, Eq)]
@@ -51,7 +49,7 @@ pub(crate) enum Found {
 pub(crate) fn find_head(window: &[u8]) -> Found
     ensures { IsFound window.now result }
 {
-    let mut headers = [EMPTY_HEADER_SPAN; ROOM];
+    let mut headers = [EMPTY_HEADER_SPAN; HEAD_FIELDS];
     match parse_request(window, &mut headers) {
         Ok(Status::Complete(spans)) => {
             let verb = verb_named(spans.method.of(window));

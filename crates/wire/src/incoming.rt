@@ -1,30 +1,21 @@
 //! A reader that cuts a stream of bytes into messages.
 
-ghost use Rattle.std.specs.Prelude.{◌≡◌, ◌≢◌, ℕ, ◌+◌, ◌-◌, ◌^◌, ◌<◌, ◌≤◌, List, [], ◌++◌, length, take, drop, slice_range, IfOk, if◌then◌else◌, true, false, Option};
+ghost use Rattle.std.specs.Prelude.{◌≡◌, ◌≢◌, ◌⊎◌, ℕ, ◌+◌, ◌-◌, ◌<◌, ◌≤◌, List, [], ◌++◌, length, take, drop, slice_range, IfOk, if◌then◌else◌, true, false, Option};
 ghost use Rattle.wire.specs.Messages as messages;
 ghost use Rattle.httparse.specs.Grammar.{RequestHead};
 ghost use Rattle.devices.specs.Sources as sources;
-ghost use Rattle.devices.specs.Sources.{IsTakenWithin, Takes};
-ghost use Rattle.wire.specs.Messages.{HasNoHead};
-ghost use Rattle.wire.specs.Incoming.{Held, taken, IsNext, Answers, IsWithinLimit, Proceeds, HasCause};
-ghost use Rattle.wire.specs.Looking.{IsRequestAt, IsBlankWindow, Looks, IsFilled, Keeps, HasFault};
+ghost use Rattle.devices.specs.Sources.{IsTakenWithin, Takes, IsEndCounted};
+ghost use Rattle.wire.specs.Incoming.{Held, taken, IsNext, Answers, IsUnsettled, IsTakenAsNeeded, IsEndedAsNeeded, IsWithinLimit, Proceeds, HasCause};
+ghost use Rattle.wire.specs.Looking.{IsRequestAt, IsBlankWindow, Looks, IsFilled, Keeps, KeepsEnds, HasFault};
 
 use crate::framing::{Found, Head, find_head};
+use crate::limits::{BLOCK_BYTES, HEAD_BYTES, STREAM_BYTES};
 use crate::messages::Message;
 use devices::{Source, Took};
 use fixed_units::{NoMemory, Text};
 use memchr::memchr;
 use std::alloc::Global;
 use std::marker::Model;
-
-/// How many bytes are asked of the source at a time, at most.
-const BLOCK: usize = 65_536;
-
-/// How many bytes a head may have, with the empty lines before it.
-const WINDOW: usize = 8_192;
-
-/// How many bytes are taken of a stream, at most.
-const LONGEST: u64 = 68_719_476_736;
 
 /// A reader of messages. It holds what was taken from the source and not given yet. Contracts see those
 /// bytes and the offset at which they begin.
@@ -54,7 +45,7 @@ impl Incoming {
         ensures { IfOk result (λ incoming. incoming ≡ record { ahead = []; offset = 0 }) }
     {
         Ok(Incoming {
-            block: vec![in alloc; 0; BLOCK]?,
+            block: vec![in alloc; 0; BLOCK_BYTES]?,
             start: 0,
             end: 0,
             offset: 0,
@@ -64,14 +55,18 @@ impl Incoming {
     /// The next message of the stream, whose rest is what the reader holds and what the source has left.
     ///
     /// Bytes that are read ahead are kept for the next call. The source is asked only where the bytes at
-    /// hand hold no whole message.
+    /// hand hold no whole message and none of their lines is at fault.
     pub fn next<S: Source>(&mut self, alloc: Global, source: &mut S) -> Message
         ensures answer { Answers self.old (S.left source.old) result self.new (S.left source.new) }
         ensures proceeds { Proceeds self.old result self.new }
-        ensures limit { taken self.new ≤ 2 ^ 36 }
+        ensures block { length self.new.ahead ≤ BLOCK_BYTES }
+        ensures limit { taken self.new ≤ STREAM_BYTES }
         ensures within { IsWithinLimit self.old (S.left source.old) (S.left source.new) }
         ensures counted { S.faults source.old ≤ S.faults source.new }
         ensures cause { HasCause (S.faults source.old) (S.faults source.new) result }
+        ensures asked { (source.new ≡ source.old) ⊎ IsUnsettled self.old.ahead }
+        ensures needed { IsTakenAsNeeded self.old (S.left source.old) (S.left source.new) }
+        ensures ended { IsEndedAsNeeded self.old (S.left source.old) (S.ends source.old) (S.ends source.new) }
     {
         let mut looked = 0;
         loop {
@@ -94,7 +89,8 @@ impl Incoming {
     /// The bytes that were taken and not given yet.
     fn held(&self) -> &[u8]
         ensures held { result.now ≡ self.now.ahead }
-        ensures limit { taken self.now ≤ 2 ^ 36 }
+        ensures block { length self.now.ahead ≤ BLOCK_BYTES }
+        ensures limit { taken self.now ≤ STREAM_BYTES }
     {
         &self.block[self.start..self.end]
     }
@@ -104,7 +100,8 @@ impl Incoming {
         requires { (found : RequestHead) × IsRequestAt self.old.ahead head found }
         ensures answer { (left : List ℕ) → IsNext (self.old.ahead ++ left) self.old.offset result (self.new.ahead ++ left) left self.new.offset }
         ensures proceeds { Proceeds self.old result self.new }
-        ensures limit { taken self.new ≤ 2 ^ 36 }
+        ensures block { length self.new.ahead ≤ BLOCK_BYTES }
+        ensures limit { taken self.new ≤ STREAM_BYTES }
         ensures cause { (before now : ℕ) → HasCause before now result }
     {
         let target = Vec::from_slice(alloc, head.target.of(self.held()));
@@ -122,7 +119,7 @@ impl Incoming {
 
     /// The last message of a stream that is at its end.
     fn last(&self) -> Message
-        requires { HasNoHead self.now.ahead }
+        requires { IsUnsettled self.now.ahead }
         ensures answer { IsNext self.now.ahead self.now.offset result self.now.ahead [] self.now.offset }
         ensures proceeds { Proceeds self.now result self.now }
         ensures cause { (before now : ℕ) → HasCause before now result }
@@ -140,10 +137,14 @@ impl Incoming {
         requires { IsBlankWindow self.old.ahead }
         ensures answer { Answers self.old (S.left source.old) result self.new (S.left source.new) }
         ensures proceeds { Proceeds self.old result self.new }
-        ensures limit { taken self.new ≤ 2 ^ 36 }
+        ensures block { length self.new.ahead ≤ BLOCK_BYTES }
+        ensures limit { taken self.new ≤ STREAM_BYTES }
         ensures within { IsWithinLimit self.old (S.left source.old) (S.left source.new) }
         ensures counted { S.faults source.old ≤ S.faults source.new }
         ensures cause { HasCause (S.faults source.old) (S.faults source.new) result }
+        ensures asked { (source.new ≡ source.old) ⊎ (messages.is_blank self.old.ahead ≡ true) }
+        ensures needed { IsTakenAsNeeded self.old (S.left source.old) (S.left source.new) }
+        ensures ended { IsEndedAsNeeded self.old (S.left source.old) (S.ends source.old) (S.ends source.new) }
     {
         let begun = self.offset;
         while is_blank(self.held()) {
@@ -169,21 +170,23 @@ impl Incoming {
 
     /// Asks the source for more bytes, as many as there is room for.
     fn fill<S: Source>(&mut self, source: &mut S) -> Filled
-        requires { length self.old.ahead < 8192 }
+        requires { length self.old.ahead < HEAD_BYTES }
         ensures filled { IsFilled self.old result self.new }
         ensures kept { Keeps self.old (S.left source.old) result self.new (S.left source.new) }
-        ensures limit { taken self.new ≤ 2 ^ 36 }
+        ensures block { length self.new.ahead ≤ BLOCK_BYTES }
+        ensures limit { taken self.new ≤ STREAM_BYTES }
         ensures counted { S.faults source.old ≤ S.faults source.new }
         ensures cause { HasFault (S.faults source.old) (S.faults source.new) result }
+        ensures ended { KeepsEnds (S.ends source.old) (S.ends source.new) result }
     {
         let held = self.end - self.start;
-        let left = LONGEST - self.offset - held as u64;
+        let left = STREAM_BYTES - self.offset - held as u64;
         if left == 0 {
             return Filled::Long;
         }
         self.start = make_room(&mut self.block, self.start, self.end);
         self.end = self.start + held;
-        let room = (BLOCK - self.end).min(left as usize);
+        let room = (BLOCK_BYTES - self.end).min(left as usize);
         match take_behind(&mut self.block, self.end, room, source) {
             Took::Bytes(count) => {
                 self.end += count;
@@ -198,14 +201,14 @@ impl Incoming {
 /// Moves the bytes that are held to the block's front where little room is behind them, and tells where they
 /// begin then.
 fn make_room(block: &mut [u8], start: usize, end: usize) -> usize
-    requires full { length block.old ≡ 65_536 }
+    requires full { length block.old ≡ BLOCK_BYTES }
     requires ordered { start ≤ end }
-    requires within { end ≤ 65_536 }
-    requires short { end - start < 8192 }
-    ensures room { result + (end - start) + 8192 ≤ 65_536 }
+    requires within { end ≤ BLOCK_BYTES }
+    requires short { end - start < HEAD_BYTES }
+    ensures room { result + (end - start) + HEAD_BYTES ≤ BLOCK_BYTES }
     ensures held { slice_range block.new result (result + (end - start)) ≡ slice_range block.old start end }
 {
-    if start < end && BLOCK - end >= WINDOW {
+    if start < end && BLOCK_BYTES - end >= HEAD_BYTES {
         return start;
     }
     block.copy_within(start..end, 0);
@@ -221,17 +224,18 @@ fn take_behind<S: Source>(block: &mut [u8], end: usize, room: usize, source: &mu
     ensures taken { Takes (S.left source.old) (drop end block.new) (S.left source.new) result }
     ensures counted { S.faults source.old ≤ S.faults source.new }
     ensures cause { sources.HasCause (S.faults source.old) (S.faults source.new) result }
+    ensures ended { IsEndCounted (S.ends source.old) (S.ends source.new) result }
 {
     source.take(&mut block[end..end + room])
 }
 
-/// What stands at the front of the bytes at hand, of which the first `looked` hold no whole head.
+/// What stands at the front of the bytes at hand, of which the first `looked` settle nothing.
 fn look(held: &[u8], looked: usize) -> Front
     requires looked { looked ≤ length held.now }
-    requires none { HasNoHead (take looked held.now) }
+    requires unsettled { IsUnsettled (take looked held.now) }
     ensures { Looks held.now result }
 {
-    if held.len() < WINDOW {
+    if held.len() < HEAD_BYTES {
         look_at_part(held, looked)
     } else {
         look_at_window(held)
@@ -240,9 +244,9 @@ fn look(held: &[u8], looked: usize) -> Front
 
 /// The same of fewer bytes than a head may have. They are parsed anew only where a line feed has come.
 fn look_at_part(held: &[u8], looked: usize) -> Front
-    requires short { length held.now < 8192 }
+    requires short { length held.now < HEAD_BYTES }
     requires looked { looked ≤ length held.now }
-    requires none { HasNoHead (take looked held.now) }
+    requires unsettled { IsUnsettled (take looked held.now) }
     ensures { Looks held.now result }
 {
     if memchr(b'\n', &held[looked..]).is_none() || is_blank(held) {
@@ -257,10 +261,10 @@ fn look_at_part(held: &[u8], looked: usize) -> Front
 
 /// The same of as many bytes as a head may have, or more.
 fn look_at_window(held: &[u8]) -> Front
-    requires { 8192 ≤ length held.now }
+    requires { HEAD_BYTES ≤ length held.now }
     ensures { Looks held.now result }
 {
-    let window = &held[..WINDOW];
+    let window = &held[..HEAD_BYTES];
     if is_blank(window) {
         return Front::Blank;
     }

@@ -3,6 +3,7 @@
 
 pub mod framing;
 pub mod incoming;
+pub mod limits;
 pub mod messages;
 pub mod replies;
 

@@ -4,8 +4,8 @@ use Rattle.std.proofs.lemmas.List.{take_all}
 use Rattle.httparse.specs.Spans.{RequestOverflows}
 use Rattle.wire.specs.Found.{IsHeadAt}
 use Rattle.wire.specs.Looking.{Looks}
-use Rattle.wire.proofs.HeadLemmas.{no_head_without_line_feed, no_head_short, never_head, blank_no_head, malformed_no_head, not_blank_more}
-use Rattle.wire.proofs.IncomingLemmas.{front_of_head, found_none}
+use Rattle.wire.proofs.HeadLemmas.{never_head, malformed_no_head, not_blank_more}
+use Rattle.wire.proofs.IncomingLemmas.{front_of_head, found_none, blank_unsettled, part_unsettled, unsettled_without_line_feed}
 use Rattle.wire.proofs.incoming.look_at_part.Goals as goal
 use Rattle.wire.proofs.incoming.look_at_part.Goals.{then-is_none-via-then-is_none, then-is_none-via-else-is_none+then-is_blank}
 
@@ -13,15 +13,14 @@ pub returns-then-is_none : goal.returns-then-is_none
 returns-then-is_none c =
     let held = c.args.held.now in
     let looked = c.args.looked in
-    let small : length held ≤ 8192 = omega arith in
     let behind : take (length held - looked) (drop looked held) ≡ drop looked held =
     take_all (length held - looked) (drop looked held) (omega (arith, length-drop looked held)) in (
       c.requires.short,
       elim c.then-is_none.branch [
         | then-is_none-via-then-is_none w ↦
-            no_head_without_line_feed looked held c.requires.looked small c.requires.none
+            unsettled_without_line_feed looked held c.requires.looked c.requires.short c.requires.unsettled
             (subst (λ xs. IsFirstByte (is_byte 10) xs None) behind (found_none _ c.memchr.result w.if-is_none.ensures c.memchr.ensures))
-        | then-is_none-via-else-is_none+then-is_blank w ↦ blank_no_head held (sym w.if-is_blank.ensures)
+        | then-is_none-via-else-is_none+then-is_blank w ↦ blank_unsettled held (sym w.if-is_blank.ensures)
       ],
     )
 
@@ -35,9 +34,7 @@ returns-in-Whole c =
     subst (Looks held) (sym c.front_of.ensures) (front_of_head held head found at head.framed refl)
 
 pub returns-in-NotYet : goal.returns-in-NotYet
-returns-in-NotYet c =
-    let small : length c.args.held.now ≤ 8192 = omega arith in
-    (c.requires.short, no_head_short c.args.held.now c.in-NotYet.ensures small)
+returns-in-NotYet c = (c.requires.short, part_unsettled c.args.held.now c.requires.short c.in-NotYet.ensures)
 
 pub returns-in-Never : goal.returns-in-Never
 returns-in-Never c = λ more.

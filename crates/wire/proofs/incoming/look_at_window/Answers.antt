@@ -15,7 +15,7 @@ pub returns-in-NotYet : goal.returns-in-NotYet
 returns-in-NotYet c = λ more.
     let held = c.args.held.now in
     malformed_no_head (held ++ more) (not_blank_window held more (sym c.if-is_blank.ensures))
-    (no_head_full held more c.in-NotYet.ensures c.requires)
+    (no_head_full held more c.in-NotYet.ensures.0 c.requires)
 
 pub returns-in-Never : goal.returns-in-Never
 returns-in-Never c = λ more.

@@ -7,6 +7,6 @@ use Rattle.wire.proofs.incoming.Incoming.last.Goals as goal
 pub returns-else-is_blank-clause-answer : goal.returns-else-is_blank-clause-answer
 returns-else-is_blank-clause-answer c = (
   malformed_no_head c.args.self.now.ahead
-      (ap is_blank (sym c.held.ensures.held) ∙ sym c.if-is_blank.ensures) c.requires,
+      (ap is_blank (sym c.held.ensures.held) ∙ sym c.if-is_blank.ensures) c.requires.none,
   ap (λ (h : Held). h.offset) c.self.view_is,
 )

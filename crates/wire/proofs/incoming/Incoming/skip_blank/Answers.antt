@@ -1,8 +1,8 @@
-use Rattle.std.proofs.Common.{◌≡◌, ℕ, ◌+◌, ◌-◌, ◌^◌, ◌≤◌, true, false, List, [], ◌++◌, length, drop, refl, sym, ap, ◌∙◌, subst, arith, append_assoc, length-append}
+use Rattle.std.proofs.Common.{◌≡◌, ℕ, ◌+◌, ◌-◌, ◌^◌, ◌≤◌, true, false, List, [], ◌++◌, length, drop, refl, sym, ap, ◌∙◌, subst, arith, append_assoc, append-nil, length-append, inl, inr, ⊎_elim}
 use Rattle.std.proofs.lemmas.List.{length-take}
-use Rattle.wire.specs.Incoming.{Held, taken, IsUnread, Stays}
+use Rattle.wire.specs.Incoming.{Held, taken, IsUnread, IsNeeded, Stays}
 use Rattle.wire.specs.Messages.{is_blank, IsMalformed}
-use Rattle.wire.proofs.IncomingLemmas.{told_self, told_maps, told_joins, blank-append, blank_window_more, malformed_behind, unread_blank, within_skipped}
+use Rattle.wire.proofs.IncomingLemmas.{told_self, told_maps, told_joins, blank-append, blank_window_more, blank_unsettled, ended_behind, ended_never, malformed_behind, needed_unread, unread_blank, was_blank, within_skipped}
 use Rattle.wire.proofs.incoming.Incoming.skip_blank.Goals as goal
 
 pub loop-self-init : goal.loop-self-init
@@ -23,6 +23,8 @@ loop-self-init g c =
       begun = ap (λ (h : Held). h.offset) c.self.view_is;
       limit = omega (arith, c.self.invariant.limit, ap (λ (h : Held). length h.ahead) c.self.view_is, ap (λ (h : Held). h.offset) c.self.view_is, length-take (end - start) (drop start c.self.inside.block.items));
       counted = omega arith;
+      ended = refl;
+      asked = inl (refl, refl);
     }
 
 pub loop-self-preserved : goal.loop-self-preserved
@@ -55,6 +57,8 @@ loop-self-preserved g c =
       begun = c.loop-self.invariant.begun;
       limit = c.fill.ensures.limit;
       counted = omega (arith, c.loop-self.invariant.counted, c.fill.ensures.counted);
+      ended = c.in-More.ensures.ended ∙ c.loop-self.invariant.ended;
+      asked = inr (was_blank old.ahead now.ahead _ blank c.loop-self.invariant.asked);
     }
 
 pub returns-in-Long-clause-answer : goal.returns-in-Long-clause-answer
@@ -180,3 +184,97 @@ returns-clause-within g c =
     (λ b a p. within_skipped old.offset now.offset (old.ahead ++ b) so_far.0 now.ahead a p so_far.1
     c.loop-self.invariant.forward c.loop-self.invariant.limit)
     so_far.4
+
+pub returns-in-End-clause-asked : goal.returns-in-End-clause-asked
+returns-in-End-clause-asked g c =
+    let now = c.loop-self.self in
+    let blank : is_blank now.ahead ≡ true = ap is_blank (sym c.held.ensures.held) ∙ sym c.loop-self-test.ensures in
+    inr (was_blank c.args.self.now.ahead now.ahead _ blank c.loop-self.invariant.asked)
+
+pub returns-in-End-clause-needed : goal.returns-in-End-clause-needed
+returns-in-End-clause-needed g c =
+    let old = c.args.self.now in
+    let now = c.loop-self.self in
+    let so_far = c.loop-self.invariant.skipped in
+    let blank : is_blank now.ahead ≡ true = ap is_blank (sym c.held.ensures.held) ∙ sym c.loop-self-test.ensures in
+    told_joins (g.S.Source.left c.args.source.now) (g.S.Source.left c.loop-self.source) (g.S.Source.left c.fill.new.source)
+    (λ b m. old.ahead ++ b ≡ so_far.0 ++ (now.ahead ++ m)) (λ m a. (m ≡ []) × (a ≡ [])) (λ b a. IsNeeded (old.ahead ++ b) a)
+    (λ b m a p q. needed_unread (old.ahead ++ b) (so_far.0 ++ now.ahead) a m (p ∙ sym (append_assoc so_far.0 now.ahead m)) (q.1 ∙ sym q.0)
+    (blank_unsettled (so_far.0 ++ now.ahead) (blank-append so_far.0 now.ahead so_far.2 blank)))
+    so_far.4 c.in-End.ensures.kept
+
+pub returns-in-Long-clause-asked : goal.returns-in-Long-clause-asked
+returns-in-Long-clause-asked g c =
+    let now = c.loop-self.self in
+    let blank : is_blank now.ahead ≡ true = ap is_blank (sym c.held.ensures.held) ∙ sym c.loop-self-test.ensures in
+    inr (was_blank c.args.self.now.ahead now.ahead _ blank c.loop-self.invariant.asked)
+
+pub returns-in-Long-clause-needed : goal.returns-in-Long-clause-needed
+returns-in-Long-clause-needed g c =
+    let old = c.args.self.now in
+    let now = c.loop-self.self in
+    let so_far = c.loop-self.invariant.skipped in
+    let blank : is_blank now.ahead ≡ true = ap is_blank (sym c.held.ensures.held) ∙ sym c.loop-self-test.ensures in
+    told_joins (g.S.Source.left c.args.source.now) (g.S.Source.left c.loop-self.source) (g.S.Source.left c.fill.new.source)
+    (λ b m. old.ahead ++ b ≡ so_far.0 ++ (now.ahead ++ m)) (λ m a. a ≡ m) (λ b a. IsNeeded (old.ahead ++ b) a)
+    (λ b m a p q. needed_unread (old.ahead ++ b) (so_far.0 ++ now.ahead) a m (p ∙ sym (append_assoc so_far.0 now.ahead m)) q
+    (blank_unsettled (so_far.0 ++ now.ahead) (blank-append so_far.0 now.ahead so_far.2 blank)))
+    so_far.4 c.in-Long.ensures.kept
+
+pub returns-in-Failed-clause-asked : goal.returns-in-Failed-clause-asked
+returns-in-Failed-clause-asked g c =
+    let now = c.loop-self.self in
+    let blank : is_blank now.ahead ≡ true = ap is_blank (sym c.held.ensures.held) ∙ sym c.loop-self-test.ensures in
+    inr (was_blank c.args.self.now.ahead now.ahead _ blank c.loop-self.invariant.asked)
+
+pub returns-in-Failed-clause-needed : goal.returns-in-Failed-clause-needed
+returns-in-Failed-clause-needed g c =
+    let old = c.args.self.now in
+    let now = c.loop-self.self in
+    let so_far = c.loop-self.invariant.skipped in
+    let blank : is_blank now.ahead ≡ true = ap is_blank (sym c.held.ensures.held) ∙ sym c.loop-self-test.ensures in
+    told_joins (g.S.Source.left c.args.source.now) (g.S.Source.left c.loop-self.source) (g.S.Source.left c.fill.new.source)
+    (λ b m. old.ahead ++ b ≡ so_far.0 ++ (now.ahead ++ m)) (λ m a. a ≡ m) (λ b a. IsNeeded (old.ahead ++ b) a)
+    (λ b m a p q. needed_unread (old.ahead ++ b) (so_far.0 ++ now.ahead) a m (p ∙ sym (append_assoc so_far.0 now.ahead m)) q
+    (blank_unsettled (so_far.0 ++ now.ahead) (blank-append so_far.0 now.ahead so_far.2 blank)))
+    so_far.4 c.in-Failed.ensures.kept
+
+pub returns-clause-asked : goal.returns-clause-asked
+returns-clause-asked g c =
+    ⊎_elim (λ same. inl same.0) (λ blank. inr blank) c.loop-self.invariant.asked
+
+pub returns-clause-needed : goal.returns-clause-needed
+returns-clause-needed g c =
+    let old = c.args.self.now in
+    let now = c.loop-self.self in
+    let so_far = c.loop-self.invariant.skipped in
+    told_maps (g.S.Source.left c.args.source.now) (g.S.Source.left c.loop-self.source)
+    (λ b a. old.ahead ++ b ≡ so_far.0 ++ (now.ahead ++ a)) (λ b a. IsNeeded (old.ahead ++ b) a)
+    (λ b a p. (so_far.0, now.ahead, (p, blank_unsettled so_far.0 so_far.2), c.held.ensures.block))
+    so_far.4
+
+pub returns-in-End-clause-ended : goal.returns-in-End-clause-ended
+returns-in-End-clause-ended g c =
+    let old = c.args.self.now in
+    let now = c.loop-self.self in
+    let so_far = c.loop-self.invariant.skipped in
+    let blank : is_blank now.ahead ≡ true = ap is_blank (sym c.held.ensures.held) ∙ sym c.loop-self-test.ensures in
+    let seen : List ℕ = so_far.0 ++ now.ahead in
+    let left = g.S.Source.left in
+    ended_behind old.ahead seen (left c.args.source.now) (left c.fill.new.source) _ _
+    (blank_unsettled seen (blank-append so_far.0 now.ahead so_far.2 blank))
+    (told_joins (left c.args.source.now) (left c.loop-self.source) (left c.fill.new.source)
+    (λ b m. old.ahead ++ b ≡ so_far.0 ++ (now.ahead ++ m)) (λ m a. (m ≡ []) × (a ≡ [])) (λ b a. old.ahead ++ b ≡ seen)
+    (λ b m a p q. p ∙ ap (λ (xs : List ℕ). so_far.0 ++ (now.ahead ++ xs)) q.0 ∙ ap (λ (xs : List ℕ). so_far.0 ++ xs) (append-nil now.ahead))
+    so_far.4 c.in-End.ensures.kept)
+
+pub returns-in-Long-clause-ended : goal.returns-in-Long-clause-ended
+returns-in-Long-clause-ended g c =
+    ended_never c.args.self.now.ahead (g.S.Source.left c.args.source.now) _ _ (c.in-Long.ensures.ended ∙ c.loop-self.invariant.ended)
+
+pub returns-in-Failed-clause-ended : goal.returns-in-Failed-clause-ended
+returns-in-Failed-clause-ended g c =
+    ended_never c.args.self.now.ahead (g.S.Source.left c.args.source.now) _ _ (c.in-Failed.ensures.ended ∙ c.loop-self.invariant.ended)
+
+pub returns-clause-ended : goal.returns-clause-ended
+returns-clause-ended g c = ended_never c.args.self.now.ahead (g.S.Source.left c.args.source.now) _ _ c.loop-self.invariant.ended

@@ -1,4 +1,4 @@
-use Rattle.std.proofs.Common.{◌≡◌, ℕ, ◌+◌, ◌-◌, ◌^◌, ◌≤◌, ◌<◌, true, List, ◌++◌, length}
+use Rattle.std.proofs.Common.{◌≡◌, ◌⊎◌, ℕ, ◌+◌, ◌-◌, ◌^◌, ◌≤◌, ◌<◌, true, List, ◌++◌, length}
 use Rattle.wire.specs.Messages.{is_blank}
 use Rattle.wire.specs.Looking.{IsBlankWindow}
 use Rattle.wire.proofs.IncomingLemmas.{Told}
@@ -16,6 +16,8 @@ invariant-loop-self g l = record {
   begun : l.begun ≡ l.fn.self.offset;
   limit : l.self.offset + length l.self.ahead ≤ 2 ^ 36;
   counted : g.S.Source.faults l.fn.source ≤ g.S.Source.faults l.source;
+  ended : g.S.Source.ends l.source ≡ g.S.Source.ends l.fn.source;
+  asked : ((l.source ≡ l.fn.source) × (l.self.ahead ≡ l.fn.self.ahead)) ⊎ (is_blank l.fn.self.ahead ≡ true);
 }
 
 abbrev pub decreases-loop-self : goal.decreases-loop-self

@@ -1,6 +1,6 @@
 //! Adapters: a file as a disk, and the system's files as a cabinet. They tell nothing of content, since no clause can
 //! say what a file has.
-ghost use Rattle.std.specs.Prelude.{◌≡◌, ◌≤◌, [], None};
+ghost use Rattle.std.specs.Prelude.{◌≡◌, ◌≤◌, [], true, length, None, Ok, IfOk, IsErr, OnErr};
 ghost use Rattle.devices.specs.Disks.{HasCause};
 ghost use Rattle.devices.specs.Files.{tells_nothing};
 
@@ -8,14 +8,23 @@ use crate::{Cabinet, Disk, DiskFailed, Opened};
 use std::fs::{File, OpenOptions};
 use std::io;
 use std::io::ErrorKind;
+use std::os::fd::AsRawFd;
 use std::os::unix::fs::FileExt;
 use std::path::Path;
 
-/// An open file as a disk, with its count of faults. It is closed where it is dropped.
+/// How many bytes at the end of a file are written back when it is opened. It is more than the longest write of a
+/// journal, so that the last gate that was opened stands among them.
+const WRITTEN_BACK: u64 = 8_392_704;
+
+/// An open file as a disk, with its count of faults. It has the file's lock, and is closed where it is dropped.
+///
+/// After a sync that failed it fails each write and each sync. The system forgets such a failure: what has not reached
+/// the disk counts as written, and the next sync would answer `Ok` without it.
 #[derive(Drop)]
 pub struct FileDisk {
     file: File,
     faults: u64,
+    sync_failed: bool,
 }
 
 impl FileDisk {
@@ -27,8 +36,10 @@ impl FileDisk {
     }
 
     fn answer<T: Drop>(&mut self, outcome: io::Result<T>) -> Result<T, DiskFailed>
+        ensures done { IfOk outcome (λ value. (result ≡ Ok value) × (self.new ≡ self.old)) }
         ensures counted { self.old.faults ≤ self.new.faults }
         ensures cause { HasCause self.old.faults self.new.faults result }
+        ensures barred { self.new.sync_failed ≡ self.old.sync_failed }
     {
         match outcome {
             Ok(value) => Ok(value),
@@ -37,6 +48,30 @@ impl FileDisk {
                 Err(DiskFailed)
             }
         }
+    }
+
+    // A write, unless a sync has failed.
+    fn write_file(&self, at: u64, bytes: &[u8]) -> io::Result<()>
+        ensures barred { self.now.sync_failed ≡ true → IsErr result }
+    {
+        if self.sync_failed {
+            return Err(io::Error::from(ErrorKind::Other));
+        }
+        self.file.write_all_at(bytes, at)
+    }
+
+    // A sync, unless one has failed.
+    fn sync_file(&mut self) -> io::Result<()>
+        ensures barred { self.old.sync_failed ≡ true → IsErr result }
+        ensures bars { OnErr result (self.new.sync_failed ≡ true) }
+        ensures faults { self.new.faults ≡ self.old.faults }
+    {
+        if self.sync_failed {
+            return Err(io::Error::from(ErrorKind::Other));
+        }
+        let outcome = self.file.sync_data();
+        self.sync_failed = outcome.is_err();
+        outcome
     }
 }
 
@@ -70,12 +105,12 @@ impl Disk for FileDisk {
     }
 
     fn write_at(&mut self, at: u64, bytes: &[u8]) -> Result<(), DiskFailed> {
-        let outcome = self.file.write_all_at(bytes, at);
+        let outcome = self.write_file(at, bytes);
         self.answer(outcome)
     }
 
     fn sync(&mut self) -> Result<(), DiskFailed> {
-        let outcome = self.file.sync_data();
+        let outcome = self.sync_file();
         self.answer(outcome)
     }
 }
@@ -84,15 +119,22 @@ impl Disk for FileDisk {
 #[derive(Drop)]
 pub struct FileCabinet {
     rt: HostRuntime,
+    front: &'static [u8],
     faults: u64,
 }
 
 impl FileCabinet {
-    /// All files that the process may reach, with no fault so far.
-    pub fn new(rt: HostRuntime) -> Self
+    /// All files that the process may reach, with no fault so far. An opening writes to a file only where it begins with
+    /// this front, of at most 16 bytes.
+    pub fn new(rt: HostRuntime, front: &'static [u8]) -> Self
+        requires { length front.now ≤ 16 }
         ensures { result.faults ≡ 0 }
     {
-        FileCabinet { rt, faults: 0 }
+        FileCabinet {
+            rt,
+            front,
+            faults: 0,
+        }
     }
 
     /// How many faults there were.
@@ -111,8 +153,12 @@ impl Cabinet for FileCabinet {
     ghost faults = { λ c. c.faults };
 
     fn open(&mut self, name: &str, make: bool) -> Opened<FileDisk> {
-        match open_file(&self.rt, name, make) {
-            Ok(file) => Opened::Disk(FileDisk { file, faults: 0 }),
+        match open_file(&self.rt, name, make, self.front) {
+            Ok(file) => Opened::Disk(FileDisk {
+                file,
+                faults: 0,
+                sync_failed: false,
+            }),
             Err(error) if !make && error.kind() == ErrorKind::NotFound => Opened::Absent,
             Err(_) => {
                 self.faults = self.faults.saturating_add(1);
@@ -128,16 +174,24 @@ impl Cabinet for FileCabinet {
     }
 }
 
-// Where it may make the file it syncs the folder too, so that the name is there after a stop, also where an earlier
-// call made the file and failed then.
-fn open_file(rt: &HostRuntime, name: &str, make: bool) -> io::Result<File> {
+// Takes the file's lock, so that nothing is written to a file that another process has open in this way. Where it may
+// make the file it syncs the folder too, so that the name is there after a stop, also where an earlier call made the
+// file and failed then.
+fn open_file(rt: &HostRuntime, name: &str, make: bool, front: &[u8]) -> io::Result<File> {
     let file = OpenOptions::new()
         .read(true)
         .write(true)
         .create(make)
         .open(rt, name)?;
+    // It would be a standard stream, and what is meant for that would be written to it.
+    if file.as_raw_fd() <= 2 {
+        return Err(io::Error::from(ErrorKind::Other));
+    }
+    file.try_lock()?;
     if make {
         sync_folder(rt, name)?;
+    } else if begins_with(&file, front)? {
+        write_back(&file)?;
     }
     Ok(file)
 }
@@ -148,4 +202,26 @@ fn sync_folder(rt: &HostRuntime, name: &str) -> io::Result<()> {
         _ => ".",
     };
     File::open(rt, folder)?.sync_all()
+}
+
+fn begins_with(file: &File, front: &[u8]) -> io::Result<bool> {
+    let mut begin = [0; 16];
+    match file.read_exact_at(&mut begin, 0) {
+        Ok(()) => Ok(begin.starts_with(front)),
+        Err(error) if error.kind() == ErrorKind::UnexpectedEof => Ok(false),
+        Err(error) => Err(error),
+    }
+}
+
+// Writes the end of a file back in place, as it is read. A sync that failed in an earlier run may have left there what
+// is read and is not on the disk; after this the next sync writes it or fails.
+fn write_back(file: &File) -> io::Result<()> {
+    let mut buffer = [0; 4096];
+    let len = file.metadata()?.len();
+    for at in (len.saturating_sub(WRITTEN_BACK)..len).step_by(4096) {
+        let count = (len - at).min(4096) as usize;
+        file.read_exact_at(&mut buffer[..count], at)?;
+        file.write_all_at(&buffer[..count], at)?;
+    }
+    Ok(())
 }

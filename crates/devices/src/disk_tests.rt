@@ -126,7 +126,7 @@ fn ask(cabinet: &mut FileCabinet, path: &str, make: bool, bytes: &[u8; 4]) -> &'
 fn a_cabinet_of_files(rt: HostRuntime) -> Result<(), Fail> {
     let _ = fs::remove_dir_all(&rt, FOLDER);
     fs::create_dir(&rt, FOLDER)?;
-    let mut cabinet = FileCabinet::new(rt, b"stage");
+    let mut cabinet = FileCabinet::new(rt);
     let rows = [
         (JOURNAL, false, b"none", "absent", 0),
         (FOLDER, false, b"none", "failed", 1),
@@ -153,7 +153,7 @@ const FILE: &str = "devices_test_disk";
 #[test]
 fn a_file_as_a_disk(rt: HostRuntime) -> Result<(), Fail> {
     let _ = fs::remove_file(&rt, FILE);
-    let Opened::Disk(mut disk) = FileCabinet::new(rt, b"stage").open(FILE, true) else {
+    let Opened::Disk(mut disk) = FileCabinet::new(rt).open(FILE, true) else {
         return Err(Fail::new("no file was made"));
     };
     let mut room = [0u8; 5];

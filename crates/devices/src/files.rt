@@ -1,6 +1,6 @@
 //! Adapters: a file as a disk, and the system's files as a cabinet. They tell nothing of content, since no clause can
 //! say what a file has.
-ghost use Rattle.std.specs.Prelude.{◌≡◌, ◌≤◌, [], true, length, None, Ok, IfOk, IsErr, OnErr};
+ghost use Rattle.std.specs.Prelude.{◌≡◌, ◌≤◌, [], true, None, Ok, IfOk, IsErr, OnErr};
 ghost use Rattle.devices.specs.Disks.{HasCause};
 ghost use Rattle.devices.specs.Files.{tells_nothing};
 
@@ -11,10 +11,6 @@ use std::io::ErrorKind;
 use std::os::fd::AsRawFd;
 use std::os::unix::fs::FileExt;
 use std::path::Path;
-
-/// How many bytes at the end of a file are written back when it is opened. It is more than the longest write of a
-/// journal, so that the last gate that was opened stands among them.
-const WRITTEN_BACK: u64 = 8_392_704;
 
 /// An open file as a disk, with its count of faults. It has the file's lock, and is closed where it is dropped.
 ///
@@ -119,22 +115,15 @@ impl Disk for FileDisk {
 #[derive(Drop)]
 pub struct FileCabinet {
     rt: HostRuntime,
-    front: &'static [u8],
     faults: u64,
 }
 
 impl FileCabinet {
-    /// All files that the process may reach, with no fault so far. An opening writes to a file only where it begins with
-    /// this front, of at most 16 bytes.
-    pub fn new(rt: HostRuntime, front: &'static [u8]) -> Self
-        requires { length front.now ≤ 16 }
+    /// All files that the process may reach, with no fault so far.
+    pub fn new(rt: HostRuntime) -> Self
         ensures { result.faults ≡ 0 }
     {
-        FileCabinet {
-            rt,
-            front,
-            faults: 0,
-        }
+        FileCabinet { rt, faults: 0 }
     }
 
     /// How many faults there were.
@@ -153,7 +142,7 @@ impl Cabinet for FileCabinet {
     ghost faults = { λ c. c.faults };
 
     fn open(&mut self, name: &str, make: bool) -> Opened<FileDisk> {
-        match open_file(&self.rt, name, make, self.front) {
+        match open_file(&self.rt, name, make) {
             Ok(file) => Opened::Disk(FileDisk {
                 file,
                 faults: 0,
@@ -174,26 +163,35 @@ impl Cabinet for FileCabinet {
     }
 }
 
-// Takes the file's lock, so that nothing is written to a file that another process has open in this way. Where it may
-// make the file it syncs the folder too, so that the name is there after a stop, also where an earlier call made the
-// file and failed then.
-fn open_file(rt: &HostRuntime, name: &str, make: bool, front: &[u8]) -> io::Result<File> {
+// Takes the file's lock, so that a file is open once. Where it may make the file it syncs the folder too, so that the
+// name is there after a stop, also where an earlier call made the file and failed then.
+fn open_file(rt: &HostRuntime, name: &str, make: bool) -> io::Result<File> {
     let file = OpenOptions::new()
         .read(true)
         .write(true)
         .create(make)
         .open(rt, name)?;
-    // It would be a standard stream, and what is meant for that would be written to it.
+    // It would be a standard stream, and what is put there would be written to it.
     if file.as_raw_fd() <= 2 {
         return Err(io::Error::from(ErrorKind::Other));
     }
     file.try_lock()?;
+    forget_pages(&file)?;
     if make {
         sync_folder(rt, name)?;
-    } else if begins_with(&file, front)? {
-        write_back(&file)?;
     }
     Ok(file)
+}
+
+// Has the system forget what it keeps of a file in memory, so that reads give what is on the disk. A sync that failed
+// in an earlier run may have left pages that count as written and are in memory alone. Pages that are not yet written
+// are not forgotten, so it syncs first.
+fn forget_pages(file: &File) -> io::Result<()> {
+    file.sync_data()?;
+    match libc::posix_fadvise(file.as_raw_fd(), 0, 0, libc::POSIX_FADV_DONTNEED) {
+        0 => Ok(()),
+        error => Err(io::Error::from_raw_os_error(error)),
+    }
 }
 
 fn sync_folder(rt: &HostRuntime, name: &str) -> io::Result<()> {
@@ -202,26 +200,4 @@ fn sync_folder(rt: &HostRuntime, name: &str) -> io::Result<()> {
         _ => ".",
     };
     File::open(rt, folder)?.sync_all()
-}
-
-fn begins_with(file: &File, front: &[u8]) -> io::Result<bool> {
-    let mut begin = [0; 16];
-    match file.read_exact_at(&mut begin, 0) {
-        Ok(()) => Ok(begin.starts_with(front)),
-        Err(error) if error.kind() == ErrorKind::UnexpectedEof => Ok(false),
-        Err(error) => Err(error),
-    }
-}
-
-// Writes the end of a file back in place, as it is read. A sync that failed in an earlier run may have left there what
-// is read and is not on the disk; after this the next sync writes it or fails.
-fn write_back(file: &File) -> io::Result<()> {
-    let mut buffer = [0; 4096];
-    let len = file.metadata()?.len();
-    for at in (len.saturating_sub(WRITTEN_BACK)..len).step_by(4096) {
-        let count = (len - at).min(4096) as usize;
-        file.read_exact_at(&mut buffer[..count], at)?;
-        file.write_all_at(&buffer[..count], at)?;
-    }
-    Ok(())
 }

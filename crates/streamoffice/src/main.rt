@@ -20,7 +20,7 @@ fn main(rt: HostRuntime) -> ExitCode {
     let mut input = StdinSource::new(rt.stdin());
     let mut output = StdoutSink::new(rt.stdout());
     let mut faults = StderrSink::new(rt.stderr());
-    let mut cabinet = FileCabinet::new(rt, journal::HEADER);
+    let mut cabinet = FileCabinet::new(rt);
     let words = words_of(&rt);
     ExitCode::from(run_office(
         &rt,

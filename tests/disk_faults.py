@@ -9,6 +9,8 @@ differs. It takes a few seconds.
 """
 import os
 import pathlib
+import resource
+import signal
 import subprocess
 import sys
 import tempfile
@@ -18,8 +20,8 @@ import journals
 FAULT = b'{"code":"JournalFault","in_doubt":'
 
 
-def run(program, words, data=b""):
-    done = subprocess.run([program, *words], input=data, capture_output=True, timeout=60)
+def run(program, words, data=b"", before=None):
+    done = subprocess.run([program, *words], input=data, capture_output=True, timeout=60, preexec_fn=before)
     return done.returncode, done.stdout, done.stderr.decode()
 
 
@@ -74,6 +76,24 @@ def no_room_for_a_file(program, place):
     subprocess.run(["umount", place], check=True)
 
 
+def limit_on_the_size_of_files(program, place):
+    """The system kills a program that writes past it; what was acknowledged is kept, and the next run goes on."""
+    journal = f"{place}/journal"
+    expect("init", (0, ""), run(program, ["init", "--journal", journal])[::2])
+    data = b"".join(request(1_704_430_800 + 60 * n) for n in range(200))
+    limit = lambda: resource.setrlimit(resource.RLIMIT_FSIZE, (4096, 4096))
+    status, output, line = run(program, ["batch", "--journal", journal], data, limit)
+    expect("batch past the limit on the size of files", (-signal.SIGXFSZ, ""), (status, line))
+    accepted = output.count(b'{"edit":')
+    kept, _ = journals.read(pathlib.Path(journal).read_bytes())
+    if accepted == 0 or len(kept) != accepted:
+        raise SystemExit(f"{accepted} accepted and {len(kept)} kept")
+    status, output, line = run(program, ["batch", "--journal", journal], request(1))
+    expect("batch without the limit", (0, ""), (status, line))
+    if b'{"edit":%d,' % (accepted + 1) not in output:
+        raise SystemExit(f"the next edit was answered {output!r}")
+
+
 def read_only(program, place):
     """A journal that may only be read."""
     mount(place, "size=300k")
@@ -123,7 +143,13 @@ def main():
     if os.geteuid() != 0:
         os.execvp("unshare", ["unshare", "--map-root-user", "--mount", sys.executable, *sys.argv])
     program = str(pathlib.Path(sys.argv[1]).resolve())
-    for case in [full_file_system, no_room_for_a_file, read_only, in_the_place_of_a_journal]:
+    for case in [
+        full_file_system,
+        no_room_for_a_file,
+        limit_on_the_size_of_files,
+        read_only,
+        in_the_place_of_a_journal,
+    ]:
         with tempfile.TemporaryDirectory() as place:
             case(program, place)
     print("every case as wanted, and nothing lost")

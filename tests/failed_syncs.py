@@ -24,8 +24,8 @@ import tempfile
 import time
 
 import journals
+from journals import FIRST, STAGE, request
 
-FIRST = 1_704_430_800
 LOOP_SET_STATUS64, LOOP_GET_STATUS64 = 0x4C04, 0x4C05
 SIZE_LIMIT = slice(32, 40)
 PAGE = 4096
@@ -96,7 +96,7 @@ class Run:
         self.process = subprocess.Popen([*hold, *self.words], stdin=subprocess.PIPE, stdout=subprocess.PIPE)
 
     def send(self, number):
-        self.process.stdin.write(b"POST /first/%d/1.00 HTTP/1.1\r\nContent-Length: 0\r\n\r\n" % (FIRST + 60 * number))
+        self.process.stdin.write(request(FIRST + 60 * number))
         self.process.stdin.flush()
 
     def reply(self):
@@ -167,7 +167,7 @@ class Case:
 
     def gate_is_open(self):
         """Whether the gate behind the records that were acknowledged is open."""
-        blocks = (journals.block(number, at, 1_000_000) for number, at in self.acknowledged)
+        blocks = (journals.block(number, at, STAGE) for number, at in self.acknowledged)
         end = len(journals.HEADER) + sum(len(block) for block in blocks)
         return pathlib.Path(self.journal).read_bytes()[end : end + 1] == b"\1"
 
@@ -184,7 +184,7 @@ class Case:
             found, _ = journals.read(pathlib.Path(self.journal).read_bytes())
         except journals.Damaged as damage:
             return f"damaged at {damage}"
-        wanted = {number: journals.payload(number, at, 1_000_000) for number, at in self.acknowledged}
+        wanted = {number: journals.payload(number, at, STAGE) for number, at in self.acknowledged}
         lost = [number for number in wanted if found[number - 1 : number] != [wanted[number]]]
         return f"{len(lost)} lost, the first {lost[0]}" if lost else "all kept"
 
@@ -262,7 +262,7 @@ def sync_of_an_opening(case):
 def copy_whose_sync_failed(case):
     """Another program put the journal there, and was told that its sync failed. Nothing is acknowledged over it."""
     with open(case.journal, "wb") as file:
-        file.write(journals.HEADER + b"".join(journals.block(n, FIRST - n, 1_000_000) for n in range(1, 1001)) + b"\0")
+        file.write(journals.HEADER + b"".join(journals.block(n, FIRST - n, STAGE) for n in range(1, 1001)) + b"\0")
         file.flush()
         with case.system.failing():
             try:

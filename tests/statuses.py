@@ -16,18 +16,14 @@ import sys
 import tempfile
 
 import journals
+from journals import FIRST, STAGE, request
 
-FIRST = 1_704_430_800
 USAGE = b"streamoffice: usage: init, batch, serve, stations or trial\n"
 INPUT_FAULT, OUTPUT_FAULT = b"streamoffice: input fault\n", b"streamoffice: output fault\n"
 DISK_FAULT = b"streamoffice: disk fault\n"
 NOT_A_JOURNAL, EXISTS = b"streamoffice: not a journal\n", b"streamoffice: journal exists\n"
 EMPTY = journals.HEADER + b"\0"
-ONE = journals.HEADER + journals.block(1, FIRST, 1_000_000) + b"\0"
-
-
-def request(at=FIRST):
-    return b"POST /first/%d/1.00 HTTP/1.1\r\nContent-Length: 0\r\n\r\n" % at
+ONE = journals.HEADER + journals.block(1, FIRST, STAGE) + b"\0"
 
 
 def reply(number):
@@ -85,7 +81,7 @@ def usage(place):
         ["--help"],
         [b"init", b"--journal", b"\xff"],
     ]:
-        expect(f"{words}", (1, b"", USAGE), place.run(words, request()))
+        expect(f"{words}", (1, b"", USAGE), place.run(words, request(FIRST)))
         expect("    no journal is made", None, place.content())
 
 
@@ -99,17 +95,17 @@ def ends(place):
         ("init over an edit", "init", ONE, b"", (8, b"", EXISTS), ONE),
         ("init over another file", "init", b"x" * 18, b"", (5, b"", NOT_A_JOURNAL), b"x" * 18),
         ("batch of nothing", "batch", EMPTY, b"", (0, b"", b""), EMPTY),
-        ("batch of a reading", "batch", EMPTY, request(), (0, replies, b""), ONE),
-        ("batch on nothing", "batch", None, request(), (5, b"", NOT_A_JOURNAL), None),
-        ("batch on another file", "batch", b"x" * 18, request(), (5, b"", NOT_A_JOURNAL), b"x" * 18),
-        ("batch on a damaged one", "batch", ONE[:-1], request(), (5, b"", b"streamoffice: damaged at 58\n"), ONE[:-1]),
+        ("batch of a reading", "batch", EMPTY, request(FIRST), (0, replies, b""), ONE),
+        ("batch on nothing", "batch", None, request(FIRST), (5, b"", NOT_A_JOURNAL), None),
+        ("batch on another file", "batch", b"x" * 18, request(FIRST), (5, b"", NOT_A_JOURNAL), b"x" * 18),
+        ("batch on a damaged one", "batch", ONE[:-1], request(FIRST), (5, b"", b"streamoffice: damaged at 58\n"), ONE[:-1]),
         ("batch of no request", "batch", EMPTY, b"x", (9, MALFORMED, b"streamoffice: malformed at 0\n"), EMPTY),
         (
             "batch of a reading and no request",
             "batch",
             EMPTY,
-            request() + b"x",
-            (9, replies + MALFORMED, b"streamoffice: malformed at %d\n" % len(request())),
+            request(FIRST) + b"x",
+            (9, replies + MALFORMED, b"streamoffice: malformed at %d\n" % len(request(FIRST))),
             ONE,
         ),
     ]:
@@ -117,8 +113,8 @@ def ends(place):
         expect("    what is left", after, place.content())
 
 
-def closed(number):
-    return lambda: os.close(number)
+def closed(*numbers):
+    return lambda: [os.close(number) for number in numbers]
 
 
 def closed_streams(place):
@@ -131,13 +127,12 @@ def closed_streams(place):
         (1, (3, b"", OUTPUT_FAULT), ONE),
         (2, (0, reply(1), b""), ONE),
     ]:
-        got = place.on_journal("batch", EMPTY, request(), before=closed(number))
+        got = place.on_journal("batch", EMPTY, request(FIRST), before=closed(number))
         expect(f"batch, stream {number} closed", wanted, got)
         expect("    what is left", after, place.content())
-    all_closed = lambda: [os.close(number) for number in range(3)]
-    expect("init, all closed", (0, b"", b""), place.on_journal("init", None, before=all_closed))
+    expect("init, all closed", (0, b"", b""), place.on_journal("init", None, before=closed(0, 1, 2)))
     expect("    what is left", EMPTY, place.content())
-    expect("batch, all closed", (2, b"", b""), place.on_journal("batch", EMPTY, before=all_closed))
+    expect("batch, all closed", (2, b"", b""), place.on_journal("batch", EMPTY, before=closed(0, 1, 2)))
     expect("    what is left", EMPTY, place.content())
     got = place.on_journal("batch", b"x" * 18, before=closed(2))
     expect("batch on another file, stream 2 closed", (5, b"", b""), got)
@@ -151,10 +146,10 @@ def failing_streams(place):
     os.close(reader)
     got = place.on_journal("batch", EMPTY, stdin=folder)
     expect("batch, its input a folder", (2, b"", INPUT_FAULT), got)
-    got = place.on_journal("batch", EMPTY, request(), stdout=full)
+    got = place.on_journal("batch", EMPTY, request(FIRST), stdout=full)
     expect("batch, its output full", (3, b"", OUTPUT_FAULT), got)
     expect("    what is left", ONE, place.content())
-    got = place.on_journal("batch", EMPTY, request(), stdout=writer)
+    got = place.on_journal("batch", EMPTY, request(FIRST), stdout=writer)
     expect("batch, its output without a reader", (3, b"", OUTPUT_FAULT), got)
     got = place.on_journal("batch", EMPTY, b"x", stderr=full)
     expect("batch of no request, its errors full", (9, MALFORMED, b""), got)
@@ -165,11 +160,11 @@ def another_run(place):
     place.journal.write_bytes(EMPTY)
     words = [place.program, "batch", "--journal", str(place.journal)]
     with subprocess.Popen(words, stdin=subprocess.PIPE, stdout=subprocess.PIPE) as first:
-        first.stdin.write(request())
+        first.stdin.write(request(FIRST))
         first.stdin.flush()
         first.stdout.read(len(reply(1)))
         for command in ["init", "batch"]:
-            got = place.run([command, "--journal", str(place.journal)], request())
+            got = place.run([command, "--journal", str(place.journal)], request(FIRST))
             expect(f"{command} beside another run", (4, b"", DISK_FAULT), got)
             expect("    what is left", ONE, place.content())
         first.stdin.write(request(FIRST + 60))
@@ -179,11 +174,14 @@ def another_run(place):
     expect("batch behind it", (0, reply(3), b""), got)
 
 
+def limit_memory():
+    resource.setrlimit(resource.RLIMIT_AS, (8 << 20, 8 << 20))
+
+
 def little_memory(place):
     """A long journal where there is memory for few readings alone."""
-    records = b"".join(journals.block(number, FIRST + number, 1_000_000) for number in range(1, 400_001))
-    limit = lambda: resource.setrlimit(resource.RLIMIT_AS, (24 << 20, 24 << 20))
-    got = place.on_journal("batch", journals.HEADER + records + b"\0", request(), before=limit)
+    records = b"".join(journals.block(number, FIRST + number, STAGE) for number in range(1, 400_001))
+    got = place.on_journal("batch", journals.HEADER + records + b"\0", request(FIRST), before=limit_memory)
     expect("batch with little memory", (6, b"", b"streamoffice: out of memory\n"), got)
 
 

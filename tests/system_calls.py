@@ -16,10 +16,10 @@ import sys
 import tempfile
 
 import journals
+from journals import FIRST, STAGE, request
 
-FIRST = 1_704_430_800
 HEADER = len(journals.HEADER)
-RECORD = len(journals.block(1, FIRST, 1_000_000))
+RECORD = len(journals.block(1, FIRST, STAGE))
 FALSE, TRUE = '{"code":"JournalFault","in_doubt":false}', '{"code":"JournalFault","in_doubt":true}'
 DISK_FAULT = "streamoffice: disk fault\n"
 # What strace calls a call, and what it is called here. Reads of a file and questions about it are left out.
@@ -56,11 +56,11 @@ class Calls:
         self.program, self.folder, self.journal = program, place, f"{place}/journal"
         self.log = f"{place}.calls"
 
-    def run(self, command, count=0, *options):
+    def run(self, command, count=0, *options, shell=()):
         """The program's status, its replies' bodies and its line, for so many readings on its input."""
-        readings = "".join(f"POST /first/{FIRST + n}/1.00 HTTP/1.1\r\nContent-Length: 0\r\n\r\n" for n in range(count))
-        words = ["strace", "-f", "-y", "-o", self.log, *options, self.program, command, "--journal", self.journal]
-        done = subprocess.run(words, input=readings.encode(), capture_output=True, timeout=60)
+        readings = b"".join(request(FIRST + n) for n in range(count))
+        words = ["strace", "-f", "-y", "-o", self.log, *options, *shell, self.program, command, "--journal", self.journal]
+        done = subprocess.run(words, input=readings, capture_output=True, timeout=60)
         return done.returncode, re.findall(r"\{.*?\}", done.stdout.decode()), done.stderr.decode()
 
     def seen(self):
@@ -163,6 +163,18 @@ def faults_of_batch(calls):
             raise SystemExit(f"{len(numbers)} edits were acknowledged, and {len(kept)} are kept")
 
 
+def streams_that_are_not_taken_up(calls):
+    """A journal is never a standard stream, not even where the root folder, which would stand in, can't be opened."""
+    for redirection in ["<&-", ">&-", "2>&-"]:
+        shell = ["sh", "-c", f'exec "$@" {redirection}', "sh"]
+        for command, content in [("init", b""), ("batch", journals.HEADER + b"\0")]:
+            pathlib.Path(calls.journal).write_bytes(content)
+            options = ["-P", "/", "--inject=openat:error=EACCES"]
+            status, replies, _ = calls.run(command, 2, *options, shell=shell)
+            expect(f"{command} {redirection}, which nothing stands in for", (4, []), (status, replies))
+            expect("    what is left", content, pathlib.Path(calls.journal).read_bytes())
+
+
 def main():
     if len(sys.argv) != 2:
         raise SystemExit(__doc__)
@@ -170,7 +182,7 @@ def main():
         print("can't run here: strace is missing")
         return
     program = str(pathlib.Path(sys.argv[1]).resolve())
-    for case in [order_of_calls, faults_of_init, faults_of_batch]:
+    for case in [order_of_calls, faults_of_init, faults_of_batch, streams_that_are_not_taken_up]:
         with tempfile.TemporaryDirectory() as place:
             case(Calls(program, str(pathlib.Path(place).resolve())))
             pathlib.Path(f"{place}.calls").unlink()

@@ -35,7 +35,7 @@ impl FileDisk {
         ensures done { IfOk outcome (λ value. (result ≡ Ok value) × (self.new ≡ self.old)) }
         ensures counted { self.old.faults ≤ self.new.faults }
         ensures cause { HasCause self.old.faults self.new.faults result }
-        ensures barred { self.new.sync_failed ≡ self.old.sync_failed }
+        ensures same_bar { self.new.sync_failed ≡ self.old.sync_failed }
     {
         match outcome {
             Ok(value) => Ok(value),

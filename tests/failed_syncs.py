@@ -83,7 +83,7 @@ class FileSystem:
 
     def end(self):
         self.limit(0)
-        subprocess.run(["umount", self.point], capture_output=True)
+        call("umount", "--lazy", self.point)
         call("losetup", "--detach", self.device)
 
 
@@ -91,9 +91,11 @@ class Run:
     """A run of `batch` that is sent one edit after another. The sync of that number is held back for a while."""
 
     def __init__(self, program, journal, held=None):
-        self.words, self.held = [program, "batch", "--journal", journal], held
+        words = [program, "batch", "--journal", journal]
         hold = ["strace", "-o", "/dev/null", f"--inject=fdatasync:delay_enter=2s:when={held}"] if held else []
-        self.process = subprocess.Popen([*hold, *self.words], stdin=subprocess.PIPE, stdout=subprocess.PIPE)
+        self.process = subprocess.Popen(
+            [*hold, *words], stdin=subprocess.PIPE, stdout=subprocess.PIPE, stderr=subprocess.DEVNULL
+        )
 
     def send(self, number):
         self.process.stdin.write(request(FIRST + 60 * number))

@@ -53,8 +53,9 @@ class Calls:
     """A place with a journal, where the program runs under strace."""
 
     def __init__(self, program, place):
-        self.program, self.folder, self.journal = program, place, f"{place}/journal"
-        self.log = f"{place}.calls"
+        self.program, self.folder, self.log = program, f"{place}/folder", f"{place}/calls"
+        self.journal = f"{self.folder}/journal"
+        pathlib.Path(self.folder).mkdir()
 
     def run(self, command, count=0, *options, shell=()):
         """The program's status, its replies' bodies and its line, for so many readings on its input."""
@@ -184,8 +185,7 @@ def main():
     program = str(pathlib.Path(sys.argv[1]).resolve())
     for case in [order_of_calls, faults_of_init, faults_of_batch, streams_that_are_not_taken_up]:
         with tempfile.TemporaryDirectory() as place:
-            case(Calls(program, str(pathlib.Path(place).resolve())))
-            pathlib.Path(f"{place}.calls").unlink()
+            case(Calls(program, pathlib.Path(place).resolve()))
     print("every call in its order, and every fault told")
 
 

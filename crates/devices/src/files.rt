@@ -111,7 +111,8 @@ impl Disk for FileDisk {
     }
 }
 
-/// The system's files as a cabinet: a name is a path.
+/// The system's files as a cabinet: a name is a path. A file that is open here can't be opened again, by this process or
+/// another that asks for its lock, and is opened as it is on the disk.
 #[derive(Drop)]
 pub struct FileCabinet {
     rt: HostRuntime,
@@ -163,15 +164,15 @@ impl Cabinet for FileCabinet {
     }
 }
 
-// Takes the file's lock, so that a file is open once. Where it may make the file it syncs the folder too, so that the
-// name is there after a stop, also where an earlier call made the file and failed then.
+// Takes the file's lock, which goes where the file is closed. Where it may make the file it syncs the folder too, so that
+// the name is there after a stop, also where an earlier call made the file and failed then.
 fn open_file(rt: &HostRuntime, name: &str, make: bool) -> io::Result<File> {
     let file = OpenOptions::new()
         .read(true)
         .write(true)
         .create(make)
         .open(rt, name)?;
-    // It would be a standard stream, and what is put there would be written to it.
+    // It has the number of a standard stream, and would get what is meant for that.
     if file.as_raw_fd() <= 2 {
         return Err(io::Error::from(ErrorKind::Other));
     }
@@ -184,8 +185,9 @@ fn open_file(rt: &HostRuntime, name: &str, make: bool) -> io::Result<File> {
 }
 
 // Has the system forget what it keeps of a file in memory, so that reads give what is on the disk. A sync that failed
-// in an earlier run may have left pages that count as written and are in memory alone. Pages that are not yet written
-// are not forgotten, so it syncs first.
+// in an earlier run may have left pages that count as written and are in memory alone; to write them again is not
+// enough, since a file system may have forgotten what else it owes the disk for them. Pages that are not written yet
+// are kept, so it syncs first.
 fn forget_pages(file: &File) -> io::Result<()> {
     file.sync_data()?;
     match libc::posix_fadvise(file.as_raw_fd(), 0, 0, libc::POSIX_FADV_DONTNEED) {

@@ -9,6 +9,8 @@ differs. It takes a few seconds.
 """
 import os
 import pathlib
+import resource
+import signal
 import subprocess
 import sys
 import tempfile
@@ -18,13 +20,9 @@ import journals
 FAULT = b'{"code":"JournalFault","in_doubt":'
 
 
-def run(program, words, data=b""):
-    done = subprocess.run([program, *words], input=data, capture_output=True, timeout=60)
+def run(program, words, data=b"", before=None):
+    done = subprocess.run([program, *words], input=data, capture_output=True, timeout=60, preexec_fn=before)
     return done.returncode, done.stdout, done.stderr.decode()
-
-
-def request(at):
-    return b"POST /first/%d/1.00 HTTP/1.1\r\nContent-Length: 0\r\n\r\n" % at
 
 
 def expect(what, wanted, got):
@@ -44,7 +42,7 @@ def full_file_system(program, place):
     expect("init", (0, ""), run(program, ["init", "--journal", journal])[::2])
     count = 12_000
     status, output, line = run(
-        program, ["batch", "--journal", journal], b"".join(request(1_704_430_800 + 60 * n) for n in range(count))
+        program, ["batch", "--journal", journal], b"".join(journals.request(journals.FIRST + 60 * n) for n in range(count))
     )
     expect("batch until the file system is full", (0, ""), (status, line))
     accepted, faults = output.count(b'{"edit":'), output.count(FAULT)
@@ -56,7 +54,7 @@ def full_file_system(program, place):
         raise SystemExit(f"{accepted} accepted and {len(kept)} kept")
     print(f"    {accepted} accepted and kept, {faults} answered 503, none in doubt")
     subprocess.run(["mount", "-o", "remount,size=600k", place], check=True)
-    status, output, line = run(program, ["batch", "--journal", journal], request(1))
+    status, output, line = run(program, ["batch", "--journal", journal], journals.request(1))
     expect("batch with room again", (0, ""), (status, line))
     if b'{"edit":%d,' % (accepted + 1) not in output:
         raise SystemExit(f"the next edit was answered {output!r}")
@@ -74,19 +72,40 @@ def no_room_for_a_file(program, place):
     subprocess.run(["umount", place], check=True)
 
 
+def limit_files():
+    resource.setrlimit(resource.RLIMIT_FSIZE, (4096, 4096))
+
+
+def limit_on_the_size_of_files(program, place):
+    """The system kills a program that writes past it; what was acknowledged is kept, and the next run goes on."""
+    journal = f"{place}/journal"
+    expect("init", (0, ""), run(program, ["init", "--journal", journal])[::2])
+    data = b"".join(journals.request(journals.FIRST + 60 * n) for n in range(200))
+    status, output, line = run(program, ["batch", "--journal", journal], data, limit_files)
+    expect("batch past the limit on the size of files", (-signal.SIGXFSZ, ""), (status, line))
+    accepted = output.count(b'{"edit":')
+    kept, _ = journals.read(pathlib.Path(journal).read_bytes())
+    if accepted == 0 or len(kept) != accepted:
+        raise SystemExit(f"{accepted} accepted and {len(kept)} kept")
+    status, output, line = run(program, ["batch", "--journal", journal], journals.request(1))
+    expect("batch without the limit", (0, ""), (status, line))
+    if b'{"edit":%d,' % (accepted + 1) not in output:
+        raise SystemExit(f"the next edit was answered {output!r}")
+
+
 def read_only(program, place):
     """A journal that may only be read."""
     mount(place, "size=300k")
     journal = f"{place}/journal"
     run(program, ["init", "--journal", journal])
-    run(program, ["batch", "--journal", journal], request(1))
+    run(program, ["batch", "--journal", journal], journals.request(1))
     before = pathlib.Path(journal).read_bytes()
     subprocess.run(["mount", "-o", "remount,ro", place], check=True)
     for command in ["init", "batch"]:
         expect(
             f"{command} on a read-only file",
             (4, "streamoffice: disk fault\n"),
-            run(program, [command, "--journal", journal], request(2))[::2],
+            run(program, [command, "--journal", journal], journals.request(2))[::2],
         )
     if pathlib.Path(journal).read_bytes() != before:
         raise SystemExit("the journal has changed")
@@ -101,7 +120,7 @@ def in_the_place_of_a_journal(program, place):
     expect("batch on nothing", (5, "streamoffice: not a journal\n"), run(program, ["batch", "--journal", name])[::2])
     if os.path.exists(name):
         raise SystemExit("batch made a file")
-    whole = journals.HEADER + journals.block(1, 1_704_430_800, 1_000_000)
+    whole = journals.HEADER + journals.block(1, journals.FIRST, journals.STAGE)
     for what, data, command, wanted in [
         ("an empty file", b"", "batch", (5, "streamoffice: not a journal\n")),
         ("another file", b"twenty bytes of text", "batch", (5, "streamoffice: not a journal\n")),
@@ -112,7 +131,7 @@ def in_the_place_of_a_journal(program, place):
         ("a record cut short", whole + whole[16:40], "batch", (5, "streamoffice: damaged at 58\n")),
     ]:
         pathlib.Path(name).write_bytes(data)
-        expect(f"{command} on {what}", wanted, run(program, [command, "--journal", name], request(2))[::2])
+        expect(f"{command} on {what}", wanted, run(program, [command, "--journal", name], journals.request(2))[::2])
         if pathlib.Path(name).read_bytes() != data:
             raise SystemExit("the file has changed")
 
@@ -123,7 +142,13 @@ def main():
     if os.geteuid() != 0:
         os.execvp("unshare", ["unshare", "--map-root-user", "--mount", sys.executable, *sys.argv])
     program = str(pathlib.Path(sys.argv[1]).resolve())
-    for case in [full_file_system, no_room_for_a_file, read_only, in_the_place_of_a_journal]:
+    for case in [
+        full_file_system,
+        no_room_for_a_file,
+        limit_on_the_size_of_files,
+        read_only,
+        in_the_place_of_a_journal,
+    ]:
         with tempfile.TemporaryDirectory() as place:
             case(program, place)
     print("every case as wanted, and nothing lost")

@@ -1,7 +1,14 @@
-"""Reads a journal of the built-in station, apart from the program: what the two scripts beside this file compare with."""
+"""Journals of the built-in station, read and written apart from the program: what the scripts beside this compare with."""
 import struct
 
 HEADER = b"STREAMOFFICE-J1\n"
+# The instant of the first reading that the scripts send, and the stage that they send where it doesn't matter.
+FIRST, STAGE = 1_704_430_800, 1_000_000
+
+
+def request(at, raw=STAGE):
+    """The request that puts a reading."""
+    return b"POST /first/%d/%d.%06d HTTP/1.1\r\nContent-Length: 0\r\n\r\n" % (at, raw // 1_000_000, raw % 1_000_000)
 
 
 class Damaged(Exception):

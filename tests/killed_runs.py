@@ -27,13 +27,9 @@ REPLY = b'{"edit":'
 READINGS = 4000
 
 
-def request(at, raw):
-    return b"POST /first/%d/%d.%06d HTTP/1.1\r\nContent-Length: 0\r\n\r\n" % (at, raw // 1_000_000, raw % 1_000_000)
-
-
 def readings(chance):
     """Instants and stages, in order of time."""
-    at = 1_704_430_800
+    at = journals.FIRST
     for _ in range(READINGS):
         at += chance.randrange(1, 900)
         yield at, chance.randrange(0, 9_000_000)
@@ -54,7 +50,7 @@ def killed_run(program, journal, chance):
     process = subprocess.Popen(
         [program, "batch", "--journal", journal], stdin=subprocess.PIPE, stdout=subprocess.PIPE
     )
-    data = b"".join(request(at, raw) for at, raw in sent)
+    data = b"".join(journals.request(at, raw) for at, raw in sent)
     feeder = threading.Thread(target=feed, args=(process.stdin, data))
     feeder.start()
     stopper = threading.Timer(chance.uniform(0.0, 0.25), process.kill)
@@ -77,7 +73,7 @@ def check(program, journal, sent, acknowledged):
     if more not in (0, 1):
         raise SystemExit(f"{acknowledged} edits were acknowledged, and {len(kept)} are kept")
     again = subprocess.run(
-        [program, "batch", "--journal", journal], input=request(1_704_430_800, 1_000_000), capture_output=True
+        [program, "batch", "--journal", journal], input=journals.request(journals.FIRST), capture_output=True
     )
     if again.returncode != 0 or REPLY + b"%d," % (len(kept) + 1) not in again.stdout:
         raise SystemExit(f"opened again: status {again.returncode}, {again.stdout!r}, {again.stderr!r}")

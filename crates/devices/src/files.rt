@@ -1,6 +1,6 @@
 //! Adapters: a file as a disk, and the system's files as a cabinet. They tell nothing of content, since no clause can
 //! say what a file has.
-ghost use Rattle.std.specs.Prelude.{◌≡◌, ◌≤◌, [], None};
+ghost use Rattle.std.specs.Prelude.{◌≡◌, ◌≤◌, [], true, None, Ok, IfOk, IsErr, OnErr};
 ghost use Rattle.devices.specs.Disks.{HasCause};
 ghost use Rattle.devices.specs.Files.{tells_nothing};
 
@@ -8,14 +8,19 @@ use crate::{Cabinet, Disk, DiskFailed, Opened};
 use std::fs::{File, OpenOptions};
 use std::io;
 use std::io::ErrorKind;
+use std::os::fd::AsRawFd;
 use std::os::unix::fs::FileExt;
 use std::path::Path;
 
-/// An open file as a disk, with its count of faults. It is closed where it is dropped.
+/// An open file as a disk, with its count of faults. It has the file's lock, and is closed where it is dropped.
+///
+/// After a sync that failed it fails each write and each sync. The system forgets such a failure: what has not reached
+/// the disk counts as written, and the next sync would answer `Ok` without it.
 #[derive(Drop)]
 pub struct FileDisk {
     file: File,
     faults: u64,
+    sync_failed: bool,
 }
 
 impl FileDisk {
@@ -27,8 +32,10 @@ impl FileDisk {
     }
 
     fn answer<T: Drop>(&mut self, outcome: io::Result<T>) -> Result<T, DiskFailed>
+        ensures done { IfOk outcome (λ value. (result ≡ Ok value) × (self.new ≡ self.old)) }
         ensures counted { self.old.faults ≤ self.new.faults }
         ensures cause { HasCause self.old.faults self.new.faults result }
+        ensures same_bar { self.new.sync_failed ≡ self.old.sync_failed }
     {
         match outcome {
             Ok(value) => Ok(value),
@@ -37,6 +44,30 @@ impl FileDisk {
                 Err(DiskFailed)
             }
         }
+    }
+
+    // A write, unless a sync has failed.
+    fn write_file(&self, at: u64, bytes: &[u8]) -> io::Result<()>
+        ensures barred { self.now.sync_failed ≡ true → IsErr result }
+    {
+        if self.sync_failed {
+            return Err(io::Error::from(ErrorKind::Other));
+        }
+        self.file.write_all_at(bytes, at)
+    }
+
+    // A sync, unless one has failed.
+    fn sync_file(&mut self) -> io::Result<()>
+        ensures barred { self.old.sync_failed ≡ true → IsErr result }
+        ensures bars { OnErr result (self.new.sync_failed ≡ true) }
+        ensures faults { self.new.faults ≡ self.old.faults }
+    {
+        if self.sync_failed {
+            return Err(io::Error::from(ErrorKind::Other));
+        }
+        let outcome = self.file.sync_data();
+        self.sync_failed = outcome.is_err();
+        outcome
     }
 }
 
@@ -70,17 +101,18 @@ impl Disk for FileDisk {
     }
 
     fn write_at(&mut self, at: u64, bytes: &[u8]) -> Result<(), DiskFailed> {
-        let outcome = self.file.write_all_at(bytes, at);
+        let outcome = self.write_file(at, bytes);
         self.answer(outcome)
     }
 
     fn sync(&mut self) -> Result<(), DiskFailed> {
-        let outcome = self.file.sync_data();
+        let outcome = self.sync_file();
         self.answer(outcome)
     }
 }
 
-/// The system's files as a cabinet: a name is a path.
+/// The system's files as a cabinet: a name is a path. A file that is open here can't be opened again, by this process or
+/// another that asks for its lock, and is opened as it is on the disk.
 #[derive(Drop)]
 pub struct FileCabinet {
     rt: HostRuntime,
@@ -112,7 +144,11 @@ impl Cabinet for FileCabinet {
 
     fn open(&mut self, name: &str, make: bool) -> Opened<FileDisk> {
         match open_file(&self.rt, name, make) {
-            Ok(file) => Opened::Disk(FileDisk { file, faults: 0 }),
+            Ok(file) => Opened::Disk(FileDisk {
+                file,
+                faults: 0,
+                sync_failed: false,
+            }),
             Err(error) if !make && error.kind() == ErrorKind::NotFound => Opened::Absent,
             Err(_) => {
                 self.faults = self.faults.saturating_add(1);
@@ -128,18 +164,36 @@ impl Cabinet for FileCabinet {
     }
 }
 
-// Where it may make the file it syncs the folder too, so that the name is there after a stop, also where an earlier
-// call made the file and failed then.
+// Takes the file's lock, which goes where the file is closed. Where it may make the file it syncs the folder too, so that
+// the name is there after a stop, also where an earlier call made the file and failed then.
 fn open_file(rt: &HostRuntime, name: &str, make: bool) -> io::Result<File> {
     let file = OpenOptions::new()
         .read(true)
         .write(true)
         .create(make)
         .open(rt, name)?;
+    // It has the number of a standard stream, and would get what is meant for that.
+    if file.as_raw_fd() <= 2 {
+        return Err(io::Error::from(ErrorKind::Other));
+    }
+    file.try_lock()?;
+    forget_pages(&file)?;
     if make {
         sync_folder(rt, name)?;
     }
     Ok(file)
+}
+
+// Has the system forget what it keeps of a file in memory, so that reads give what is on the disk. A sync that failed
+// in an earlier run may have left pages that count as written and are in memory alone; to write them again is not
+// enough, since a file system may have forgotten what else it owes the disk for them. Pages that are not written yet
+// are kept, so it syncs first.
+fn forget_pages(file: &File) -> io::Result<()> {
+    file.sync_data()?;
+    match libc::posix_fadvise(file.as_raw_fd(), 0, 0, libc::POSIX_FADV_DONTNEED) {
+        0 => Ok(()),
+        error => Err(io::Error::from_raw_os_error(error)),
+    }
 }
 
 fn sync_folder(rt: &HostRuntime, name: &str) -> io::Result<()> {

@@ -25,7 +25,9 @@ pub use memory_sink::MemorySink;
 pub use memory_source::MemorySource;
 pub use sinks::{Put, Sink, put_all};
 pub use sources::{Source, Took};
-pub use standard::{ReaderSource, StderrSink, StdinSource, StdoutSink, WriterSink};
+pub use standard::{
+    ReaderSource, StderrSink, StdinSource, StdoutSink, WriterSink, take_up_missing_streams,
+};
 
 #[cfg(test)]
 mod disk_tests;

@@ -5,8 +5,10 @@ ghost use Rattle.std.specs.Prelude.{◌≡◌, ◌≤◌, IfOk, length};
 ghost use Rattle.std.specs.Io.KnownBytes.{ReadConsumes, WriteAppends};
 
 use crate::{Put, Sink, Source, Took};
+use std::fs::File;
 use std::io;
 use std::io::{ErrorKind, Read, Stderr, Stdin, Stdout, Write};
+use std::os::fd::{AsRawFd, IntoRawFd};
 
 /// A reader as a source, with its counts of faults and ends.
 #[derive(Drop)]
@@ -32,6 +34,21 @@ pub type StdoutSink = WriterSink<Stdout>;
 
 /// The standard error.
 pub type StderrSink = WriterSink<Stderr>;
+
+/// Takes up the number of each standard stream that the program was started without, with a file that can be neither
+/// read nor written, for as long as the program runs. So a missing stream fails where it is used, and no file that is
+/// opened later becomes one. It is to be called before any file is opened.
+pub fn take_up_missing_streams(rt: &HostRuntime) {
+    for _ in 0..3 {
+        // A file gets the lowest number that is free.
+        match File::open(rt, "/") {
+            Ok(folder) if folder.as_raw_fd() <= 2 => {
+                let _number = folder.into_raw_fd();
+            }
+            _ => return,
+        }
+    }
+}
 
 impl<R: Read> ReaderSource<R> {
     /// A source that reads from this, with no fault so far.

@@ -11,11 +11,12 @@ mod top;
 mod words;
 
 use crate::top::run_office;
-use devices::{FileCabinet, StderrSink, StdinSource, StdoutSink};
+use devices::{FileCabinet, StderrSink, StdinSource, StdoutSink, take_up_missing_streams};
 use std::env;
 use std::process::ExitCode;
 
 fn main(rt: HostRuntime) -> ExitCode {
+    take_up_missing_streams(&rt);
     let mut input = StdinSource::new(rt.stdin());
     let mut output = StdoutSink::new(rt.stdout());
     let mut faults = StderrSink::new(rt.stderr());

@@ -1,0 +1,216 @@
+#!/usr/bin/env python3
+"""Runs every command to each of its statuses, and looks at all three standard streams.
+
+    python3 tests/statuses.py PROGRAM [--long]
+
+Each case states the status, what is on standard output, and the line on standard error; the script ends with status 1 at
+the first that differs. Standard streams that are closed, that can't be read or written, and a journal that another run
+has open are among the cases. It takes seconds; with --long also the status that comes after 2^36 bytes of input, which
+takes minutes.
+"""
+import os
+import pathlib
+import resource
+import subprocess
+import sys
+import tempfile
+
+import journals
+from journals import FIRST, STAGE, request
+
+USAGE = b"streamoffice: usage: init, batch, serve, stations or trial\n"
+INPUT_FAULT, OUTPUT_FAULT = b"streamoffice: input fault\n", b"streamoffice: output fault\n"
+DISK_FAULT = b"streamoffice: disk fault\n"
+NOT_A_JOURNAL, EXISTS = b"streamoffice: not a journal\n", b"streamoffice: journal exists\n"
+EMPTY = journals.HEADER + b"\0"
+ONE = journals.HEADER + journals.block(1, FIRST, STAGE) + b"\0"
+
+
+def reply(number):
+    body = b'{"edit":%d,"repeated":false}' % number
+    return b"HTTP/1.1 200 OK\r\nContent-Type: application/json\r\nContent-Length: %d\r\n\r\n%s" % (len(body), body)
+
+
+MALFORMED = b"HTTP/1.1 400 Bad Request\r\nContent-Type: application/json\r\nContent-Length: 20\r\n\r\n" b'{"code":"Malformed"}'
+
+
+class Place:
+    """A folder with a journal, where the program runs."""
+
+    def __init__(self, program, folder):
+        self.program, self.journal = program, pathlib.Path(folder, "journal")
+
+    def run(self, words, data=b"", before=None, **streams):
+        pipes = {"stdout": subprocess.PIPE, "stderr": subprocess.PIPE, **streams}
+        if "stdin" not in streams:
+            pipes["input"] = data
+        done = subprocess.run([self.program, *words], preexec_fn=before, timeout=60, **pipes)
+        return done.returncode, done.stdout or b"", done.stderr or b""
+
+    def on_journal(self, command, content, data=b"", before=None, **streams):
+        """Runs a command over a journal of this content, or over none."""
+        self.journal.unlink(missing_ok=True)
+        if content is not None:
+            self.journal.write_bytes(content)
+        return self.run([command, "--journal", str(self.journal)], data, before, **streams)
+
+    def content(self):
+        return self.journal.read_bytes() if self.journal.exists() else None
+
+
+def expect(what, wanted, got):
+    if wanted != got:
+        raise SystemExit(f"{what}:\n  wanted {wanted}\n  got    {got}")
+    print(f"{what}: {got[0] if isinstance(got, tuple) else 'as wanted'}")
+
+
+def usage(place):
+    name = str(place.journal)
+    for words in [
+        [],
+        ["init"],
+        ["batch"],
+        ["init", name],
+        ["init", "--journal"],
+        ["init", "--journal="],
+        ["init", "--journal", ""],
+        ["init", "--journal", "-j"],
+        ["init", "--journal", name, "--journal", name],
+        ["init", "--journal", name, "more"],
+        ["serve", "--journal", name],
+        ["--help"],
+        [b"init", b"--journal", b"\xff"],
+    ]:
+        expect(f"{words}", (1, b"", USAGE), place.run(words, request(FIRST)))
+        expect("    no journal is made", None, place.content())
+
+
+def ends(place):
+    """Each status of a command with its cause, and what the journal has then."""
+    replies = reply(1)
+    for what, command, before, data, wanted, after in [
+        ("init", "init", None, b"", (0, b"", b""), EMPTY),
+        ("init over a journal that was begun", "init", EMPTY[:9], b"", (0, b"", b""), EMPTY),
+        ("init over no edits", "init", EMPTY, b"", (8, b"", EXISTS), EMPTY),
+        ("init over an edit", "init", ONE, b"", (8, b"", EXISTS), ONE),
+        ("init over another file", "init", b"x" * 18, b"", (5, b"", NOT_A_JOURNAL), b"x" * 18),
+        ("batch of nothing", "batch", EMPTY, b"", (0, b"", b""), EMPTY),
+        ("batch of a reading", "batch", EMPTY, request(FIRST), (0, replies, b""), ONE),
+        ("batch on nothing", "batch", None, request(FIRST), (5, b"", NOT_A_JOURNAL), None),
+        ("batch on another file", "batch", b"x" * 18, request(FIRST), (5, b"", NOT_A_JOURNAL), b"x" * 18),
+        ("batch on a damaged one", "batch", ONE[:-1], request(FIRST), (5, b"", b"streamoffice: damaged at 58\n"), ONE[:-1]),
+        ("batch of no request", "batch", EMPTY, b"x", (9, MALFORMED, b"streamoffice: malformed at 0\n"), EMPTY),
+        (
+            "batch of a reading and no request",
+            "batch",
+            EMPTY,
+            request(FIRST) + b"x",
+            (9, replies + MALFORMED, b"streamoffice: malformed at %d\n" % len(request(FIRST))),
+            ONE,
+        ),
+    ]:
+        expect(what, wanted, place.on_journal(command, before, data))
+        expect("    what is left", after, place.content())
+
+
+def closed(*numbers):
+    return lambda: [os.close(number) for number in numbers]
+
+
+def closed_streams(place):
+    """What stands in for a closed stream fails where it is used, and never is the journal."""
+    for number in [0, 1, 2]:
+        expect(f"init, stream {number} closed", (0, b"", b""), place.on_journal("init", None, before=closed(number)))
+        expect("    what is left", EMPTY, place.content())
+    for number, wanted, after in [
+        (0, (2, b"", INPUT_FAULT), EMPTY),
+        (1, (3, b"", OUTPUT_FAULT), ONE),
+        (2, (0, reply(1), b""), ONE),
+    ]:
+        got = place.on_journal("batch", EMPTY, request(FIRST), before=closed(number))
+        expect(f"batch, stream {number} closed", wanted, got)
+        expect("    what is left", after, place.content())
+    expect("init, all closed", (0, b"", b""), place.on_journal("init", None, before=closed(0, 1, 2)))
+    expect("    what is left", EMPTY, place.content())
+    expect("batch, all closed", (2, b"", b""), place.on_journal("batch", EMPTY, before=closed(0, 1, 2)))
+    expect("    what is left", EMPTY, place.content())
+    got = place.on_journal("batch", b"x" * 18, before=closed(2))
+    expect("batch on another file, stream 2 closed", (5, b"", b""), got)
+    expect("    what is left", b"x" * 18, place.content())
+
+
+def failing_streams(place):
+    folder = os.open("/", os.O_RDONLY)
+    full = os.open("/dev/full", os.O_WRONLY)
+    reader, writer = os.pipe()
+    os.close(reader)
+    got = place.on_journal("batch", EMPTY, stdin=folder)
+    expect("batch, its input a folder", (2, b"", INPUT_FAULT), got)
+    got = place.on_journal("batch", EMPTY, request(FIRST), stdout=full)
+    expect("batch, its output full", (3, b"", OUTPUT_FAULT), got)
+    expect("    what is left", ONE, place.content())
+    got = place.on_journal("batch", EMPTY, request(FIRST), stdout=writer)
+    expect("batch, its output without a reader", (3, b"", OUTPUT_FAULT), got)
+    got = place.on_journal("batch", EMPTY, b"x", stderr=full)
+    expect("batch of no request, its errors full", (9, MALFORMED, b""), got)
+
+
+def another_run(place):
+    """A journal that another run has open is not touched."""
+    place.journal.write_bytes(EMPTY)
+    words = [place.program, "batch", "--journal", str(place.journal)]
+    with subprocess.Popen(words, stdin=subprocess.PIPE, stdout=subprocess.PIPE) as first:
+        first.stdin.write(request(FIRST))
+        first.stdin.flush()
+        first.stdout.read(len(reply(1)))
+        for command in ["init", "batch"]:
+            got = place.run([command, "--journal", str(place.journal)], request(FIRST))
+            expect(f"{command} beside another run", (4, b"", DISK_FAULT), got)
+            expect("    what is left", ONE, place.content())
+        first.stdin.write(request(FIRST + 60))
+        first.stdin.close()
+        expect("the first run goes on", reply(2), first.stdout.read())
+    got = place.run(["batch", "--journal", str(place.journal)], request(FIRST + 120))
+    expect("batch behind it", (0, reply(3), b""), got)
+
+
+def limit_memory():
+    resource.setrlimit(resource.RLIMIT_AS, (8 << 20, 8 << 20))
+
+
+def little_memory(place):
+    """A long journal where there is memory for few readings alone."""
+    records = b"".join(journals.block(number, FIRST + number, STAGE) for number in range(1, 400_001))
+    got = place.on_journal("batch", journals.HEADER + records + b"\0", request(FIRST), before=limit_memory)
+    expect("batch with little memory", (6, b"", b"streamoffice: out of memory\n"), got)
+
+
+def long_input(place):
+    place.journal.write_bytes(EMPTY)
+    words = [place.program, "batch", "--journal", str(place.journal)]
+    block, count = b"\n" * (1 << 20), 1 << 16
+    with subprocess.Popen(words, stdin=subprocess.PIPE, stdout=subprocess.PIPE, stderr=subprocess.PIPE) as long:
+        for _ in range(count):
+            long.stdin.write(block)
+        try:
+            long.stdin.write(b"\n")
+            long.stdin.close()
+        except BrokenPipeError:
+            pass
+        line = long.stderr.read()
+        expect("batch of 2^36 bytes and one", (10, b"", b"streamoffice: input too long\n"), (long.wait(), long.stdout.read(), line))
+
+
+def main():
+    if len(sys.argv) not in (2, 3):
+        raise SystemExit(__doc__)
+    program = str(pathlib.Path(sys.argv[1]).resolve())
+    cases = [usage, ends, closed_streams, failing_streams, another_run, little_memory]
+    for case in cases + [long_input] * ("--long" in sys.argv):
+        with tempfile.TemporaryDirectory() as folder:
+            case(Place(program, folder))
+    print("every status with its cause, and every line on its stream")
+
+
+if __name__ == "__main__":
+    main()

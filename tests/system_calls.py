@@ -1,0 +1,193 @@
+#!/usr/bin/env python3
+"""Watches the system calls of the program, and makes each of them fail in turn.
+
+    python3 tests/system_calls.py PROGRAM
+
+No clause can say what a file has, so this sees what the program asks of the system, by strace: that an edit is written
+and synced, and its gate then, before its reply goes out; how a journal is made and opened; and what is answered where one
+of these calls fails. Each case states the calls or the answers that are wanted; the script ends with status 1 at the
+first that differs. It says so where strace is missing. It takes some seconds.
+"""
+import pathlib
+import re
+import shutil
+import subprocess
+import sys
+import tempfile
+
+import journals
+from journals import FIRST, STAGE, request
+
+HEADER = len(journals.HEADER)
+RECORD = len(journals.block(1, FIRST, STAGE))
+FALSE, TRUE = '{"code":"JournalFault","in_doubt":false}', '{"code":"JournalFault","in_doubt":true}'
+DISK_FAULT = "streamoffice: disk fault\n"
+# What strace calls a call, and what it is called here. Reads of a file and questions about it are left out.
+WATCHED = {
+    "openat": "open",
+    "flock": "lock",
+    "fdatasync": "sync",
+    "fsync": "sync all",
+    "fadvise64": "forget",
+    "pwrite64": "write",
+    "write": "write",
+    "read": "read",
+    "close": "close",
+    "ftruncate": "cut",
+    "fallocate": "allocate",
+    "unlink": "remove",
+    "rename": "rename",
+}
+LINE = re.compile(r"(\w+)\((.*)\) += (-?\d+)")
+OPENING = ["open O_RDWR", "lock LOCK_EX|LOCK_NB", "sync", "forget POSIX_FADV_DONTNEED"]
+FOLDER = ["open folder O_RDONLY", "sync all folder", "close folder"]
+
+
+def edit(number):
+    """The calls of an edit: its record, with a closed gate behind it, and only then its gate; then its reply."""
+    gate = HEADER + (number - 1) * RECORD
+    return [f"write {RECORD} at {gate + 1}", "sync", f"write 1 at {gate}", "sync", "write output"]
+
+
+class Calls:
+    """A place with a journal, where the program runs under strace."""
+
+    def __init__(self, program, place):
+        self.program, self.folder, self.log = program, f"{place}/folder", f"{place}/calls"
+        self.journal = f"{self.folder}/journal"
+        pathlib.Path(self.folder).mkdir()
+
+    def run(self, command, count=0, *options, shell=()):
+        """The program's status, its replies' bodies and its line, for so many readings on its input."""
+        readings = b"".join(request(FIRST + n) for n in range(count))
+        words = ["strace", "-f", "-y", "-o", self.log, *options, *shell, self.program, command, "--journal", self.journal]
+        done = subprocess.run(words, input=readings, capture_output=True, timeout=60)
+        return done.returncode, re.findall(r"\{.*?\}", done.stdout.decode()), done.stderr.decode()
+
+    def seen(self):
+        """The watched calls of the journal, its folder and the standard streams, from the first on the journal on."""
+        calls = []
+        for line in pathlib.Path(self.log).read_text().splitlines():
+            found = LINE.search(line)
+            if found and found[1] in WATCHED:
+                calls.append(self.name(found[1], found[2], found[3]))
+        calls = [call for call in calls if call]
+        return calls[next(at for at, call in enumerate(calls) if call.startswith("open O_RDWR")) :]
+
+    def name(self, call, arguments, result):
+        words = arguments.replace("|O_NOCTTY", "").replace("|O_CLOEXEC", "").split(", ")
+        if f'"{self.journal}"' in arguments or f"<{self.journal}>" in arguments:
+            place = ""
+        elif f'"{self.folder}"' in arguments or f"<{self.folder}>" in arguments:
+            place = " folder"
+        elif call in ("read", "write") and words[0][:2] in ("0<", "1<", "2<"):
+            place = {"0": " input", "1": " output", "2": " line"}[words[0][0]]
+        else:
+            return None
+        details = {"openat": words[-1], "flock": words[-1], "fadvise64": words[-1], "ftruncate": words[-1]}.get(call, "")
+        if call == "openat":
+            details = words[2]
+        if call == "pwrite64":
+            details = f"{result} at {words[-1]}"
+        return " ".join(f"{WATCHED[call]}{place} {details}".split())
+
+
+def expect(what, wanted, got):
+    if wanted != got:
+        raise SystemExit(f"{what}:\n  wanted {wanted}\n  got    {got}")
+    print(what)
+
+
+def order_of_calls(calls):
+    expect("init ends", (0, [], ""), calls.run("init"))
+    making = ["open O_RDWR|O_CREAT", *OPENING[1:], *FOLDER]
+    expect("init: lock, folder, then the journal", [*making, f"write {HEADER + 1} at 0", "sync", "close"], calls.seen())
+    expect("init over it ends", (8, [], "streamoffice: journal exists\n"), calls.run("init"))
+    told = ["write line"]
+    expect("init over it writes nothing", [*making, "close", *told], calls.seen())
+    accepted = ['{"edit":1,"repeated":false}', '{"edit":2,"repeated":false}']
+    expect("batch ends", (0, accepted, ""), calls.run("batch", 2))
+    session = [*OPENING, "sync", "read input", *edit(1), *edit(2), "read input", "close"]
+    expect("batch: each edit is on the disk before its reply", session, calls.seen())
+    expect("batch with nothing to read ends", (0, [], ""), calls.run("batch"))
+    expect("batch with nothing to read writes nothing", [*OPENING, "sync", "read input", "close"], calls.seen())
+    pathlib.Path(calls.journal).write_bytes(b"another file of some length")
+    expect("batch on another file ends", (5, [], "streamoffice: not a journal\n"), calls.run("batch", 2))
+    expect("batch on another file writes nothing", [*OPENING, "sync", "close", *told], calls.seen())
+
+
+def fault(call, number, error="EIO"):
+    return f"--inject={call}:error={error}:when={number}"
+
+
+def faults_of_init(calls):
+    for call in ["openat", "flock", "fdatasync", "fadvise64", "fsync", "pwrite64"]:
+        pathlib.Path(calls.journal).unlink(missing_ok=True)
+        expect(f"init where {call} fails", (4, [], DISK_FAULT), calls.run("init", 0, *on(calls), fault(call, 1)))
+    pathlib.Path(calls.journal).unlink(missing_ok=True)
+    expect("init where the second fdatasync fails", (4, [], DISK_FAULT), calls.run("init", 0, *on(calls), fault("fdatasync", 2)))
+
+
+def on(calls):
+    """That only calls of the journal and its folder fail."""
+    return ["-P", calls.journal, "-P", calls.folder]
+
+
+def faults_of_batch(calls):
+    accepted = ['{"edit":%d,"repeated":false}' % number for number in range(1, 5)]
+    for call, number, wanted in [
+        ("openat", 1, None),
+        ("flock", 1, None),
+        ("fdatasync", 1, None),
+        ("fadvise64", 1, None),
+        ("fdatasync", 2, None),
+        ("statx", 1, None),
+        ("pread64", 1, None),
+        # A write that failed stops nothing where the gate is closed for sure.
+        ("pwrite64", 1, [FALSE, *accepted[:3]]),
+        ("pwrite64", 3, [accepted[0], FALSE, *accepted[1:3]]),
+        ("pwrite64", 4, [accepted[0], TRUE, TRUE, TRUE]),
+        # After a sync that failed nothing is written any more in this run.
+        ("fdatasync", 3, [FALSE] * 4),
+        ("fdatasync", 5, [accepted[0], *[FALSE] * 3]),
+        ("fdatasync", 6, [accepted[0], *[TRUE] * 3]),
+    ]:
+        pathlib.Path(calls.journal).write_bytes(journals.HEADER + b"\0")
+        ended = (4, [], DISK_FAULT) if wanted is None else (0, wanted, "")
+        expect(f"batch where {call} fails, time {number}", ended, calls.run("batch", 4, *on(calls), fault(call, number)))
+        if call == "fdatasync" and wanted:
+            writes = pathlib.Path(calls.log).read_text().count("pwrite64")
+            expect("    and nothing is written after it", number - 2, writes)
+        kept, _ = journals.read(pathlib.Path(calls.journal).read_bytes())
+        numbers = [reply for reply in wanted or [] if "edit" in reply]
+        if len(kept) < len(numbers) or len(kept) > len(numbers) + 1:
+            raise SystemExit(f"{len(numbers)} edits were acknowledged, and {len(kept)} are kept")
+
+
+def streams_that_are_not_taken_up(calls):
+    """A journal is never a standard stream, not even where the root folder, which would stand in, can't be opened."""
+    for redirection in ["<&-", ">&-", "2>&-"]:
+        shell = ["sh", "-c", f'exec "$@" {redirection}', "sh"]
+        for command, content in [("init", b""), ("batch", journals.HEADER + b"\0")]:
+            pathlib.Path(calls.journal).write_bytes(content)
+            options = ["-P", "/", "--inject=openat:error=EACCES"]
+            status, replies, _ = calls.run(command, 2, *options, shell=shell)
+            expect(f"{command} {redirection}, which nothing stands in for", (4, []), (status, replies))
+            expect("    what is left", content, pathlib.Path(calls.journal).read_bytes())
+
+
+def main():
+    if len(sys.argv) != 2:
+        raise SystemExit(__doc__)
+    if not shutil.which("strace"):
+        print("can't run here: strace is missing")
+        return
+    program = str(pathlib.Path(sys.argv[1]).resolve())
+    for case in [order_of_calls, faults_of_init, faults_of_batch, streams_that_are_not_taken_up]:
+        with tempfile.TemporaryDirectory() as place:
+            case(Calls(program, pathlib.Path(place).resolve()))
+    print("every call in its order, and every fault told")
+
+
+if __name__ == "__main__":
+    main()

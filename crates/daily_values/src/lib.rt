@@ -9,6 +9,3 @@ pub mod sums;
 pub use day_inputs::{DayInputs, DayParts, ReadingList};
 pub use day_values::{DayValue, Figures, compute};
 pub use sums::Sum;
-
-#[cfg(test)]
-mod tests;

@@ -28,8 +28,3 @@ pub use sources::{Source, Took};
 pub use standard::{
     ReaderSource, StderrSink, StdinSource, StdoutSink, WriterSink, take_up_missing_streams,
 };
-
-#[cfg(test)]
-mod disk_tests;
-#[cfg(test)]
-mod tests;

@@ -1,11 +1,13 @@
 //! What no clause says: that the rules are the ones meant, by values worked out by hand.
 
 use fixed_units::decimals::{Bad, read_decimal};
+use fixed_units::lines::{line_at, lines_meet_their_ends};
 use fixed_units::published::{
-    Published, publish, published_texts_differ, published_value_is_unique, write_hundredths,
-    write_micro, write_published, written_values_are_read,
+    Published, publish, published_texts_differ, published_values, write_hundredths, write_micro,
+    write_published, written_values_are_read,
 };
-use fixed_units::quantities::{Day, Micro, Second, Site};
+use fixed_units::quantities::{Day, Micro, Second, Site, sites_are_in_order};
+use fixed_units::ranges::{is_amount, is_discharge, is_stage, is_stamp};
 use fixed_units::rounding::{div_half_away, round_is_rounded, rounding_is_unique};
 use fixed_units::rounding_array::RoundingArray;
 use fixed_units::texts::{NoMemory, Text};
@@ -120,7 +122,7 @@ fn values_are_published(rt: HostRuntime) {
             "{num} / {den} by {array}"
         );
     }
-    published_value_is_unique();
+    published_values();
     published_texts_differ();
 }
 
@@ -242,6 +244,55 @@ fn ranges_end_where_they_say(rt: HostRuntime) {
     ] {
         assert_eq!(rt; Day::new(value).map(Day::get), inside.then_some(value));
     }
+}
+
+#[test]
+fn tests_of_ranges_end_where_they_say(rt: HostRuntime) {
+    for (value, inside) in [
+        (-2_208_816_001, false),
+        (-2_208_816_000, true),
+        (4_102_185_599, true),
+        (4_102_185_600, false),
+    ] {
+        assert_eq!(rt; is_stamp(value), inside);
+    }
+    for (value, inside) in [
+        (-100_000_000_001, false),
+        (-100_000_000_000, true),
+        (100_000_000_000, true),
+        (100_000_000_001, false),
+    ] {
+        assert_eq!(rt; is_stage(value), inside);
+    }
+    for (value, inside) in [
+        (-1, false),
+        (0, true),
+        (10_000_000_000_000, true),
+        (10_000_000_000_001, false),
+    ] {
+        assert_eq!(rt; is_discharge(value), inside);
+    }
+    for (value, inside) in [
+        (-1_000_000_001, false),
+        (-1_000_000_000, true),
+        (1_000_000_000, true),
+        (1_000_000_001, false),
+    ] {
+        assert_eq!(rt; is_amount(value), inside);
+    }
+}
+
+#[test]
+fn a_line_is_rounded_once(rt: HostRuntime) {
+    let (low, high) = (
+        Micro::new(-1).expect(&rt, "a quantity"),
+        Micro::new(2).expect(&rt, "a quantity"),
+    );
+    for (x, want) in [(0, -1), (1, 0), (2, 1), (3, 1), (4, 2)] {
+        assert_eq!(rt; line_at((0, low), (4, high), x).get(), want);
+    }
+    lines_meet_their_ends();
+    sites_are_in_order();
 }
 
 #[test]

@@ -21,6 +21,3 @@ pub use readings::{Flag, Reading};
 pub use rounding::div_half_away;
 pub use rounding_array::RoundingArray;
 pub use texts::{NoMemory, Text};
-
-#[cfg(test)]
-mod tests;

@@ -6,6 +6,3 @@ pub mod replies;
 
 pub use asks::{Ask, Denied, read_ask};
 pub use replies::{Reply, reply_text, write_reply};
-
-#[cfg(test)]
-mod tests;

@@ -11,9 +11,6 @@ pub mod offices;
 mod opening;
 pub mod station;
 pub mod station_state;
-#[cfg(test)]
-mod tests;
-
 pub use limits::Limits;
 pub use offices::{Office, Refusal};
 pub use station_state::{Answer, StationState};

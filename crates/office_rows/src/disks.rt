@@ -148,6 +148,23 @@ fn a_cabinet_of_files(rt: HostRuntime) -> Result<(), Fail> {
     Ok(())
 }
 
+const LOCKED: &str = "rows_lock";
+
+#[test]
+fn a_file_is_open_once(rt: HostRuntime) -> Result<(), Fail> {
+    let mut cabinet = FileCabinet::new(rt);
+    let Opened::Disk(disk) = cabinet.open(LOCKED, true) else {
+        return Err(Fail::new("no file was made"));
+    };
+    assert!(rt; matches!(cabinet.open(LOCKED, true), Opened::Failed));
+    assert!(rt; matches!(cabinet.open(LOCKED, false), Opened::Failed));
+    assert_eq!(rt; cabinet.fault_count(), 2);
+    cabinet.keep(LOCKED, disk);
+    assert!(rt; matches!(cabinet.open(LOCKED, false), Opened::Disk(_)));
+    fs::remove_file(&rt, LOCKED)?;
+    Ok(())
+}
+
 const FILE: &str = "rows_disk";
 
 #[test]

@@ -4,6 +4,7 @@ ghost use Rattle.std.specs.Prelude.{◌≡◌, ◌+◌, ◌^◌, ◌<◌, ◌≤
 ghost use Rattle.fixed_units.specs.Quantities.{IsStage, IsStamp};
 ghost use Rattle.records.specs.Edits.{IsWhat};
 
+use crate::fixtures::reading;
 use office::from_scratch::changed_days;
 use office::{Answer, Limits, Office, Refusal};
 use daily_values::DayValue;
@@ -16,18 +17,6 @@ use std::test::Fail;
 
 /// A journal of no records.
 const EMPTY_JOURNAL: &[u8] = b"STREAMOFFICE-J1\n\0";
-
-/// A reading of so many millionths of a foot.
-fn reading(rt: &impl Abort, at: i64, millionths: i64) -> What
-    requires stamp { IsStamp at }
-    requires stage { IsStage millionths }
-    ensures { IsWhat result }
-{
-    What::PutReadings {
-        at: Second::new(at).expect(rt, "an instant"),
-        raw: Micro::new(millionths).expect(rt, "a stage"),
-    }
-}
 
 /// An office on a journal of no records that may have so many bytes, on a disk whose call of this number fails.
 fn office(rt: &HostRuntime, journal_bytes: u64, failing: u64) -> Result<Office<MemoryDisk>, Fail>

@@ -7,6 +7,8 @@ mod disks;
 #[cfg(test)]
 mod edits;
 #[cfg(test)]
+mod fixtures;
+#[cfg(test)]
 mod journals;
 #[cfg(test)]
 mod payloads;

@@ -1,14 +1,14 @@
 //! What no clause says: that the bytes are the ones meant, by records written out by hand, and that the calls succeed.
 
-use crate::drafts::{is_stage, is_stamp, what_from};
-use crate::edits::{By, Record, Ref, What};
-use crate::first_path::{is_numbered, record_of};
-use crate::laws::{
+use records::first_path::{is_numbered, record_of};
+use records::laws::{
     built_in_keeps_grammar, keeps_grammar, none_begins_another, payload_of_one_record, sizes,
 };
-use crate::payloads::{DecodeFault, decode, encode};
-use fixed_units::Text;
+use crate::fixtures::reading;
+use fixed_units::{Text, is_stage, is_stamp};
+use records::{By, DecodeFault, Record, Ref, What, decode, encode};
 use std::alloc::Global;
+use std::process::Abort;
 use std::test::Fail;
 
 /// The payload of the reading of 1.00 feet at 2024-01-05T05:00:00Z, the second edit.
@@ -23,11 +23,17 @@ fn text_of(alloc: Global, bytes: &[u8]) -> Result<Text, Fail> {
     }
 }
 
-fn record(alloc: Global, number: u64, at: i64, raw: i64) -> Result<Record, Fail> {
+fn record(
+    rt: &impl Abort,
+    alloc: Global,
+    number: u64,
+    at: i64,
+    raw: i64,
+) -> Result<Record, Fail> {
     if number == 0 || !is_stamp(at) || !is_stage(raw) {
         return Err("an edit of the first path is meant".into());
     }
-    match record_of(alloc, number, what_from(at, raw)) {
+    match record_of(alloc, number, reading(rt, at, raw)) {
         Ok(piece) => Ok(piece),
         Err(_) => Err("there is memory for a record".into()),
     }
@@ -97,7 +103,7 @@ fn records_are_written_and_read(rt: HostRuntime) -> Result<(), Fail> {
         ),
     ];
     for (number, at, raw, want) in rows {
-        let piece = record(rt.alloc(), number, at, raw)?;
+        let piece = record(&rt, rt.alloc(), number, at, raw)?;
         keeps_grammar(&piece);
         let text = encode(rt.alloc(), &piece)
             .ok()

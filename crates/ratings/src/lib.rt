@@ -16,6 +16,3 @@ pub use periods::Periods;
 pub use rdb::{RdbFault, read_rdb};
 pub use rising::NoEntry;
 pub use table::{LEAST_ROWS, MOST_ROWS, Rated, Table, TableFault};
-
-#[cfg(test)]
-mod tests;

@@ -2,8 +2,5 @@
 #![tactic(auto)]
 
 pub mod lists;
-#[cfg(test)]
-mod tests;
-
 pub use fixed_units::{Flag, Reading};
 pub use lists::{Place, Readings, Window};

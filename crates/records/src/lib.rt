@@ -11,6 +11,3 @@ mod writing;
 
 pub use edits::{By, Edit, Record, Ref, What};
 pub use payloads::{DecodeFault, decode, encode};
-
-#[cfg(test)]
-mod tests;

@@ -10,6 +10,3 @@ pub mod replies;
 pub use incoming::Incoming;
 pub use messages::{Message, Verb};
 pub use replies::{Kind, MALFORMED_REPLY, NO_MEMORY_REPLY, write_head};
-
-#[cfg(test)]
-mod tests;

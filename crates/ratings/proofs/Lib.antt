@@ -1,3 +1,4 @@
+pub mod Ends
 pub mod FieldLemmas
 pub mod LineTextLemmas
 pub mod PeriodLawLemmas

@@ -12,7 +12,7 @@ use Rattle.rising.proofs.Selecting.{filter_none, AllPairs-head, AllPairs-tail, A
 use Rattle.rising.proofs.Parting.{lt_yes, lt_no, after_is_after}
 use Rattle.rising.proofs.Placing.{before_is_before, put_rises, without_rises, put_keeps, without_keeps}
 use Rattle.ratings.specs.Spans.{Span}
-use Rattle.ratings.proofs.TableLemmas.{last_behind}
+use Rattle.ratings.proofs.Ends.{last_behind}
 use Rattle.ratings.specs.Periods.{AreApart, begin, overlap, share, stands_in_the_way, is_before_end, is_in_force}
 
 abbrev pub IsEarlier : Span → Span → Type 0

@@ -10,8 +10,9 @@ use Rattle.rising.proofs.Parting.{lt_yes, lt_no, le_yes, le_no}
 use Rattle.fixed_units.specs.Lines.{line_at}
 use Rattle.ratings.specs.Table.{Row, IsTable, stage_of, stage_between, rows_short, last, first, turned}
 use Rattle.ratings.specs.RatedDischarge.{IsFirstOf, IsInside, IsStageOf}
-use Rattle.ratings.proofs.TableLemmas.{IsNoMore, last_behind}
-use Rattle.ratings.proofs.TableLawLemmas.{front_of, back_of, last_at_end, last_split, parts}
+use Rattle.ratings.proofs.TableLemmas.{IsNoMore}
+use Rattle.ratings.proofs.Ends.{last_behind}
+use Rattle.ratings.proofs.TableLawLemmas.{front_of, back_of, last_at_end, last_split, parts, behind_row, first_two}
 
 -- the rows around a discharge
 abbrev IsShort : ℤ → Row → Type 0
@@ -93,7 +94,7 @@ stage_by_cases rows discharge None h (inl k) = below_all rows discharge h k
 stage_by_cases rows discharge None h (inr k) = above_all rows discharge h k
 stage_by_cases rows discharge (Some stage) h (inl k) = first_stage rows k.front (stage, discharge) k.back h k.whole k.first
 stage_by_cases rows discharge (Some stage) h (inr k) =
-    between_stage rows k.neighbours.front k.neighbours.back k.lower k.upper discharge h k.neighbours.whole k.above k.below ∙ ap (λ (s : ℤ). Some s) (sym k.line)
+    between_stage rows k.0.front k.0.back k.0.lower k.0.upper discharge h k.0.neighbours k.0.above k.0.below ∙ ap (λ (s : ℤ). Some s) (sym k.1)
 
 -- and something stands by cases
 abbrev AtOrAbove : List Row → ℤ → Type 0
@@ -110,18 +111,7 @@ lifted r s rows discharge h (inl (stage, inl k)) =
         first = All-cons (λ x. x.1 ≢ discharge) r k.front (λ e. omega (arith, ints)) k.first;
       }),
     )
-lifted r s rows discharge h (inl (stage, inr k)) =
-    inl (
-      stage,
-      inr (record {
-        lower = k.lower;
-        upper = k.upper;
-        neighbours = record { front = r ∷ k.neighbours.front; back = k.neighbours.back; whole = ap (λ l. r ∷ l) k.neighbours.whole };
-        above = k.above;
-        below = k.below;
-        line = k.line;
-      }),
-    )
+lifted r s rows discharge h (inl (stage, inr k)) = inl (stage, inr (behind_row (λ x. x.1) r (s ∷ rows) discharge k.0, k.1))
 lifted r s rows discharge h (inr k) = inr (subst (λ (o : Option Row). IsSomeAnd o (λ r. r.1 <ℤ discharge)) (sym (last_behind r s rows)) k)
 
 here : (r : Row) (rows : List Row) (discharge : ℤ) → r.1 ≡ discharge → AtOrAbove (r ∷ rows) discharge
@@ -134,17 +124,7 @@ at_or_above r [] discharge h = by_lt_z r.1 discharge (λ k. inr k) (λ k. here r
 at_or_above r (s ∷ rows) discharge h =
     by_lt_z r.1 discharge
     (λ k. by_lt_z discharge s.1
-    (λ m. inl (
-      line_at (turned r) (turned s) discharge,
-      inr (record {
-        lower = r;
-        upper = s;
-        neighbours = record { front = []; back = rows; whole = refl };
-        above = k;
-        below = m;
-        line = refl;
-      }),
-    ))
+    (λ m. inl (line_at (turned r) (turned s) discharge, inr (first_two (λ x. x.1) r s rows discharge k m, refl)))
     (λ m. lifted r s rows discharge k (at_or_above s rows discharge m)))
     (λ k. here r (s ∷ rows) discharge (omega (arith, ints)))
 

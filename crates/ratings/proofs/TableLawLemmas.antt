@@ -14,8 +14,9 @@ use Rattle.fixed_units.proofs.LineLemmas.{line-first, line-last}
 use Rattle.ratings.specs.declared.table.Rated.{Rated}
 use Rattle.ratings.specs.declared.table.Rated.TheVariants.{Value, Below, Above}
 use Rattle.ratings.specs.Table.{Row, IsTable, rated, rated_between, rows_upto, last, first}
-use Rattle.ratings.specs.RatedDischarge.{IsRated}
-use Rattle.ratings.proofs.TableLemmas.{IsBelow, last_behind}
+use Rattle.ratings.specs.RatedDischarge.{IsBetween, IsRated}
+use Rattle.ratings.proofs.TableLemmas.{IsBelow}
+use Rattle.ratings.proofs.Ends.{last_behind}
 
 -- the rows in front of one, and those behind it
 pub front_of : (R : Row → Row → Type 0) (front : List Row) (r : Row) (back : List Row) → AllPairs R (front ++ r ∷ back) → All (λ x. R x r) front
@@ -159,7 +160,15 @@ rated_by_cases rows stage Above h k = above_rated rows stage h k
 rated_by_cases rows stage (Value discharge) h (inl k) =
     let split = contained_split rows (stage, discharge) k in row_rated rows split.0 split.1 (stage, discharge) h split.2
 rated_by_cases rows stage (Value discharge) h (inr k) =
-    within_rated rows k.neighbours.front k.neighbours.back k.lower k.upper stage h k.neighbours.whole k.above k.below ∙ ap Value (sym k.line)
+    within_rated rows k.0.front k.0.back k.0.lower k.0.upper stage h k.0.neighbours k.0.above k.0.below ∙ ap Value (sym k.1)
+
+-- two rows around a number are so behind another row too
+abbrev pub behind_row : (number : Row → ℤ) (r : Row) (rows : List Row) (at : ℤ) → IsBetween number rows at → IsBetween number (r ∷ rows) at
+behind_row number r rows at h =
+    record { front = r ∷ h.front; lower = h.lower; upper = h.upper; back = h.back; neighbours = ap (λ l. r ∷ l) h.neighbours; above = h.above; below = h.below }
+
+abbrev pub first_two : (number : Row → ℤ) (r s : Row) (rows : List Row) (at : ℤ) → number r <ℤ at → at <ℤ number s → IsBetween number (r ∷ s ∷ rows) at
+first_two number r s rows at low high = record { front = []; lower = r; upper = s; back = rows; neighbours = refl; above = low; below = high }
 
 -- and something stands by cases
 abbrev OnOrAbove : List Row → ℤ → Type 0
@@ -167,18 +176,7 @@ OnOrAbove rows stage = ((discharge : ℤ) × IsRated rows stage (Value discharge
 
 lifted : (r s : Row) (rows : List Row) (stage : ℤ) → OnOrAbove (s ∷ rows) stage → OnOrAbove (r ∷ s ∷ rows) stage
 lifted r s rows stage (inl (discharge, inl k)) = inl (discharge, inl (Contains-append_right (r ∷ []) (s ∷ rows) (stage, discharge) k))
-lifted r s rows stage (inl (discharge, inr k)) =
-    inl (
-      discharge,
-      inr (record {
-        lower = k.lower;
-        upper = k.upper;
-        neighbours = record { front = r ∷ k.neighbours.front; back = k.neighbours.back; whole = ap (λ l. r ∷ l) k.neighbours.whole };
-        above = k.above;
-        below = k.below;
-        line = k.line;
-      }),
-    )
+lifted r s rows stage (inl (discharge, inr k)) = inl (discharge, inr (behind_row (λ x. x.0) r (s ∷ rows) stage k.0, k.1))
 lifted r s rows stage (inr k) = inr (subst (λ (o : Option Row). IsSomeAnd o (λ r. r.0 <ℤ stage)) (sym (last_behind r s rows)) k)
 
 here : (r : Row) (rows : List Row) (stage : ℤ) → r.0 ≡ stage → OnOrAbove (r ∷ rows) stage
@@ -191,17 +189,7 @@ on_or_above r [] stage h = by_lt_z r.0 stage (λ k. inr k) (λ k. here r [] stag
 on_or_above r (s ∷ rows) stage h =
     by_lt_z r.0 stage
     (λ k. by_lt_z stage s.0
-    (λ m. inl (
-      line_at r s stage,
-      inr (record {
-        lower = r;
-        upper = s;
-        neighbours = record { front = []; back = rows; whole = refl };
-        above = k;
-        below = m;
-        line = refl;
-      }),
-    ))
+    (λ m. inl (line_at r s stage, inr (first_two (λ x. x.0) r s rows stage k m, refl)))
     (λ m. lifted r s rows stage (on_or_above s rows stage m)))
     (λ k. here r (s ∷ rows) stage (omega (arith, ints)))
 

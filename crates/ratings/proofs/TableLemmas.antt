@@ -146,9 +146,3 @@ fault_passed i rows r s h k e f none =
     order_at i rows r s h k ∙ ap (λ (t : Row). or_else (fault_behind i t (get_or rows i s)) (order_fault i (drop i rows))) (sym e)
     ∙ ap (λ (t : Row). or_else (fault_behind i r t) (order_fault i (drop i rows))) (sym f)
     ∙ ap (λ o. or_else o (order_fault i (drop i rows))) none
-
--- the last of a list of two or more
-pub last_behind : {X : Type 0} (x y : X) (xs : List X) → slice_get (x ∷ y ∷ xs) (length (x ∷ y ∷ xs) - 1) ≡ slice_get (y ∷ xs) (length (y ∷ xs) - 1)
-last_behind x y xs =
-    let e : length (x ∷ y ∷ xs) - 1 ≡ suc (length (y ∷ xs) - 1) = omega arith in
-    rw e refl

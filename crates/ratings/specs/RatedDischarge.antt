@@ -5,27 +5,26 @@ use Rattle.ratings.specs.declared.table.Rated.{Rated}
 use Rattle.ratings.specs.declared.table.Rated.TheVariants.{Value, Below, Above}
 use Rattle.ratings.specs.Table.{Row, first, last, turned}
 
--- two rows of which one follows the other
-pub record AreNeighbours (rows : List Row) (lower upper : Row) : Type 0 where
+-- two rows of which one follows the other, and a number between those of their stages or discharges
+pub record IsBetween (number : Row → ℤ) (rows : List Row) (at : ℤ) : Type 0 where
   pub front : List Row
-  pub back : List Row
-  pub whole : rows ≡ front ++ lower ∷ upper ∷ back
-
--- a stage between two neighbouring rows, and what their line has there
-pub record IsBetweenStages (rows : List Row) (stage discharge : ℤ) : Type 0 where
   pub lower : Row
   pub upper : Row
-  pub neighbours : AreNeighbours rows lower upper
-  pub above : lower.0 <ℤ stage
-  pub below : stage <ℤ upper.0
-  pub line : discharge ≡ line_at lower upper stage
+  pub back : List Row
+  pub neighbours : rows ≡ front ++ lower ∷ upper ∷ back
+  pub above : number lower <ℤ at
+  pub below : at <ℤ number upper
+
+-- a stage between two rows, and what their line has there
+abbrev pub IsOnLine : List Row → ℤ → ℤ → Type 0
+IsOnLine rows stage discharge = (around : IsBetween (λ r. r.0) rows stage) × (discharge ≡ line_at around.lower around.upper stage)
 
 -- the rated discharge of a stage: there is none below the first row and none above the last one, on a row it is that
 -- row's, and between two rows it is the line's
 abbrev pub IsRated : List Row → ℤ → Rated → Type 0
 IsRated rows stage Below = IsSomeAnd (first rows) (λ r. stage <ℤ r.0)
 IsRated rows stage Above = IsSomeAnd (last rows) (λ r. r.0 <ℤ stage)
-IsRated rows stage (Value discharge) = Contains rows (stage, discharge) ⊎ IsBetweenStages rows stage discharge
+IsRated rows stage (Value discharge) = Contains rows (stage, discharge) ⊎ IsOnLine rows stage discharge
 
 -- the first row of a discharge stands at a stage
 pub record IsFirstOf (rows : List Row) (discharge stage : ℤ) : Type 0 where
@@ -34,14 +33,10 @@ pub record IsFirstOf (rows : List Row) (discharge stage : ℤ) : Type 0 where
   pub whole : rows ≡ front ++ (stage, discharge) ∷ back
   pub first : All (λ r. r.1 ≢ discharge) front
 
--- a discharge between those of two neighbouring rows, and what their line, read the other way round, has there
-pub record IsBetweenDischarges (rows : List Row) (discharge stage : ℤ) : Type 0 where
-  pub lower : Row
-  pub upper : Row
-  pub neighbours : AreNeighbours rows lower upper
-  pub above : lower.1 <ℤ discharge
-  pub below : discharge <ℤ upper.1
-  pub line : stage ≡ line_at (turned lower) (turned upper) discharge
+-- a discharge between those of two rows, and what their line, read the other way round, has there
+abbrev pub IsOnTurnedLine : List Row → ℤ → ℤ → Type 0
+IsOnTurnedLine rows discharge stage =
+    (around : IsBetween (λ r. r.1) rows discharge) × (stage ≡ line_at (turned around.lower) (turned around.upper) discharge)
 
 -- a discharge from the first row's to the last row's, and one outside them
 pub record IsInside (rows : List Row) (discharge : ℤ) : Type 0 where
@@ -55,4 +50,4 @@ IsOutside rows discharge = IsSomeAnd (first rows) (λ r. discharge <ℤ r.1) ⊎
 -- this discharge, or the line's between two rows
 abbrev pub IsStageOf : List Row → ℤ → Option ℤ → Type 0
 IsStageOf rows discharge None = IsOutside rows discharge
-IsStageOf rows discharge (Some stage) = IsFirstOf rows discharge stage ⊎ IsBetweenDischarges rows discharge stage
+IsStageOf rows discharge (Some stage) = IsFirstOf rows discharge stage ⊎ IsOnTurnedLine rows discharge stage

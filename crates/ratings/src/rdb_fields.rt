@@ -1,4 +1,7 @@
-//! The fields of a line of an RDB text: what tabs part.
+//! The fields of a line of an RDB text: what tabs part, which is what `csv` states for the line.
+//!
+//! They are read in place. A reader of `csv` takes memory for each line, and where it found none a fault of the line
+//! could not be told.
 
 ghost use Rattle.std.specs.Prelude.{◌≡◌, ◌≢◌, ◌<◌, ◌∷◌, ⊤, length, option_map, All, MatchOption};
 ghost use Rattle.csv.specs.Records.{field_at};

@@ -1,5 +1,5 @@
 -- Where the amounts of the curves are within 1,000 feet, so are the values of curves and series.
-use Rattle.std.specs.Prelude.{◌≡◌, Bool, true, false, List, ◌^◌, ℤ, pos, neg_ℤ, ◌+ℤ◌, ◌-ℤ◌, ◌*ℤ◌, ◌≤ℤ◌, ◌<ℤ◌, int_lt, int_le, Option, Some, None, IfSome, All}
+use Rattle.std.specs.Prelude.{◌≡◌, Bool, true, false, List, ℤ, pos, neg_ℤ, ◌≤ℤ◌, ◌<ℤ◌, int_lt, int_le, Option, Some, None, IfSome, All}
 use Rattle.std.proofs.Common.{arith, refl}
 use Rattle.std.proofs.lemmas.Int.{ints}
 use Rattle.std.proofs.lemmas.List.Elements.{All-filter}

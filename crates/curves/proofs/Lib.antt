@@ -1,4 +1,5 @@
 pub mod AmountLemmas
+pub mod BearingCases
 pub mod BearingLemmas
 pub mod BearingRuns
 pub mod CaseLemmas

@@ -1,6 +1,6 @@
 -- Series: entries of an instant, a curve and a mark, and the amount in force at an instant. That each entry has
 -- its own mark, ends only where the next one stands, and is prorated with a second rounding is this project's choice.
-use Rattle.std.specs.Prelude.{◌≡◌, Bool, true, false, List, [], ◌∷◌, ◌++◌, filter, ℤ, pos, int_lt, int_le, ◌+ℤ◌, ◌-ℤ◌, ◌*ℤ◌, ◌≤ℤ◌, ◌<ℤ◌, if◌then◌else◌, Option, Some, None, is_some, All}
+use Rattle.std.specs.Prelude.{◌≡◌, Bool, true, false, List, [], ◌∷◌, ◌++◌, ℤ, pos, ◌≤ℤ◌, ◌<ℤ◌, if◌then◌else◌, Option, Some, None, is_some, All}
 use Rattle.rising.specs.Lists as lists
 use Rattle.fixed_units.specs.Lines.{line_at}
 use Rattle.fixed_units.specs.Quantities.{IsAmount}

@@ -6,13 +6,11 @@ use Rattle.std.proofs.lemmas.Int.{ints}
 use Rattle.std.proofs.lemmas.List.{append-nil}
 use Rattle.std.proofs.lemmas.List.Elements.{All-cons, All-nil, All-weaker}
 use Rattle.fixed_units.specs.declared.readings.Reading.{Reading}
-use Rattle.readings.specs.Readings.{IsRising, instant_of, before_instant, after_instant, from_instant, at_instant, put, is_used}
-use Rattle.rising.proofs.Parting.{IsAfter, lt_yes, lt_no, le_yes, le_no, yes_lt, yes_le, after_is_after}
+use Rattle.readings.specs.Readings.{IsRising, instant_of, before_instant, after_instant, at_instant, put}
+use Rattle.rising.proofs.Parting.{IsAfter, after_is_after}
 use Rattle.rising.proofs.Placing.{IsBefore, IsFrom, before_is_before}
-use Rattle.rising.proofs.Splitting.{IsAt, IsAbout, whole, about, rest_rises, rest_is_later}
-use Rattle.rising.proofs.Selecting.{filter_none, filter_both, All-front, All-back, AllPairs-append}
-use Rattle.readings.proofs.Instants.{no_lt, no_le}
-use Rattle.readings.proofs.Selecting.{find_both, find_none, none_found, reverse-cons, reverse-filter, All-reverse, find_kept, find_passes, none_kept}
+use Rattle.rising.proofs.Splitting.{IsAt, IsAbout, whole, about}
+use Rattle.readings.proofs.Selecting.{All-reverse, find_kept}
 use Rattle.readings.specs.Window.{inner, lead, follow, neighbour_before, neighbour_after, window}
 use Rattle.readings.proofs.WindowParts.{is_early, is_late, none_inner_before, none_inner_from, none_early, none_late, inner_parts, early_parts, late_parts, far_lead, far_follow, first_leads, first_follows}
 

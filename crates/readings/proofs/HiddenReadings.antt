@@ -7,15 +7,14 @@ use Rattle.std.proofs.lemmas.Option.{MatchOption-at_some}
 use Rattle.std.proofs.lemmas.List.{append-nil, reverse-reverse}
 use Rattle.std.proofs.lemmas.List.Elements.{All-cons, All-weaker}
 use Rattle.std.proofs.lemmas.List.Folds.{find-append}
-use Rattle.std.proofs.lemmas.List.Kept.{AllPairs-filter}
 use Rattle.fixed_units.specs.declared.readings.Reading.{Reading}
-use Rattle.readings.specs.Readings.{IsRising, instant_of, before_instant, after_instant, from_instant, at_instant, put, is_used}
-use Rattle.rising.proofs.Parting.{IsAfter, lt_yes, lt_no, le_yes, le_no, yes_lt, yes_le, after_is_after}
+use Rattle.readings.specs.Readings.{IsRising, instant_of, before_instant, after_instant, at_instant, put, is_used}
+use Rattle.rising.proofs.Parting.{IsAfter, lt_yes, le_yes}
 use Rattle.rising.proofs.Placing.{IsBefore, IsFrom, filter_rises}
 use Rattle.rising.proofs.Splitting.{IsAt, IsAbout, whole, about, rest_rises, rest_is_later}
-use Rattle.rising.proofs.Selecting.{filter_none, filter_both, All-front, All-back, AllPairs-append}
-use Rattle.readings.proofs.Instants.{no_lt, no_le}
-use Rattle.readings.proofs.Selecting.{find_both, find_none, none_found, reverse-cons, reverse-filter, All-reverse, find_kept, find_passes, none_kept}
+use Rattle.rising.proofs.Selecting.{filter_none}
+use Rattle.readings.proofs.Instants.{no_lt}
+use Rattle.readings.proofs.Selecting.{none_found, reverse-cons, All-reverse, find_kept, find_passes}
 use Rattle.readings.specs.Window.{is_of_day, inner, lead, follow, neighbour_before, neighbour_after, window, is_found_in_day}
 use Rattle.readings.proofs.WindowParts.{is_inner, is_early, is_late, inner_no_before, inner_no_from, none_inner_before, none_inner_from, none_early, none_late, inner_parts, early_parts, late_parts, no_inner}
 use Rattle.readings.proofs.FarReadings.{about_one}

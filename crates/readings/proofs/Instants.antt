@@ -1,8 +1,8 @@
 -- Tests on instants and what they say.
-use Rattle.std.specs.Prelude.{◌≡◌, Bool, cond, true, false, ℤ, int_lt, int_le, ◌<ℤ◌, ◌≤ℤ◌, ◌⊎◌}
+use Rattle.std.specs.Prelude.{◌≡◌, Bool, cond, true, false, ℤ, int_lt, int_le, ◌<ℤ◌, ◌≤ℤ◌}
 use Rattle.std.specs.Ordering.{int_cmp, is_lt}
 use Rattle.std.specs.declared.cmp.Ordering.TheVariants.{Less, Equal, Greater}
-use Rattle.std.proofs.Common.{arith, refl, inl, inr}
+use Rattle.std.proofs.Common.{arith, refl}
 use Rattle.std.proofs.lemmas.Int.{ints, by_lt_z}
 use Rattle.rising.proofs.Parting.{lt_yes, lt_no}
 

@@ -1,17 +1,14 @@
 -- Readings that are of a window: one that was not there before changes it.
-use Rattle.std.specs.Prelude.{◌≡◌, Bool, true, false, ◌&&◌, List, [], ◌∷◌, ◌++◌, ℤ, ◌<ℤ◌, ◌≤ℤ◌, ◌-ℤ◌, int_lt, int_le, find, reverse, Option, Some, None, option_to_list, All, Contains, length, ◌≤◌, ◌≢◌}
+use Rattle.std.specs.Prelude.{◌≡◌, Bool, true, false, List, [], ◌∷◌, ◌++◌, ℤ, ◌<ℤ◌, ◌≤ℤ◌, ◌-ℤ◌, int_lt, int_le, find, reverse, Option, Some, None, option_to_list, All, ◌≢◌}
 use Rattle.std.proofs.Common.{arith, refl, ap, sym, ◌∙◌, subst}
 use Rattle.std.proofs.lemmas.Int.{ints, by_lt_z}
-use Rattle.std.proofs.lemmas.List.Elements.{All-head, All-tail, All-cons, All-nil, All-append, All-weaker, All-contains}
+use Rattle.std.proofs.lemmas.List.Elements.{All-head, All-tail, All-nil, All-weaker}
 use Rattle.std.proofs.lemmas.List.Kept.{AllPairs-filter}
 use Rattle.fixed_units.specs.declared.readings.Reading.{Reading}
-use Rattle.readings.specs.Readings.{IsRising, instant_of, before_instant, after_instant, from_instant, at_instant, put, is_used}
-use Rattle.rising.proofs.Parting.{IsAfter, lt_yes, lt_no, le_yes, le_no, yes_lt, yes_le, after_is_after}
-use Rattle.rising.proofs.Placing.{IsBefore, IsFrom, before_is_before}
-use Rattle.rising.proofs.Splitting.{IsAt, IsAbout, whole, about, rest_rises, rest_is_later}
-use Rattle.rising.proofs.Selecting.{filter_none, filter_both, All-front, All-back, AllPairs-append}
-use Rattle.readings.proofs.Instants.{no_lt, no_le}
-use Rattle.readings.proofs.Selecting.{find_both, find_none, none_found, reverse-cons, reverse-filter, All-reverse, find_kept, find_passes, none_kept}
+use Rattle.readings.specs.Readings.{IsRising, before_instant, after_instant, put, is_used}
+use Rattle.rising.proofs.Parting.{lt_yes, le_yes, le_no, yes_lt}
+use Rattle.rising.proofs.Selecting.{All-front, All-back}
+use Rattle.readings.proofs.Selecting.{find_none, All-reverse, none_kept}
 use Rattle.readings.specs.Window.{is_of_day, inner, lead, follow, neighbour_before, neighbour_after, with_neighbours, window, is_found_in_day}
 use Rattle.readings.proofs.WindowLemmas.{window_keeps}
 use Rattle.readings.proofs.WindowParts.{is_inner, is_early, is_late, early_no, late_no, inner_parts, early_parts, late_parts, both_true}

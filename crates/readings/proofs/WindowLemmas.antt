@@ -2,17 +2,15 @@
 use Rattle.std.specs.Prelude.{◌≡◌, true, false, List, [], ◌∷◌, ◌++◌, ℤ, pos, ◌<ℤ◌, ◌≤ℤ◌, ◌+ℤ◌, int_lt, int_le, find, reverse, Option, Some, None, option_to_list, MatchOption, All, ◌⊎◌, ◌↔◌}
 use Rattle.std.proofs.Common.{arith, refl, inl, inr}
 use Rattle.std.proofs.lemmas.Int.{ints, by_lt_z}
-use Rattle.std.proofs.lemmas.List.Elements.{All-head, All-cons, All-append, All-weaker, All-filter, filter_passes}
+use Rattle.std.proofs.lemmas.List.Elements.{All-head, All-append, All-weaker, All-filter, filter_passes}
 use Rattle.std.proofs.lemmas.List.Kept.{AllPairs-filter}
 use Rattle.fixed_units.specs.declared.readings.Reading.{Reading}
-use Rattle.readings.specs.Readings.{IsRising, instant_of, before_instant, after_instant, from_instant, at_instant, put, is_used}
+use Rattle.readings.specs.Readings.{IsRising, instant_of, put, is_used}
 use Rattle.rising.proofs.Placing as lists
-use Rattle.rising.proofs.Parting.{IsAfter, lt_yes, lt_no, le_yes, le_no, yes_lt, yes_le, after_is_after}
+use Rattle.rising.proofs.Parting.{IsAfter, le_no, yes_lt, yes_le}
 use Rattle.rising.proofs.Placing.{IsBefore, IsFrom, before_is_before}
-use Rattle.rising.proofs.Splitting.{IsAt, IsAbout, whole, about, rest_rises, rest_is_later}
-use Rattle.rising.proofs.Selecting.{filter_none, filter_both, All-front, All-back, AllPairs-append}
-use Rattle.readings.proofs.Instants.{no_lt, no_le}
-use Rattle.readings.proofs.Selecting.{find_both, find_none, none_found, reverse-cons, reverse-filter, All-reverse, find_kept, find_passes, none_kept}
+use Rattle.rising.proofs.Selecting.{AllPairs-append}
+use Rattle.readings.proofs.Selecting.{All-reverse, find_kept, find_passes}
 use Rattle.readings.specs.Window.{is_of_day, inner, neighbour_before, neighbour_after, with_neighbours, window}
 use Rattle.readings.proofs.WindowParts.{is_inner, is_early, is_late, both_true, lead_keeps, follow_keeps, option_kept, with_neighbours_keeps, no_inner}
 use Rattle.readings.proofs.FarReadings.{early_far_put, late_far_put}

@@ -2,18 +2,15 @@
 use Rattle.std.specs.Prelude.{◌≡◌, Bool, true, false, ◌&&◌, List, [], ◌∷◌, ◌++◌, ℤ, ◌<ℤ◌, ◌≤ℤ◌, ◌-ℤ◌, int_lt, int_le, filter, find, reverse, Option, Some, None, option_to_list, MatchOption, All, cond}
 use Rattle.std.specs.Option.{option_or}
 use Rattle.std.proofs.Common.{arith, refl, ap, sym, ◌∙◌}
-use Rattle.std.proofs.lemmas.Int.{ints}
 use Rattle.std.proofs.lemmas.List.{reverse-append}
 use Rattle.std.proofs.lemmas.List.Elements.{All-cons, All-nil, All-append, All-weaker, filter-append, filter_agree}
 use Rattle.std.proofs.lemmas.List.Folds.{find-append}
 use Rattle.fixed_units.specs.declared.readings.Reading.{Reading}
-use Rattle.readings.specs.Readings.{IsRising, instant_of, before_instant, after_instant, from_instant, at_instant, put, is_used}
-use Rattle.rising.proofs.Parting.{IsAfter, lt_yes, lt_no, le_yes, le_no, yes_lt, yes_le, after_is_after}
-use Rattle.rising.proofs.Placing.{IsBefore, IsFrom, before_is_before}
-use Rattle.rising.proofs.Splitting.{IsAt, IsAbout, whole, about, rest_rises, rest_is_later}
-use Rattle.rising.proofs.Selecting.{filter_none, filter_both, All-front, All-back, AllPairs-append}
-use Rattle.readings.proofs.Instants.{no_lt, no_le}
-use Rattle.readings.proofs.Selecting.{find_both, find_none, none_found, reverse-cons, reverse-filter, All-reverse, find_kept, find_passes, none_kept}
+use Rattle.readings.specs.Readings.{instant_of, before_instant, from_instant, is_used}
+use Rattle.rising.proofs.Parting.{lt_no, le_no}
+use Rattle.rising.proofs.Placing.{IsBefore, IsFrom}
+use Rattle.rising.proofs.Selecting.{filter_none, filter_both}
+use Rattle.readings.proofs.Selecting.{find_both, find_none, reverse-filter, All-reverse}
 use Rattle.readings.specs.Window.{is_of_day, of_day, inner, near, lead, follow, neighbour_before, neighbour_after, with_neighbours, window}
 
 -- the tests of the window

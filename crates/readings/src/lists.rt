@@ -49,8 +49,7 @@ pub struct Place {
 impl Readings {
     /// No readings, which takes no memory.
     pub fn new(alloc: Global) -> Readings
-        ensures list { result.list ≡ [] }
-        ensures spare { result.spare ≡ 0 }
+        ensures { result.list ≡ [] }
     {
         Readings {
             kept: RisingList::new(alloc),

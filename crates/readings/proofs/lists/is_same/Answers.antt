@@ -1,13 +1,12 @@
 -- Readings are the same where each of their parts is.
-use Rattle.std.specs.Prelude.{◌≡◌, ◌&&◌, Bool, Some}
+use Rattle.std.specs.Prelude.{◌≡◌, ◌&&◌, Bool}
 use Rattle.std.specs.Bool.{Decides}
 use Rattle.std.proofs.Common.{refl, ap, int_eq, rules}
-use Rattle.std.proofs.lemmas.Bool.Decides.{Decides-int_eq, Decides-and, Decides-like, not_from_Decides}
+use Rattle.std.proofs.lemmas.Bool.Decides.{Decides-int_eq, Decides-and, Decides-like}
 use denote.Enum.Bare.{sameb, same_true, true_same}
 use Rattle.fixed_units.specs.contracts.readings.Flag.{the_type}
 use Rattle.fixed_units.specs.declared.readings.Flag.{Flag}
 use Rattle.fixed_units.specs.declared.readings.Reading.{Reading}
-use Rattle.readings.proofs.lists.is_same.Goals as goal
 
 abbrev is_same : Reading → Reading → Bool
 is_same r s = int_eq r.at s.at && (int_eq r.raw s.raw && sameb the_type r.flag s.flag)

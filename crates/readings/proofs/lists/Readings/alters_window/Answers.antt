@@ -1,5 +1,5 @@
 -- Each return by where the reading stands about the day.
-use Rattle.std.specs.Prelude.{◌≡◌, ◌≢◌, pos, ◌*◌, reverse, find, Option, All}
+use Rattle.std.specs.Prelude.{◌≡◌, ◌≢◌, pos, ◌*◌, reverse, find, All}
 use Rattle.std.proofs.Common.{ap, sym, ◌∙◌, subst}
 use Rattle.rising.specs.Lists.{Kept}
 use Rattle.rising.proofs.Splitting.{not_there}

@@ -5,7 +5,7 @@ use journal::laws::{
     nothing_else_has_the_header, one_record_more, stands_for_one_list,
 };
 use journal::{AppendFault, InitFault, Journal, OpenFault, init, open};
-use devices::MemoryDisk;
+use devices::{DiskFailed, MemoryDisk};
 use records::first_path::is_numbered;
 use std::alloc::Global;
 use std::test::Fail;
@@ -254,6 +254,38 @@ fn appending_fails(rt: HostRuntime) -> Result<(), Fail> {
         let made = journal.close();
         assert_eq!(rt; made.call_count(), calls);
         assert_eq!(rt; count(alloc, made.bytes())?, (records, None));
+    }
+    Ok(())
+}
+
+/// Mends a journal that is in doubt.
+fn mend(journal: &mut Journal<MemoryDisk>) -> Option<Result<(), DiskFailed>> {
+    if !journal.in_doubt() {
+        return None;
+    }
+    Some(journal.mend())
+}
+
+/// A mend that failed is made again, and then the record is appended where it was to stand.
+#[test]
+fn mending(rt: HostRuntime) -> Result<(), Fail> {
+    let alloc = rt.alloc();
+    for (failing, calls) in [([7, 8], 14), ([7, 9], 15), ([8, 9], 15), ([8, 10], 16)] {
+        let mut journal = match opened(alloc, disk(alloc, &EMPTY, &failing)?, 59) {
+            Ok(journal) => journal,
+            Err(_) => return Err("a journal is opened".into()),
+        };
+        assert_eq!(rt; mend(&mut journal), None);
+        assert_eq!(rt;
+            append(&mut journal, &FIRST),
+            Some(Err(AppendFault::Fault(true)))
+        );
+        assert_eq!(rt; mend(&mut journal), Some(Err(DiskFailed)));
+        assert_eq!(rt; mend(&mut journal), Some(Ok(())));
+        assert_eq!(rt; append(&mut journal, &FIRST), Some(Ok(())));
+        let made = journal.close();
+        assert_eq!(rt; (made.call_count(), made.fault_count()), (calls, 2));
+        assert_eq!(rt; made.bytes(), file(alloc, &[b"\x01", &FIRST])?.as_slice());
     }
     Ok(())
 }

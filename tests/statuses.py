@@ -6,7 +6,7 @@
 Each case states the status, what is on standard output, and the line on standard error; the script ends with status 1 at
 the first that differs. Standard streams that are closed, that can't be read or written, and a journal that another run
 has open are among the cases. It takes seconds; with --long also the status that comes after 2^36 bytes of input, which
-takes minutes.
+takes a minute or two.
 """
 import os
 import pathlib

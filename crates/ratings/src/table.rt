@@ -11,9 +11,10 @@ use std::alloc::{AllocError, Global};
 use std::marker::Model;
 use thiserror::Error;
 
-/// The least and the greatest number of rows of a table.
+/// The least number of rows of a table.
 pub const LEAST_ROWS: usize = 2;
 
+/// The greatest number of rows of a table.
 pub const MOST_ROWS: usize = 10_000;
 
 /// Why rows are no table.

@@ -5,7 +5,7 @@ ghost use Rattle.readings.specs.Readings.{IsRising};
 ghost use Rattle.daily_values.specs.DayInputs.{AreInputs};
 
 use daily_values::{DayInputs, DayParts, DayValue, Figures, ReadingList, Sum, compute, from_scratch};
-use fixed_units::{Flag, Micro, Published, Reading, RoundingArray, Second};
+use fixed_units::{Flag, Micro, Published, Reading, RoundingArray, Second, is_stage};
 use std::alloc::Global;
 use std::process::Abort;
 use std::test::Fail;
@@ -29,7 +29,7 @@ fn are_rising(readings: &[Reading]) -> bool
 fn are_stages(readings: &[Reading]) -> bool
     ensures { IsTrue result → All (λ r. IsStage r.raw) readings.now }
 {
-    readings.iter().all(|r| (-100_000_000_000..=100_000_000_000).contains(&r.raw.get()))
+    readings.iter().all(|r| is_stage(r.raw.get()))
 }
 
 fn are_inputs(inputs: &DayInputs) -> bool

@@ -1,6 +1,6 @@
 -- What an edit comes to, by where it ends.
 use Rattle.std.specs.Prelude.{◌≡◌, ℕ, ◌+◌, ◌-◌, ◌^◌, ◌<◌, ◌≤◌, Bool, true, false, if◌then◌else◌, List, [], ◌∷◌, ◌++◌, length, Option, Some, None, is_some, Result, Ok, Err}
-use Rattle.std.proofs.Common.{arith, refl, ap, sym, subst, inl, inr, ◌∙◌}
+use Rattle.std.proofs.Common.{arith, refl, ap, sym, subst, inl, ◌∙◌}
 use Rattle.std.proofs.lemmas.Bool.{lt-ltb, ltb-true}
 use Rattle.std.specs.Result.{IsErrAnd}
 use Rattle.devices.specs.declared.disks.Disk.{Ghosts}
@@ -9,6 +9,7 @@ use Rattle.records.specs.declared.edits.Record.{Record}
 use Rattle.records.specs.declared.edits.What.{What}
 use Rattle.journal.specs.JournalBytes.{StandsFor}
 use Rattle.journal.specs.Keeping.{Holds, IsNext, Appends, doubt_of, leaves_doubt}
+use Rattle.journal.proofs.Moments.{started, widened}
 use Rattle.journal.specs.Moments.{LeavesOnly}
 use Rattle.journal.specs.declared.keeping.Journal.{Journal}
 use Rattle.journal.specs.declared.keeping.AppendFault.{AppendFault}
@@ -177,28 +178,12 @@ wider : (edits : List What) (last : Option What) (edit : What) (image : List ℕ
 wider edits None edit image h = inl h
 wider edits (Some last) edit image h = h
 
-pub leaves_same : {D : Type 0} (g : Ghosts D) (disk : D) (P : List ℕ → Type 0)
-    → ((image : List ℕ) → g.left_since disk (g.moment disk) image → P image) → LeavesOnly g disk disk P
-leaves_same g disk P h = record {
-  later = omega arith;
-  each = h;
-  before = λ since image l k. inl k;
-}
-
-pub leaves_wider : {D : Type 0} (g : Ghosts D) (old new : D) (P Q : List ℕ → Type 0)
-    → ((image : List ℕ) → P image → Q image) → LeavesOnly g old new P → LeavesOnly g old new Q
-leaves_wider g old new P Q w h = record {
-  later = h.later;
-  each = λ image k. w image (h.each image k);
-  before = λ since image l k. elim (h.before since image l k) [ inl b ↦ inl b | inr b ↦ inr (w image b) ];
-}
-
 pub same_leaves : {D : Type 0} {g : Ghosts D} (events : List Event)
     (edit : What) (o : Office D g) → ((disk : D) (image : List ℕ) → g.left_since disk (g.moment disk) image → g.may_leave disk image)
     → Stands true events o
     → LeavesOnly g o.journal.disk o.journal.disk (StandsForEdits (accepted events) (in_flight (doubt events) edit))
 same_leaves {g = g} events edit o only s =
-    leaves_same g o.journal.disk _
+    started g o.journal.disk _
     (λ image k. wider (accepted events) (doubt events) edit image
     (holds_images (accepted events) (doubt events) o.journal (s.holds refl) image (only o.journal.disk image k)))
 
@@ -218,11 +203,11 @@ append_leaves {D = D} {g = g} events edit bytes o new e room f a s =
     let none : doubt events ≡ None = settled true events o s f in
     let h : HoldsEdits (accepted events) (doubt events) o.journal = s.holds refl in
     let next : IsNext h.pieces e.0 bytes = is_next true events edit bytes h.pieces o e room h.records s in
-    leaves_wider g o.journal.disk new (StandsFor h.pieces (Some e.0)) (StandsForEdits (accepted events) (in_flight (doubt events) edit))
+    widened g o.journal.disk new (StandsFor h.pieces (Some e.0)) (StandsForEdits (accepted events) (in_flight (doubt events) edit))
+    (a h.pieces e.0 (settled_holds (accepted events) (doubt events) o.journal none h) next)
     (λ image k. in_flight_one (accepted events) (doubt events) edit image none
     (stands_for (accepted events) h.pieces (Some edit) (Some e.0) image h.records
     (path_next true events edit bytes o e s) k))
-    (a h.pieces e.0 (settled_holds (accepted events) (doubt events) o.journal none h) next)
 
 -- a comparison that was told
 pub does_not_fit : (b : Bool) (n m : ℕ) → (n ≤ m → b ≡ true) → b ≡ false → m < n

@@ -1,10 +1,11 @@
 -- An office that is opened accepts the edits of its journal again.
 use Rattle.std.specs.Prelude.{◌≡◌, ℕ, ◌+◌, ◌*◌, ◌<◌, ◌≤◌, List, [], ◌∷◌, ◌++◌, length}
-use Rattle.std.proofs.Common.{arith, ap, subst, inl, inr, ◌∙◌}
+use Rattle.std.proofs.Common.{arith, ap, subst, ◌∙◌}
 use Rattle.devices.specs.declared.disks.Disk.{Ghosts}
 use Rattle.records.specs.FirstPath.{IsFirstPath}
 use Rattle.records.specs.declared.edits.Record.{Record}
 use Rattle.records.specs.declared.edits.What.{What}
+use Rattle.journal.proofs.Moments.{joined}
 use Rattle.journal.specs.Moments.{OnlyReads}
 use Rattle.journal.specs.Reading.{HasRead, HasEnded}
 use Rattle.journal.specs.declared.opening.Opening.{Opening}
@@ -57,29 +58,10 @@ gate_moves edits edit s t old new h k =
     omega arith
 
 -- reading on and on writes nothing
-pub reads_on : {D : Type 0} (g : Ghosts D) (a b c : D)
-    → OnlyReads g a b → OnlyReads g b c
-    → OnlyReads g a c
-reads_on g a b c h k =
-    let first = h.any_moment.later in
-    let second = k.any_moment.later in
-    let low = h.counted in
-    let high = k.counted in
-    record {
-      same = k.same ∙ h.same;
-      images = λ image m. h.images image (k.images image m);
-      any_moment = record {
-        later = omega arith;
-        each = λ image l.
-            elim (k.any_moment.before (g.moment a) image first l) [
-              | inl s ↦ h.any_moment.each image s
-              | inr m ↦ h.images image m
-            ];
-        before = λ since image le l.
-            elim (k.any_moment.before since image (omega arith) l) [
-              | inl s ↦ h.any_moment.before since image le s
-              | inr m ↦ inr (h.images image m)
-            ];
-      };
-      counted = omega arith;
-    }
+pub reads_on : {D : Type 0} (g : Ghosts D) (a b c : D) → OnlyReads g a b → OnlyReads g b c → OnlyReads g a c
+reads_on g a b c h k = record {
+  same = k.same ∙ h.same;
+  images = λ image m. h.images image (k.images image m);
+  any_moment = joined g a b c (g.may_leave a) (g.may_leave b) (g.may_leave a) h.any_moment k.any_moment (λ image m. m) h.images;
+  counted = omega (arith, h.counted, k.counted);
+}

@@ -3,6 +3,7 @@ use Rattle.std.specs.Prelude.{◌≡◌, ℕ, Bool, true, List, [], ◌∷◌, �
 use Rattle.std.proofs.Common.{refl, ap, sym, subst, inl, ◌∙◌, append_assoc, append-nil}
 use Rattle.devices.specs.declared.disks.Disk.{Ghosts}
 use Rattle.records.specs.declared.edits.What.{What}
+use Rattle.journal.proofs.Moments.{started}
 use Rattle.journal.specs.Moments.{LeavesOnly}
 use Rattle.office.specs.Edits.{in_flight}
 use Rattle.office.specs.History.{Event, Accepted, Published, Faulted, accepted, doubt, after_edit, after_fault, after_publication, after_turn, next_day}
@@ -10,7 +11,6 @@ use Rattle.office.specs.JournalOfEdits.{StandsForEdits}
 use Rattle.office.specs.Stands.{Stands}
 use Rattle.office.specs.Stops.{Extends, IsLeftBetween, edit_in_flight}
 use Rattle.office.specs.declared.offices.Office.{Office}
-use Rattle.office.proofs.EditLemmas.{leaves_same}
 use Rattle.office.proofs.StandsLemmas.{holds_images}
 
 -- a history goes on
@@ -101,6 +101,6 @@ pub leaves_now : {D : Type 0} {g : Ghosts D} (events : List Event) (o : Office D
     → ((disk : D) (image : List ℕ) → g.left_since disk (g.moment disk) image → g.may_leave disk image) → Stands true events o
     → LeavesOnly g o.journal.disk o.journal.disk (IsLeftBetween events events)
 leaves_now {g = g} events o only s =
-    leaves_same g o.journal.disk (IsLeftBetween events events)
+    started g o.journal.disk (IsLeftBetween events events)
     (λ image k. left_now events image
     (holds_images (accepted events) (doubt events) o.journal (s.holds refl) image (only o.journal.disk image k)))

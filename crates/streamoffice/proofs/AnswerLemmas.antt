@@ -12,9 +12,9 @@ use Rattle.office.specs.Edits.{Edits, AfterFault}
 use Rattle.office.specs.History.{Event, accepted, doubt, after_edit, after_fault}
 use Rattle.office.specs.JournalOfEdits.{is_full, IsFull}
 use Rattle.office.specs.Stands.{Stands}
-use Rattle.office.specs.declared.records_office.Office.{Office}
-use Rattle.office.specs.declared.records_office.Refusal.{Refusal}
-use Rattle.office.specs.declared.records_office.Refusal.TheVariants as refusals
+use Rattle.office.specs.declared.offices.Office.{Office}
+use Rattle.office.specs.declared.offices.Refusal.{Refusal}
+use Rattle.office.specs.declared.offices.Refusal.TheVariants as refusals
 use Rattle.wire.specs.ReplyHead.{reply_bytes}
 use Rattle.wire.specs.declared.replies.Kind.TheVariants.{Json}
 use Rattle.wire.specs.declared.replies.TheConstants.{NO_MEMORY_REPLY}

@@ -54,7 +54,8 @@ more_images : {D : Type 0} (g : Ghosts D) (bytes : List ℕ)
 more_images g bytes few many ends.Made disk wider h = h
 more_images g bytes few many ends.Exists disk wider h = (h.0, (h.1.0, λ image left. wider image (h.1.1 image left)))
 more_images g bytes few many ends.NotAJournal disk wider h = (h.0, (h.1.0, λ image left. wider image (h.1.1 image left)))
-more_images g bytes few many ends.DiskFault disk wider h = h
+more_images g bytes few many ends.DiskFault disk wider h =
+    (h.0, λ occupied. let kept = h.1 occupied in (kept.0, λ image left. wider image (kept.1 image left)))
 more_images g bytes few many (ends.Served end) disk wider h = absurd h
 more_images g bytes few many (ends.Damaged at) disk wider h = absurd h
 more_images g bytes few many ends.NoMemory disk wider h = absurd h
@@ -66,57 +67,58 @@ more_images_if g None few many end disk wider h = tt
 more_images_if g (Some bytes) few many end disk wider h = more_images g bytes few many end disk wider h
 
 -- what a stop leaves of the making, by its end
-left_by : {T : Type 0} (images : List ℕ → Type 0) (made : Result T InitFault) (image : List ℕ)
-    → IsLeftByInit images made image → IsLeftByMaking images (making_end made) image
-left_by images (Ok done) image h = h
-left_by images (Err making.Exists) image h = h
-left_by images (Err making.NotAJournal) image h = h
-left_by images (Err making.Fault) image h = h
+left_by : {T : Type 0} (content : Option (List ℕ)) (images : List ℕ → Type 0) (made : Result T InitFault) (image : List ℕ)
+    → IsLeftByInit content images made image → IsLeftByMaking content images (making_end made) image
+left_by content images (Ok done) image h = h
+left_by content images (Err making.Exists) image h = h
+left_by content images (Err making.NotAJournal) image h = h
+left_by content images (Err making.Fault) image h = h
 
-pub leaves_on : {D T : Type 0} (g : Ghosts D) (images : List ℕ → Type 0) (made : Result T InitFault)
-    (end : RunEnd) (old new : D) → end ≡ making_end made → LeavesOnly g old new (IsLeftByInit images made)
-    → LeavesOnly g old new (IsLeftByMaking images end)
-leaves_on g images made end old new is leaves =
-    subst (λ (e : RunEnd). LeavesOnly g old new (IsLeftByMaking images e)) (sym is)
-    (widened g old new (IsLeftByInit images made) (IsLeftByMaking images (making_end made)) leaves (left_by images made))
+pub leaves_on : {D T : Type 0} (g : Ghosts D) (content : Option (List ℕ)) (images : List ℕ → Type 0) (made : Result T InitFault)
+    (end : RunEnd) (old new : D) → end ≡ making_end made → LeavesOnly g old new (IsLeftByInit content images made)
+    → LeavesOnly g old new (IsLeftByMaking content images end)
+leaves_on g content images made end old new is leaves =
+    subst (λ (e : RunEnd). LeavesOnly g old new (IsLeftByMaking content images e)) (sym is)
+    (widened g old new (IsLeftByInit content images made) (IsLeftByMaking content images (making_end made)) leaves (left_by content images made))
 
 -- of more images a stop may leave more
-left_more : (few many : List ℕ → Type 0) (end : RunEnd) (image : List ℕ) → NothingNew many few
-    → IsLeftByMaking few end image → IsLeftByMaking many end image
-left_more few many ends.Made image wider h = (h.0, wider h.0 h.1, h.2)
-left_more few many ends.Exists image wider h = wider image h
-left_more few many ends.NotAJournal image wider h = wider image h
-left_more few many ends.DiskFault image wider h = (h.0, wider h.0 h.1, h.2)
-left_more few many (ends.Served end) image wider h = absurd h
-left_more few many (ends.Damaged at) image wider h = absurd h
-left_more few many ends.NoMemory image wider h = absurd h
+left_more : (content : Option (List ℕ)) (few many : List ℕ → Type 0) (end : RunEnd) (image : List ℕ) → NothingNew many few
+    → IsLeftByMaking content few end image → IsLeftByMaking content many end image
+left_more content few many ends.Made image wider h = (h.0, wider h.0 h.1, h.2)
+left_more content few many ends.Exists image wider h = wider image h
+left_more content few many ends.NotAJournal image wider h = wider image h
+left_more content few many ends.DiskFault image wider h = ((h.0.0, wider h.0.0 h.0.1, h.0.2), λ occupied. wider image (h.1 occupied))
+left_more content few many (ends.Served end) image wider h = absurd h
+left_more content few many (ends.Damaged at) image wider h = absurd h
+left_more content few many ends.NoMemory image wider h = absurd h
 
 -- what might have been left before may be left at each end that a making has
-left_before : {D : Type 0} (g : Ghosts D) (bytes : List ℕ) (images all : List ℕ → Type 0)
-    (end : RunEnd) (left : D) (image : List ℕ) → MakesOn g bytes images end left → all image → IsLeftByMaking all end image
-left_before g bytes images all ends.Made left image makes h = (image, h, whole 0 17 image)
-left_before g bytes images all ends.Exists left image makes h = h
-left_before g bytes images all ends.NotAJournal left image makes h = h
-left_before g bytes images all ends.DiskFault left image makes h = (image, h, whole 0 17 image)
-left_before g bytes images all (ends.Served end) left image makes h = absurd makes
-left_before g bytes images all (ends.Damaged at) left image makes h = absurd makes
-left_before g bytes images all ends.NoMemory left image makes h = absurd makes
+left_before : {D : Type 0} (g : Ghosts D) (content : Option (List ℕ)) (bytes : List ℕ) (images all : List ℕ → Type 0)
+    (end : RunEnd) (left : D) (image : List ℕ) → MakesOn g bytes images end left → all image → IsLeftByMaking content all end image
+left_before g content bytes images all ends.Made left image makes h = (image, h, whole 0 17 image)
+left_before g content bytes images all ends.Exists left image makes h = h
+left_before g content bytes images all ends.NotAJournal left image makes h = h
+left_before g content bytes images all ends.DiskFault left image makes h = ((image, h, whole 0 17 image), λ occupied. h)
+left_before g content bytes images all (ends.Served end) left image makes h = absurd makes
+left_before g content bytes images all (ends.Damaged at) left image makes h = absurd makes
+left_before g content bytes images all ends.NoMemory left image makes h = absurd makes
 
 -- a disk that was made left no bytes before
 leaves_made : {D : Type 0} (g : Ghosts D) (end : RunEnd) (disk left : D) → IsEmptyDisk g disk
     → MakesOn g [] (λ image. image ≡ []) end left
-    → LeavesOnly g disk left (IsLeftByMaking (g.may_leave disk) end)
-    → (image : List ℕ) → g.left_since left 0 image → IsLeftByMaking (λ image. image ≡ []) end image
+    → LeavesOnly g disk left (IsLeftByMaking (g.content disk) (g.may_leave disk) end)
+    → (image : List ℕ) → g.left_since left 0 image → IsLeftByMaking (Some []) (λ image. image ≡ []) end image
 leaves_made g end disk left empty makes leaves image k =
     ⊎_elim
-    (λ was. left_before g [] (λ image. image ≡ []) (λ image. image ≡ []) end left image makes (empty.since 0 image was))
-    (λ now. left_more (g.may_leave disk) (λ image. image ≡ []) end image empty.images now)
+    (λ was. left_before g (Some []) [] (λ image. image ≡ []) (λ image. image ≡ []) end left image makes (empty.since 0 image was))
+    (λ now. left_more (Some []) (g.may_leave disk) (λ image. image ≡ []) end image empty.images
+    (subst (λ (o : Option (List ℕ)). IsLeftByMaking o (g.may_leave disk) end image) empty.none now))
     (leaves.before 0 image (omega arith) k)
 
 -- what was made on the disk that was given is made at its place
 module _ {D : Type 0} (g : Ghosts D) (end : RunEnd) (disk left : D)
     (makes : IfSome (g.content disk) (λ bytes. MakesOn g bytes (g.may_leave disk) end left))
-    (leaves : LeavesOnly g disk left (IsLeftByMaking (g.may_leave disk) end)) where
+    (leaves : LeavesOnly g disk left (IsLeftByMaking (g.content disk) (g.may_leave disk) end)) where
   on_made : IsEmptyDisk g disk → MakesOn g [] (λ image. image ≡ []) end left
   on_made empty =
       more_images g [] (g.may_leave disk) (λ image. image ≡ []) end left empty.images
@@ -130,8 +132,9 @@ module _ {D : Type 0} (g : Ghosts D) (end : RunEnd) (disk left : D)
       inr (
         more_images_if g (g.content held) (g.may_leave disk) (g.may_leave held) end left given.images
             (subst (λ (o : Option (List ℕ)). IfSome o (λ bytes. MakesOn g bytes (g.may_leave disk) end left)) given.same makes),
-        leaves_kept g held disk left (IsLeftByMaking (g.may_leave disk) end) (IsLeftByMaking (g.may_leave held) end)
-            given leaves (λ image h. left_more (g.may_leave disk) (g.may_leave held) end image given.images h),
+        leaves_kept g held disk left (IsLeftByMaking (g.content disk) (g.may_leave disk) end) (IsLeftByMaking (g.content held) (g.may_leave held) end)
+            given leaves (λ image h. left_more (g.content held) (g.may_leave disk) (g.may_leave held) end image given.images
+            (subst (λ (o : Option (List ℕ)). IsLeftByMaking o (g.may_leave disk) end image) given.same h)),
       )
   made_at Out given =
       inr (on_made given.1, leaves_made g end disk left given.1 (on_made given.1) leaves)
@@ -140,7 +143,7 @@ pub makes_kept : {D : Type 0} (g : Ghosts D) (end : RunEnd)
     (name : List ℕ) (p0 p1 p2 : Option (List ℕ → Place D)) (disk left : D)
     → IsOpened g name true p0 p1 (opens.Disk disk) → IsKept name left p1 p2
     → IfSome (g.content disk) (λ bytes. MakesOn g bytes (g.may_leave disk) end left)
-    → LeavesOnly g disk left (IsLeftByMaking (g.may_leave disk) end)
+    → LeavesOnly g disk left (IsLeftByMaking (g.content disk) (g.may_leave disk) end)
     → Makes g end name p0 p2
 makes_kept g end name p0 p1 p2 disk left opened kept makes leaves =
     opened_and_kept g name true p0 p1 p2 disk left (λ before after. MakesAt g end before after)

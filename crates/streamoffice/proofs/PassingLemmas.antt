@@ -11,7 +11,7 @@ use Rattle.office.specs.History.{Event, Accepted, Faulted, accepted, doubt, afte
 use Rattle.office.specs.JournalOfEdits.{StandsForEdits}
 use Rattle.office.specs.Stands.{Stands}
 use Rattle.office.specs.Stops.{Extends, IsLeftBetween}
-use Rattle.office.specs.declared.records_office.Office.{Office}
+use Rattle.office.specs.declared.offices.Office.{Office}
 use Rattle.office.proofs.StopsLemmas.{extends_none, extends_more, left_edit, left_fault, left_doubted, left_longer, left_earlier, leaves_now}
 use Rattle.streamoffice.specs.Passing.{Passes}
 use Rattle.streamoffice.proofs.CauseLemmas.{causes_more, causes_none, causes_one, count_accepted, count_faulted}

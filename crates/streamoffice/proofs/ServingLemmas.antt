@@ -1,5 +1,5 @@
 -- How a batch ends.
-use Rattle.std.proofs.Common.{◌≡◌, ◌⊎◌, ℕ, zero, suc, ◌≤◌, true, false, List, Option, Some, None, is_some, IfSome, IsSome, IsSomeAnd, refl, sym, ◌∙◌, subst, inl, inr, ⊎_elim, arith}
+use Rattle.std.proofs.Common.{◌≡◌, ◌⊎◌, ℕ, zero, suc, ◌≤◌, true, false, List, Option, Some, None, is_some, IfSome, IsSome, IsSomeAnd, refl, sym, ◌∙◌, subst, inl, inr, arith}
 use Rattle.std.specs.Prelude.{⊤}
 use Rattle.devices.specs.declared.disks.Disk.{Ghosts}
 use Rattle.devices.specs.Cabinets.{Place, Free, Kept, Out, is_kept, OthersStay, IsSameDisk, IsOpened, IsKept, IsCounted}
@@ -9,21 +9,24 @@ use Rattle.devices.specs.declared.cabinets.Opened.TheVariants as opens
 use Rattle.records.specs.declared.edits.What.{What}
 use Rattle.journal.proofs.Moments.{started, joined}
 use Rattle.journal.specs.JournalBytes.{HasHeader, IsDamagedAt}
-use Rattle.journal.specs.Moments.{LeavesOnly}
+use Rattle.journal.specs.Moments.{LeavesOnly, SyncsFirst, IsContent}
 use Rattle.journal.specs.declared.opening.OpenFault.{OpenFault}
 use Rattle.journal.specs.declared.opening.OpenFault.TheVariants as opening
 use Rattle.office.specs.History.{Event, accepted, doubt, reopen, faulted_count}
 use Rattle.office.specs.JournalOfEdits.{IsJournalOfEdits, StandsForEdits}
 use Rattle.office.specs.Opened.{IsNotOpened}
 use Rattle.office.specs.Stands.{Stands, HoldsEdits}
-use Rattle.office.specs.Stops.{IsLeftBetween}
-use Rattle.office.specs.declared.records_office.Office.{Office}
+use Rattle.office.specs.Stops.{Extends, IsLeftBetween}
+use Rattle.office.specs.declared.offices.Office.{Office}
+use Rattle.office.proofs.HistoryLemmas.{accepted-reopen, doubt-reopen}
 use Rattle.office.proofs.StandsLemmas.{holds_now, holds_images}
+use Rattle.office.proofs.StopsLemmas.{left_now, left_longer}
 use Rattle.streamoffice.specs.Causes.{RoseBy, HaveCauses}
 use Rattle.streamoffice.specs.Passing.{Passes}
 use Rattle.streamoffice.specs.Places.{HasKept, IfKept, IsLeftAlone, HasTheSame}
 use Rattle.streamoffice.specs.RunEnds.{opening_end}
-use Rattle.streamoffice.specs.Serving.{usual_limit, IsLeftOn, Carries, ServesDisk, CarriesAt, StaysWith, ServesUnder}
+use Rattle.office.specs.declared.limits.TheConstants.{USUAL_JOURNAL_BYTES}
+use Rattle.streamoffice.specs.Serving.{IsLeftOn, Carries, ServesDisk, CarriesAt, StaysWith, ServesUnder}
 use Rattle.streamoffice.specs.Session.{IsServed}
 use Rattle.streamoffice.specs.declared.sessions.SessionEnd.{SessionEnd}
 use Rattle.streamoffice.specs.declared.commands.RunEnd.{RunEnd}
@@ -66,21 +69,34 @@ carries_journal {D = D} {g = g} edits after (Some bytes) office left is found st
 all_causes : (edits : List What) (after : List Event) (f f' : ℕ) → HaveCauses (reopen edits) after f f' → RoseBy (faulted_count after) 0 f'
 all_causes edits after f f' causes = let none = count_reopened edits in omega (arith, causes, none)
 
+-- the journal that was found is left while nothing happens
+found_left : (edits : List What) (after : List Event) (bytes image : List ℕ) → IsJournalOfEdits edits bytes → Extends (reopen edits) after → image ≡ bytes
+    → IsLeftBetween (reopen edits) after image
+found_left edits after bytes image journal extends is =
+    let here : StandsForEdits edits None image = subst (IsJournalOfEdits edits) (sym is) journal in
+    let all : accepted (reopen edits) ≡ edits = accepted-reopen edits in
+    let none : doubt (reopen edits) ≡ None = doubt-reopen edits in
+    left_longer (reopen edits) (reopen edits) after image (left_now (reopen edits) image (rw (all, none) here)) extends
+
 -- what a stop left from the opening on
 carries_moments : {D : Type 0} (g : Ghosts D) (edits : List What)
     (after : List Event) (o : Option (List ℕ)) (found opened left : D)
-    → LeavesOnly g found opened (g.may_leave found)
+    → SyncsFirst g found opened (IsContent o) → IfSome o (IsJournalOfEdits edits) → Extends (reopen edits) after
     → (is_some o ≡ true → LeavesOnly g opened left (IsLeftBetween (reopen edits) after))
-    → IfSome o (λ bytes. LeavesOnly g found left (λ image. g.may_leave found image ⊎ IsLeftBetween (reopen edits) after image))
-carries_moments g edits after None found opened left first second = tt
-carries_moments g edits after (Some bytes) found opened left first second =
-    joined g found opened left (g.may_leave found) (IsLeftBetween (reopen edits) after)
-    (λ image. g.may_leave found image ⊎ IsLeftBetween (reopen edits) after image) first (second refl)
-    (λ image h. inl h) (λ image h. inr h)
+    → IfSome o (λ bytes. SyncsFirst g found left (IsLeftBetween (reopen edits) after))
+carries_moments g edits after None found opened left first journal extends second = tt
+carries_moments g edits after (Some bytes) found opened left first journal extends second = record {
+  synced = first.synced;
+  first = first.first;
+  before = first.before;
+  since =
+      joined g first.synced opened left (IsContent (Some bytes)) (IsLeftBetween (reopen edits) after) (IsLeftBetween (reopen edits) after)
+      first.since (second refl) (λ image is. found_left edits after bytes image journal extends is) (λ image h. h);
+}
 
 pub carries : {D : Type 0} {g : Ghosts D} (edits : List What)
     (after : List Event) (found opened : D) (office : Office D g) (left : D) → left ≡ office.journal.disk
-    → IfSome (g.content found) (IsJournalOfEdits edits) → LeavesOnly g found opened (g.may_leave found)
+    → IfSome (g.content found) (IsJournalOfEdits edits) → SyncsFirst g found opened (IsContent (g.content found))
     → Stands (is_some (g.content found)) after office
     × Passes g (is_some (g.content found)) (reopen edits) after opened office.journal.disk
     → Carries g edits after found left
@@ -89,7 +105,7 @@ carries {D = D} {g = g} edits after found opened office left is journal first st
     subst (λ (d : D). Passes g (is_some (g.content found)) (reopen edits) after opened d) (sym is) stands.1 in
     record {
       journal = carries_journal edits after (g.content found) office left is journal stands.0;
-      any_moment = carries_moments g edits after (g.content found) found opened left first passed.leaves;
+      any_moment = carries_moments g edits after (g.content found) found opened left first journal passed.extends passed.leaves;
       causes = all_causes edits after (g.faults opened) (g.faults left) passed.causes;
     }
 
@@ -118,25 +134,23 @@ not_opened g fault end found left l0 l w0 w counts is refused same leaves =
     by_fault opening.NoMemory refused = alone
 
 -- a disk that was given has the same as the one that was kept, and goes on from it
-moments_kept : {D : Type 0} (g : Ghosts D) (edits : List What) (after : List Event) (o : Option (List ℕ)) (held disk left : D)
-    → IsSameDisk g held disk
-    → IfSome o (λ bytes. LeavesOnly g disk left (λ image. g.may_leave disk image ⊎ IsLeftBetween (reopen edits) after image))
-    → IfSome o (λ bytes. LeavesOnly g held left (λ image. g.may_leave held image ⊎ IsLeftBetween (reopen edits) after image))
-moments_kept g edits after None held disk left given h = tt
-moments_kept g edits after (Some bytes) held disk left given h =
-    leaves_kept g held disk left
-    (λ image. g.may_leave disk image ⊎ IsLeftBetween (reopen edits) after image)
-    (λ image. g.may_leave held image ⊎ IsLeftBetween (reopen edits) after image) given h
-    (λ image k. ⊎_elim (λ was. inl (given.images image was)) (λ now. inr now) k)
+moments_kept : {D : Type 0} (g : Ghosts D) (P : List ℕ → Type 0) (o : Option (List ℕ)) (held disk left : D) → IsSameDisk g held disk
+    → IfSome o (λ bytes. SyncsFirst g disk left P) → IfSome o (λ bytes. SyncsFirst g held left P)
+moments_kept g P None held disk left given h = tt
+moments_kept g P (Some bytes) held disk left given h = record {
+  synced = h.synced;
+  first = rw (sym given.same, sym given.listed) h.first;
+  before = leaves_kept g held disk h.synced (g.may_leave disk) (g.may_leave held) given h.before given.images;
+  since = h.since;
+}
 
 carried : {D : Type 0} (g : Ghosts D) (edits : List What)
     (after : List Event) (held disk left : D) → IsSameDisk g held disk
     → Carries g edits after disk left → Carries g edits after held left
 carried g edits after held disk left given h = record {
   journal = subst (λ (o : Option (List ℕ)). IfSome o (λ bytes. IsJournalOfEdits edits bytes × IsLeftOn g after left)) given.same h.journal;
-  any_moment = subst (λ (o : Option (List ℕ)). IfSome o (λ bytes. LeavesOnly g held left
-      (λ image. g.may_leave held image ⊎ IsLeftBetween (reopen edits) after image))) given.same
-      (moments_kept g edits after (g.content disk) held disk left given h.any_moment);
+  any_moment = subst (λ (o : Option (List ℕ)). IfSome o (λ bytes. SyncsFirst g held left (IsLeftBetween (reopen edits) after))) given.same
+      (moments_kept g (IsLeftBetween (reopen edits) after) (g.content disk) held disk left given h.any_moment);
   causes = h.causes;
 }
 
@@ -181,7 +195,7 @@ pub serves_kept : {D : Type 0} (g : Ghosts D)
     → ServesUnder g name end p0 p2 c0 c2 l0 l w0 w
 serves_kept g (ends.Served end) name p0 p1 p2 disk left c0 c1 c2 l0 l w0 w opened kept fresh later count h = (
   h.0,
-  served_as usual_limit usual_limit (reopen h.0) end l0 l w0 w _ _ refl
+  served_as USUAL_JOURNAL_BYTES USUAL_JOURNAL_BYTES (reopen h.0) end l0 l w0 w _ _ refl
       (λ after carries. (
         opened_and_kept g name false p0 p1 p2 disk left
             (λ before now. CarriesAt g h.0 after before now) opened kept

@@ -9,7 +9,8 @@ use Rattle.streamoffice.specs.Endings.{session_status, status_of}
 use Rattle.streamoffice.specs.Making.{MakesOn, MakesAt, Makes, IsMakingEnd}
 use Rattle.streamoffice.specs.Places.{HasKept, IfKept, bytes_found, images_found}
 use Rattle.streamoffice.specs.RunEnds.{IsEarly, RunCause}
-use Rattle.streamoffice.specs.Serving.{ServesUnder, StaysWith, usual_limit}
+use Rattle.office.specs.declared.limits.TheConstants.{USUAL_JOURNAL_BYTES}
+use Rattle.streamoffice.specs.Serving.{ServesUnder, StaysWith}
 use Rattle.streamoffice.specs.Served.{Serves}
 use Rattle.streamoffice.specs.Session.{HasCause, IsServed}
 use Rattle.streamoffice.specs.Top.{IsWellFormed, IsSound, HasSound, HasRoom}
@@ -177,7 +178,7 @@ completes_init g end name p0 p2 c0 c2 makes h room calm =
 abbrev IsTold : List Event → List Event → SessionEnd → Option (List ℕ) → Option (List ℕ) → Option (List ℕ) → Option (List ℕ) → Type 0
 IsTold events after end l0 l w0 w =
     IfSome l0 (λ input. IsSomeAnd l (λ left. IfSome w0 (λ before.
-    (written : List ℕ) × (w ≡ Some (before ++ written)) × Serves usual_limit events after end input left written)))
+    (written : List ℕ) × (w ≡ Some (before ++ written)) × Serves USUAL_JOURNAL_BYTES events after end input left written)))
 
 -- no input that is well formed ends as malformed or too long
 not_malformed : (events after : List Event) (at : ℕ) (l0 l w0 w : Option (List ℕ))
@@ -200,7 +201,7 @@ not_long events after (Some input) (Some left) (Some before) w served formed tol
 
 -- so it ends well, or for want of memory
 session_completes : (end : SessionEnd) (events : List Event) (l0 l w0 w : Option (List ℕ)) (P : List Event → Type 0) (a b c d : ℕ)
-    → IsServed usual_limit events end l0 l w0 w P → HasCause end a b c d → IsSomeAnd l0 IsWellFormed → IsSome w0
+    → IsServed USUAL_JOURNAL_BYTES events end l0 l w0 w P → HasCause end a b c d → IsSomeAnd l0 IsWellFormed → IsSome w0
     → ¬ (Rose a b) → ¬ (Rose c d) → (session_status end ≡ 0) ⊎ (session_status end ≡ 6)
 session_completes sessions.End events l0 l w0 w P a b c d served cause formed told calm still = inl refl
 session_completes (sessions.Malformed at) events l0 l w0 w P a b c d served cause formed told calm still =

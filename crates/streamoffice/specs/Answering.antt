@@ -2,8 +2,8 @@
 use Rattle.std.specs.Prelude.{◌≡◌, ◌⊎◌, ℕ, List, Option, Some, None, ⊤}
 use Rattle.fixed_units.specs.Quantities.{IsStamp, IsStage}
 use Rattle.office.specs.History.{Event}
-use Rattle.office.specs.declared.records_office.Refusal.{Refusal}
-use Rattle.office.specs.declared.records_office.Refusal.TheVariants as refusals
+use Rattle.office.specs.declared.offices.Refusal.{Refusal}
+use Rattle.office.specs.declared.offices.Refusal.TheVariants as refusals
 use Rattle.wire.specs.ReplyHead.{reply_bytes}
 use Rattle.wire.specs.declared.replies.Kind.TheVariants.{Json}
 use Rattle.wire.specs.declared.replies.TheConstants.{NO_MEMORY_REPLY}

@@ -5,19 +5,16 @@ use Rattle.devices.specs.Cabinets.{Place, OthersStay}
 use Rattle.devices.specs.Faults.{Rose}
 use Rattle.records.specs.declared.edits.What.{What}
 use Rattle.journal.specs.JournalBytes.{HasHeader, IsDamagedAt}
-use Rattle.journal.specs.Moments.{LeavesOnly}
+use Rattle.journal.specs.Moments.{SyncsFirst}
 use Rattle.office.specs.History.{Event, accepted, doubt, reopen, faulted_count}
 use Rattle.office.specs.JournalOfEdits.{IsJournalOfEdits, StandsForEdits}
 use Rattle.office.specs.Stops.{IsLeftBetween}
+use Rattle.office.specs.declared.limits.TheConstants.{USUAL_JOURNAL_BYTES}
 use Rattle.streamoffice.specs.Causes.{RoseBy}
 use Rattle.streamoffice.specs.Places.{HasKept, IfKept, IsLeftAlone, HasTheSame}
 use Rattle.streamoffice.specs.Session.{IsServed}
 use Rattle.streamoffice.specs.declared.commands.RunEnd.{RunEnd}
 use Rattle.streamoffice.specs.declared.commands.RunEnd.TheVariants.{Made, Served, Exists, DiskFault, NotAJournal, Damaged, NoMemory}
-
--- how many bytes a journal may have
-abbrev pub usual_limit : ℕ
-usual_limit = 536_870_912
 
 module _ {D : Type 0} (g : Ghosts D) where
   -- a file, and whatever a stop may leave of it, stands for the edits that were accepted, or for these and the one in doubt
@@ -31,21 +28,20 @@ module _ {D : Type 0} (g : Ghosts D) where
       IfSome places_before (λ b. IsSomeAnd places_after (λ a.
       P (b name) × (HasTheSame g (b name) (a name) × OthersStay name b a)))
 
-  -- The disk had the journal of these edits and is left with that of the history after them, where it tells its bytes. A
-  -- stop at any moment left what it might have left before the journal was opened, or the journal of the edits that were
-  -- accepted up to some point of that history, or of these and one more. No more faults are in the history than the disk
-  -- had.
+  -- The disk had the journal of these edits and is left with that of the history after them, where it tells its bytes. Until
+  -- the sync that began the opening was done, a stop left what it might have left before; from then on it left the journal of
+  -- the edits that were accepted up to some point of that history, or of these and one more. No more faults are in the history
+  -- than the disk had.
   pub record Carries (edits : List What) (after : List Event) (found left : D) : Type 0 where
     pub journal : IfSome (g.content found) (λ bytes. IsJournalOfEdits edits bytes × IsLeftOn after left)
-    pub any_moment : IfSome (g.content found) (λ bytes. LeavesOnly g found left
-        (λ image. g.may_leave found image ⊎ IsLeftBetween (reopen edits) after image))
+    pub any_moment : IfSome (g.content found) (λ bytes. SyncsFirst g found left (IsLeftBetween (reopen edits) after))
     pub causes : RoseBy (faulted_count after) 0 (g.faults left)
 
   -- what a batch over a disk comes to, whose counts of faults are given
   abbrev pub ServesDisk : RunEnd → D → D → Option (List ℕ) → Option (List ℕ) → Option (List ℕ) → Option (List ℕ) → Type 0
   ServesDisk (Served end) found left left_before left_after written_before written_after =
       (edits : List What)
-      × IsServed usual_limit (reopen edits) end left_before left_after written_before written_after
+      × IsServed USUAL_JOURNAL_BYTES (reopen edits) end left_before left_after written_before written_after
       (λ after. Carries edits after found left)
   ServesDisk NotAJournal found left left_before left_after written_before written_after =
       IfSome (g.content found) (λ bytes. ¬ HasHeader bytes) × IsLeftAlone g found left
@@ -72,7 +68,7 @@ module _ {D : Type 0} (g : Ghosts D) where
       → Option (List ℕ) → Option (List ℕ) → Option (List ℕ) → Option (List ℕ) → Type 0
   ServesUnder name (Served end) places_before places_after before now left_before left_after written_before written_after =
       (edits : List What)
-      × IsServed usual_limit (reopen edits) end left_before left_after written_before written_after
+      × IsServed USUAL_JOURNAL_BYTES (reopen edits) end left_before left_after written_before written_after
       (λ after. CarriesUnder name edits after places_before places_after × ((faulted_count after ≡ 0) ⊎ Rose before now))
   ServesUnder name NotAJournal places_before places_after before now left_before left_after written_before written_after =
       StaysWith name (IfKept (λ disk. IfSome (g.content disk) (λ bytes. ¬ HasHeader bytes)))

@@ -6,7 +6,7 @@ ghost use Rattle.journal.specs.Moments.{LeavesOnly};
 ghost use Rattle.journal.specs.declared.making.InitFault.{InitFault};
 ghost use Rattle.streamoffice.specs.Session.{HasCause};
 ghost use Rattle.streamoffice.specs.Making.{MakesOn, IsLeftByMaking, IsMakingEnd, Makes};
-ghost use Rattle.streamoffice.specs.Serving.{ServesDisk, ServesUnder, usual_limit};
+ghost use Rattle.streamoffice.specs.Serving.{ServesDisk, ServesUnder};
 ghost use Rattle.streamoffice.specs.RunEnds.{making_end, opening_end, IsEarly, RunCause};
 
 use crate::sessions::{SessionEnd, session};
@@ -52,7 +52,7 @@ pub(crate) fn make_journal<C: Cabinet>(cabinet: &mut C, name: &str) -> RunEnd
 /// Makes a journal of no records on a disk.
 fn make_on<D: Disk>(disk: D) -> (RunEnd, D)
     ensures makes { IfSome (D.content disk) (λ bytes. MakesOn D.Disk bytes (D.may_leave disk) result.0 result.1) }
-    ensures any_moment { LeavesOnly D.Disk disk result.1 (IsLeftByMaking (D.may_leave disk) result.0) }
+    ensures any_moment { LeavesOnly D.Disk disk result.1 (IsLeftByMaking (D.content disk) (D.may_leave disk) result.0) }
     ensures ends { IsMakingEnd result.0 (D.faults disk) (D.faults result.1) }
     ensures counted { D.faults disk ≤ D.faults result.1 }
 {

@@ -8,7 +8,7 @@ returns-clause-makes g c =
 
 pub returns-clause-any_moment : goal.returns-clause-any_moment
 returns-clause-any_moment g c =
-    leaves_on g.D.Disk (g.D.Disk.may_leave c.args.disk) c.init-made.result c.end_of_making.result
+    leaves_on g.D.Disk (g.D.Disk.content c.args.disk) (g.D.Disk.may_leave c.args.disk) c.init-made.result c.end_of_making.result
     c.args.disk c.init-made.new.disk c.end_of_making.ensures c.init-made.ensures.any_moment
 
 pub returns-clause-ends : goal.returns-clause-ends

@@ -2,7 +2,8 @@ use Rattle.std.proofs.Common.{is_some, ◌∙◌}
 use Rattle.office.specs.History.{reopen}
 use Rattle.office.specs.Stands.{Stands}
 use Rattle.streamoffice.specs.Passing.{Passes}
-use Rattle.streamoffice.specs.Serving.{Carries, usual_limit}
+use Rattle.office.specs.declared.limits.TheConstants.{USUAL_JOURNAL_BYTES}
+use Rattle.streamoffice.specs.Serving.{Carries}
 use Rattle.streamoffice.proofs.ServingLemmas.{served_as, carries, not_opened}
 use Rattle.streamoffice.proofs.commands.serve_disk.Goals as goal
 
@@ -10,7 +11,7 @@ pub returns-in-Ok-clause-serves : goal.returns-in-Ok-clause-serves
 returns-in-Ok-clause-serves g c =
     let opened = c.in-Ok.ensures.opened in (
       opened.edits,
-      served_as c.in-Ok.office.journal.limit usual_limit (reopen opened.edits) c.session-end.result
+      served_as c.in-Ok.office.journal.limit USUAL_JOURNAL_BYTES (reopen opened.edits) c.session-end.result
           (g.S.Source.left c.args.input.now) (g.S.Source.left c.session-end.new.source)
           (g.K.Sink.written c.args.output.now) (g.K.Sink.written c.session-end.new.sink)
           (λ after. Stands (is_some (g.D.Disk.content c.args.disk)) after c.session-end.new.office
@@ -19,7 +20,7 @@ returns-in-Ok-clause-serves g c =
           (λ after. Carries g.D.Disk opened.edits after c.args.disk c.close.result)
           (c.in-Ok.ensures.limit ∙ c.usual.ensures)
           (λ after h. carries opened.edits after
-          c.args.disk c.in-Ok.office.journal.disk c.session-end.new.office c.close.result c.close.ensures.disk opened.found c.in-Ok.ensures.any_moment h)
+          c.args.disk c.in-Ok.office.journal.disk c.session-end.new.office c.close.result c.close.ensures.disk opened.found c.in-Ok.ensures.synced h)
           (c.session-end.ensures.served (is_some (g.D.Disk.content c.args.disk)) (reopen opened.edits) opened.stands),
     )
 

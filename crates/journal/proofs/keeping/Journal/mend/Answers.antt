@@ -3,12 +3,10 @@ use Rattle.std.specs.Result.{IsErrAnd}
 use Rattle.devices.specs.declared.disks.Disk.{Ghosts}
 use Rattle.devices.specs.declared.disks.DiskFailed.{DiskFailed}
 use Rattle.records.specs.declared.edits.Record.{Record}
-use Rattle.journal.specs.JournalBytes.{IsJournalOf, IsUndecided, StandsFor}
+use Rattle.journal.specs.JournalBytes.{IsJournalOf, IsUndecided}
 use Rattle.journal.specs.Keeping.{Holds, Mends}
-use Rattle.journal.specs.Writing.{WasTorn}
 use Rattle.journal.specs.declared.keeping.Journal.{Journal}
-use Rattle.journal.proofs.Moments.{widened}
-use Rattle.journal.proofs.Stages.{undecided_stands}
+use Rattle.journal.proofs.Runs.{mend_moments}
 use Rattle.journal.proofs.Stops.{told_torn, told_written, here, mend_images, mend_done, durable}
 use Rattle.journal.proofs.keeping.Journal.mend.Goals as goal
 
@@ -33,18 +31,14 @@ returns-in_err-write_and_sync-clause-mended g c pieces last holds =
 
 pub returns-in_err-write_and_sync-clause-any_moment : goal.returns-in_err-write_and_sync-clause-any_moment
 returns-in_err-write_and_sync-clause-any_moment g c pieces last holds =
-    let images = mend_images pieces last c.args.self.now.gate (g.D.Disk.may_leave c.args.self.now.disk)
-    (WasTorn c.args.self.now.gate 1 (g.D.Disk.may_leave c.args.self.now.disk)) holds.gate_is holds.images (λ image left. left) in
-    widened g.D.Disk c.args.self.now.disk c.write_and_sync.new.disk _ (StandsFor pieces (Some last)) c.write_and_sync.ensures.any_moment
-    (λ image left. undecided_stands pieces last image (images image left))
+    mend_moments g.D.Disk pieces last c.args.self.now.gate c.args.self.now.disk c.write_and_sync.new.disk holds.gate_is holds.images
+    c.write_and_sync.ensures.any_moment
 
 -- both were done
 pub returns-clause-any_moment : goal.returns-clause-any_moment
 returns-clause-any_moment g c pieces last holds =
-    let images = mend_images pieces last c.args.self.now.gate (g.D.Disk.may_leave c.args.self.now.disk)
-    (WasTorn c.args.self.now.gate 1 (g.D.Disk.may_leave c.args.self.now.disk)) holds.gate_is holds.images (λ image left. left) in
-    widened g.D.Disk c.args.self.now.disk c.write_and_sync.new.disk _ (StandsFor pieces (Some last)) c.write_and_sync.ensures.any_moment
-    (λ image left. undecided_stands pieces last image (images image left))
+    mend_moments g.D.Disk pieces last c.args.self.now.gate c.args.self.now.disk c.write_and_sync.new.disk holds.gate_is holds.images
+    c.write_and_sync.ensures.any_moment
 
 pub returns-clause-mended : goal.returns-clause-mended
 returns-clause-mended g c pieces last holds =

@@ -167,3 +167,21 @@ fn a_source_is_asked_only_for_what_is_missing(rt: HostRuntime) -> Result<(), Fai
     assert_eq!(rt; all.as_slice(), b"get /a;get /b;".as_slice());
     Ok(())
 }
+
+#[test]
+fn a_line_at_fault_is_told_once_it_is_ended(rt: HostRuntime) -> Result<(), Fail> {
+    let alloc = rt.alloc();
+    let mut source = MemorySource::new(
+        Vec::from_slice(alloc, b"GET  /a HTTP/1.1\r\n")?,
+        Vec::new(alloc),
+        WHOLE,
+    );
+    let mut incoming = Incoming::new(alloc)?;
+    let mut all = Text::new(alloc);
+    describe(&incoming.next(alloc, &mut source), &mut all)?;
+    assert_eq!(rt; (source.calls(), source.end_count()), (1, 0));
+    describe(&incoming.next(alloc, &mut source), &mut all)?;
+    assert_eq!(rt; (source.calls(), source.end_count()), (1, 0));
+    assert_eq!(rt; all.as_slice(), b"malformed 0;malformed 0;".as_slice());
+    Ok(())
+}

@@ -4,7 +4,7 @@ use Rattle.std.specs.List.{concat}
 use Rattle.office.specs.History.{Event}
 use Rattle.wire.specs.declared.messages.Message.TheVariants as messages
 use Rattle.wire.specs.declared.replies.TheConstants.{MALFORMED_REPLY}
-use Rattle.wire.specs.Incoming.{Held, IsNext, Answers, IsWithinLimit}
+use Rattle.wire.specs.Incoming.{Held, IsNext, Answers, IsNeeded, IsTakenAsNeeded, IsWithinLimit}
 use Rattle.devices.specs.Sinks.{IsCutShort, AreWritten}
 use Rattle.streamoffice.specs.Served.{StopsWithin, Serves}
 use Rattle.streamoffice.specs.Session.{IsServed, IsReadTo, IsUnderWay}
@@ -144,7 +144,7 @@ ends_at_limit limit events P held held' l0 l l' w0 w u answers within =
             answers = u.answers;
             ends = (
               (next.0.0, next.0.1),
-              longest input (held.ahead ++ b) next.0.0 a held.offset reads.offset next.0.1.taken next.0.3,
+              longest input (held.ahead ++ b) next.0.0 a held.offset reads.offset next.0.1.0 next.0.3,
               wrote,
             );
             taken = taken_of input (held.offset + length (held.ahead ++ b)) (length a) reads.offset next.1;
@@ -157,27 +157,33 @@ whole_malformed : (w0 w w' : Option (List ℕ)) (so_far : List ℕ)
     → IfSome w0 (λ before. (written : List ℕ) × (w' ≡ Some (before ++ written)) × (written ≡ so_far ++ MALFORMED_REPLY.now))
 whole_malformed w0 w w' so_far wrote put = wrote_nothing w0 w' (so_far ++ MALFORMED_REPLY.now) (wrote_whole w0 w w' so_far MALFORMED_REPLY.now wrote put)
 
+-- the rest is malformed, and no more was taken than may be
+abbrev IsEndingBy : Held → Held → ℕ → List ℕ → List ℕ → Type 0
+IsEndingBy held held' at b a =
+    IsNext (held.ahead ++ b) held.offset (messages.Malformed at) (held'.ahead ++ a) a held'.offset
+    × (held.offset + length (held.ahead ++ b) ≤ 2 ^ 36 + length a)
+
 pub ends_malformed : (limit : ℕ) (events : List Event) (P : List Event → Type 0) (held held' : Held) (at : ℕ) (l0 l l' w0 w w' : Option (List ℕ))
     → IsUnderWay limit events P held l0 l w0 w → Answers held l (messages.Malformed at) held' l'
-    → IsWithinLimit held l l' → AreWritten w MALFORMED_REPLY.now w' true
+    → IsWithinLimit held l l' → IsTakenAsNeeded held l l' → AreWritten w MALFORMED_REPLY.now w' true
     → IsServed limit events (ends.Malformed at) l0 l' w0 w' P
-ends_malformed limit events P held held' at l0 l l' w0 w w' u answers within put =
+ends_malformed limit events P held held' at l0 l l' w0 w w' u answers within needed put =
     record {
       after = u.after;
       leaves = u.stands;
-      serves = tell (λ b a. IsNext (held.ahead ++ b) held.offset (messages.Malformed at) (held'.ahead ++ a) a held'.offset × (held.offset + length (held.ahead ++ b) ≤ 2 ^ 36 + length a))
+      serves = tell (λ b a. IsEndingBy held held' at b a × IsNeeded (held.ahead ++ b) a)
           (λ input b. IsReadTo input u.requests (held.ahead ++ b) held.offset)
           (λ written. written ≡ concat u.replies ++ MALFORMED_REPLY.now)
           limit events u.after (ends.Malformed at) l0 l l' w0 w' u.reads
-          (both (λ b a. IsNext (held.ahead ++ b) held.offset (messages.Malformed at) (held'.ahead ++ a) a held'.offset) (λ b a. held.offset + length (held.ahead ++ b) ≤ 2 ^ 36 + length a) l l' answers within) (whole_malformed w0 w w' (concat u.replies) u.wrote put)
+          (both (IsEndingBy held held' at) (λ b a. IsNeeded (held.ahead ++ b) a) l l' (both (λ b a. IsNext (held.ahead ++ b) held.offset (messages.Malformed at) (held'.ahead ++ a) a held'.offset) (λ b a. held.offset + length (held.ahead ++ b) ≤ 2 ^ 36 + length a) l l' answers within) needed) (whole_malformed w0 w w' (concat u.replies) u.wrote put)
           (λ input b a written reads next wrote. record {
             requests = u.requests;
             replies = u.replies;
             rest = held.ahead ++ b;
             reads = reads.reads;
             answers = u.answers;
-            ends = (next.0.0, reads.offset ∙ ap (λ (n : ℕ). n + length (held.ahead ++ b)) (sym next.0.1), wrote);
-            taken = taken_of input (held.offset + length (held.ahead ++ b)) (length a) reads.offset next.1;
+            ends = (next.0.0.0, next.1, reads.offset ∙ ap (λ (n : ℕ). n + length (held.ahead ++ b)) (sym next.0.0.1), wrote);
+            taken = taken_of input (held.offset + length (held.ahead ++ b)) (length a) reads.offset next.0.1;
           });
     }
 
@@ -192,24 +198,24 @@ part_malformed (Some before) w w' so_far wrote put =
 
 pub fails_malformed : (limit : ℕ) (events : List Event) (P : List Event → Type 0) (held held' : Held) (at : ℕ) (l0 l l' w0 w w' : Option (List ℕ))
     → IsUnderWay limit events P held l0 l w0 w → Answers held l (messages.Malformed at) held' l'
-    → IsWithinLimit held l l' → AreWritten w MALFORMED_REPLY.now w' false
+    → IsWithinLimit held l l' → IsTakenAsNeeded held l l' → AreWritten w MALFORMED_REPLY.now w' false
     → IsServed limit events ends.OutputFault l0 l' w0 w' P
-fails_malformed limit events P held held' at l0 l l' w0 w w' u answers within put =
+fails_malformed limit events P held held' at l0 l l' w0 w w' u answers within needed put =
     record {
       after = u.after;
       leaves = u.stands;
-      serves = tell (λ b a. IsNext (held.ahead ++ b) held.offset (messages.Malformed at) (held'.ahead ++ a) a held'.offset × (held.offset + length (held.ahead ++ b) ≤ 2 ^ 36 + length a))
+      serves = tell (λ b a. IsEndingBy held held' at b a × IsNeeded (held.ahead ++ b) a)
           (λ input b. IsReadTo input u.requests (held.ahead ++ b) held.offset)
           (λ written. StopsWithin (concat u.replies) MALFORMED_REPLY.now written)
           limit events u.after ends.OutputFault l0 l l' w0 w' u.reads
-          (both (λ b a. IsNext (held.ahead ++ b) held.offset (messages.Malformed at) (held'.ahead ++ a) a held'.offset) (λ b a. held.offset + length (held.ahead ++ b) ≤ 2 ^ 36 + length a) l l' answers within) (part_malformed w0 w w' (concat u.replies) u.wrote put)
+          (both (IsEndingBy held held' at) (λ b a. IsNeeded (held.ahead ++ b) a) l l' (both (λ b a. IsNext (held.ahead ++ b) held.offset (messages.Malformed at) (held'.ahead ++ a) a held'.offset) (λ b a. held.offset + length (held.ahead ++ b) ≤ 2 ^ 36 + length a) l l' answers within) needed) (part_malformed w0 w w' (concat u.replies) u.wrote put)
           (λ input b a written reads next wrote. record {
             requests = u.requests;
             replies = u.replies;
             rest = held.ahead ++ b;
             reads = reads.reads;
             answers = u.answers;
-            ends = inr (next.0.0, wrote);
-            taken = taken_of input (held.offset + length (held.ahead ++ b)) (length a) reads.offset next.1;
+            ends = inr (next.0.0.0, next.1, wrote);
+            taken = taken_of input (held.offset + length (held.ahead ++ b)) (length a) reads.offset next.0.1;
           });
     }

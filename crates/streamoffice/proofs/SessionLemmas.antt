@@ -128,12 +128,12 @@ tells_failed : (limit : ℕ) (events : List Event) (held' : Held) (l0 l' w0 w w'
     (requests : List Request) (replies : List (List ℕ)) (after next : List Event) (request : Request) (reply : List ℕ)
     → AreReplies limit events requests replies after → IsReply limit after (asked request) reply next
     → IfSome l0 (λ input. IsSomeAnd l' (λ a. IsReadTo input (requests ++ request ∷ []) (held'.ahead ++ a) held'.offset))
-    → taken held' ≤ 2 ^ 36 → IfSome w0 (λ before. w ≡ Some (before ++ concat replies)) → AreWritten w reply w' false
+    → taken held' ≤ 2 ^ 36 → length held'.ahead ≤ 65_536 → IfSome w0 (λ before. w ≡ Some (before ++ concat replies)) → AreWritten w reply w' false
     → IsTold limit events next ends.OutputFault l0 l' w0 w'
-tells_failed limit events held' None l' w0 w w' requests replies after next request reply answers is reads few wrote put = tt
-tells_failed limit events held' (Some input) None w0 w w' requests replies after next request reply answers is reads few wrote put = absurd reads
-tells_failed limit events held' (Some input) (Some a) None w w' requests replies after next request reply answers is reads few wrote put = tt
-tells_failed limit events held' (Some input) (Some a) (Some before) w w' requests replies after next request reply answers is reads few wrote put =
+tells_failed limit events held' None l' w0 w w' requests replies after next request reply answers is reads few block wrote put = tt
+tells_failed limit events held' (Some input) None w0 w w' requests replies after next request reply answers is reads few block wrote put = absurd reads
+tells_failed limit events held' (Some input) (Some a) None w w' requests replies after next request reply answers is reads few block wrote put = tt
+tells_failed limit events held' (Some input) (Some a) (Some before) w w' requests replies after next request reply answers is reads few block wrote put =
     let p = wrote_part (Some before) w w' (concat replies) reply wrote put in (
       concat replies ++ p.0,
       p.1,
@@ -143,7 +143,7 @@ tells_failed limit events held' (Some input) (Some a) (Some before) w w' request
         rest = held'.ahead ++ a;
         reads = reads.reads;
         answers = replies_more limit events requests replies after request reply next answers is;
-        ends = inl (replies, reply, refl, (p.0, refl, p.2));
+        ends = inl (replies, reply, refl, (p.0, refl, p.2), (held'.ahead, refl, block));
         taken = taken_behind input held' a reads.offset few;
       },
     )
@@ -151,29 +151,29 @@ tells_failed limit events held' (Some input) (Some a) (Some before) w w' request
 fails_request : (limit : ℕ) (events : List Event) (P P' : List Event → Type 0) (held held' : Held) (verb : Verb) (target body reply : List ℕ)
     (l0 l l' w0 w w' : Option (List ℕ))
     → IsUnderWay limit events P held l0 l w0 w → Answers held l (messages.Request verb target body) held' l'
-    → taken held' ≤ 2 ^ 36 → Replies limit P (ask_of verb target) reply P' → AreWritten w reply w' false
+    → taken held' ≤ 2 ^ 36 → length held'.ahead ≤ 65_536 → Replies limit P (ask_of verb target) reply P' → AreWritten w reply w' false
     → IsServed limit events ends.OutputFault l0 l' w0 w' P'
-fails_request limit events P P' held held' verb target body reply l0 l l' w0 w w' u answers few answered put =
+fails_request limit events P P' held held' verb target body reply l0 l l' w0 w w' u answers few block answered put =
     let done = answered u.after u.stands in
     record {
       after = done.0;
       leaves = done.2;
       serves = tells_failed limit events held' l0 l' w0 w w' u.requests u.replies u.after done.0
           (record { verb = verb; target = target; body = body }) reply u.answers done.1
-          (reads_request held held' u.requests verb target body l0 l l' u.reads answers) few u.wrote put;
+          (reads_request held held' u.requests verb target body l0 l l' u.reads answers) few block u.wrote put;
     }
 
 fails_skipped : (limit : ℕ) (events : List Event) (P : List Event → Type 0) (held held' : Held) (l0 l l' w0 w w' : Option (List ℕ))
     → IsUnderWay limit events P held l0 l w0 w → Answers held l messages.NoMemory held' l'
-    → taken held' ≤ 2 ^ 36 → AreWritten w NO_MEMORY_REPLY.now w' false
+    → taken held' ≤ 2 ^ 36 → length held'.ahead ≤ 65_536 → AreWritten w NO_MEMORY_REPLY.now w' false
     → IsServed limit events ends.OutputFault l0 l' w0 w' P
-fails_skipped limit events P held held' l0 l l' w0 w w' u answers few put =
+fails_skipped limit events P held held' l0 l l' w0 w w' u answers few block put =
     let read = reads_skipped held held' u.requests l0 l l' u.reads answers in
     record {
       after = u.after;
       leaves = u.stands;
       serves = tells_failed limit events held' l0 l' w0 w w' u.requests u.replies u.after u.after read.0 NO_MEMORY_REPLY.now
-          u.answers (inr (inr (refl, left_alone u.after (asked read.0)))) read.1 few u.wrote put;
+          u.answers (inr (inr (refl, left_alone u.after (asked read.0)))) read.1 few block u.wrote put;
     }
 
 -- a session that begins is under way
@@ -224,28 +224,28 @@ pub after_reply : (done : Bool) (end : Option SessionEnd) (limit : ℕ) (events 
     (verb : Verb) (target body reply : List ℕ) (l0 l l' w0 w w' : Option (List ℕ))
     → end ≡ (if done then None else Some ends.OutputFault)
     → IsUnderWay limit events P held l0 l w0 w → Answers held l (messages.Request verb target body) held' l'
-    → taken held' ≤ 2 ^ 36 → Replies limit P (ask_of verb target) reply P' → AreWritten w reply w' done
+    → taken held' ≤ 2 ^ 36 → length held'.ahead ≤ 65_536 → Replies limit P (ask_of verb target) reply P' → AreWritten w reply w' done
     → GoesOn limit events end P' held' l0 l' w0 w'
-after_reply true end limit events P P' held held' verb target body reply l0 l l' w0 w w' is u answers few answered put =
+after_reply true end limit events P P' held held' verb target body reply l0 l l' w0 w w' is u answers few block answered put =
     subst (λ (e : Option SessionEnd). GoesOn limit events e P' held' l0 l' w0 w') (sym is)
     (goes_on_request limit events P P' held held' verb target body reply l0 l l' w0 w w' u answers answered put)
-after_reply false end limit events P P' held held' verb target body reply l0 l l' w0 w w' is u answers few answered put =
+after_reply false end limit events P P' held held' verb target body reply l0 l l' w0 w w' is u answers few block answered put =
     subst (λ (e : Option SessionEnd). GoesOn limit events e P' held' l0 l' w0 w') (sym is)
-    (fails_request limit events P P' held held' verb target body reply l0 l l' w0 w w' u answers few answered put)
+    (fails_request limit events P P' held held' verb target body reply l0 l l' w0 w w' u answers few block answered put)
 
 -- and after the reply to one that was skipped
 pub after_skip : (done : Bool) (end : Option SessionEnd) (limit : ℕ) (events : List Event) (P : List Event → Type 0) (held held' : Held)
     (l0 l l' w0 w w' : Option (List ℕ))
     → end ≡ (if done then None else Some ends.OutputFault)
     → IsUnderWay limit events P held l0 l w0 w → Answers held l messages.NoMemory held' l'
-    → taken held' ≤ 2 ^ 36 → AreWritten w NO_MEMORY_REPLY.now w' done
+    → taken held' ≤ 2 ^ 36 → length held'.ahead ≤ 65_536 → AreWritten w NO_MEMORY_REPLY.now w' done
     → GoesOn limit events end P held' l0 l' w0 w'
-after_skip true end limit events P held held' l0 l l' w0 w w' is u answers few put =
+after_skip true end limit events P held held' l0 l l' w0 w w' is u answers few block put =
     subst (λ (e : Option SessionEnd). GoesOn limit events e P held' l0 l' w0 w') (sym is)
     (goes_on_skipped limit events P held held' l0 l l' w0 w w' u answers put)
-after_skip false end limit events P held held' l0 l l' w0 w w' is u answers few put =
+after_skip false end limit events P held held' l0 l l' w0 w w' is u answers few block put =
     subst (λ (e : Option SessionEnd). GoesOn limit events e P held' l0 l' w0 w') (sym is)
-    (fails_skipped limit events P held held' l0 l l' w0 w w' u answers few put)
+    (fails_skipped limit events P held held' l0 l l' w0 w w' u answers few block put)
 
 -- A request is answered by what it asks, and the history passes on to what follows.
 pub answered_by : {D : Type 0} (g : Ghosts D) (told : Bool)

@@ -1,9 +1,10 @@
 -- What the top call says of its devices.
-use Rattle.std.specs.Prelude.{◌≡◌, ◌⊎◌, ℕ, ◌<◌, ◌^◌, List, ◌++◌, length, Option, IfSome, IsSomeAnd}
+use Rattle.std.specs.Prelude.{◌≡◌, ◌⊎◌, ℕ, ◌<◌, List, ◌++◌, length, Option, IfSome, IsSomeAnd}
 use Rattle.devices.specs.declared.disks.Disk.{Ghosts}
 use Rattle.devices.specs.Cabinets.{Place}
 use Rattle.devices.specs.Faults.{Rose}
 use Rattle.journal.specs.JournalBytes.{HasHeader, IsDamagedAt, IsTaken, IsForeign}
+use Rattle.wire.specs.declared.limits.TheConstants.{STREAM_BYTES}
 use Rattle.wire.specs.Messages.{Request, AreRequests, IsMalformed}
 use Rattle.streamoffice.specs.Places.{HasKept, bytes_found}
 use Rattle.devices.specs.Sinks.{IsCutShort}
@@ -41,9 +42,9 @@ pub record RunsBatch {D : Type 0} (g : Ghosts D)
   pub serves : ServesUnder g name end places_before places_after before now
       left_before left_after written_before written_after
 
--- an input of fewer than 2^36 bytes in which no message is malformed
+-- an input of fewer bytes than may be taken of a stream, in which no message is malformed
 pub record IsWellFormed (input : List ℕ) : Type 0 where
-  pub short : length input < 2 ^ 36
+  pub short : length input < STREAM_BYTES
   pub whole : (requests : List Request) (rest : List ℕ) → AreRequests input requests rest → ¬ (IsMalformed rest)
 
 -- a journal that is not damaged

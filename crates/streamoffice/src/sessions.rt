@@ -2,6 +2,7 @@
 
 ghost use Rattle.std.specs.Prelude.{◌≡◌, ◌≢◌, ◌+◌, ◌-◌, ◌^◌, ◌<◌, ◌≤◌, false, Bool, ℕ, List, Option, IfSome, if◌then◌else◌};
 ghost use Rattle.wire.specs.Incoming.{taken};
+ghost use Rattle.wire.specs.declared.limits.TheConstants.{STREAM_BYTES};
 ghost use Rattle.http_api.specs.Asks.{ask_of};
 ghost use Rattle.office.specs.History.{Event};
 ghost use Rattle.office.specs.Stands.{Stands};
@@ -80,7 +81,7 @@ fn serve_next<D: Disk, S: Source, K: Sink>(
     sink: &mut K,
 ) -> Option<SessionEnd>
     requires room { office.old.station.edits ≤ 2 ^ 63 + incoming.old.offset }
-    requires limit { taken incoming.old ≤ 2 ^ 36 }
+    requires limit { taken incoming.old ≤ STREAM_BYTES }
     ensures goes_on { (told : Bool) (limit : ℕ) (events : List Event) (first : D) (left written : Option (List ℕ))
         → office.old.journal.limit ≡ limit → IsUnderWay limit events
         (λ after. Stands told after office.old × Passes D.Disk told events after first office.old.journal.disk)
@@ -89,7 +90,7 @@ fn serve_next<D: Disk, S: Source, K: Sink>(
         (λ after. Stands told after office.new × Passes D.Disk told events after first office.new.journal.disk)
         incoming.new left (S.left source.new) written (K.written sink.new) }
     ensures room { result ≡ None → (office.new.station.edits ≤ 2 ^ 63 + incoming.new.offset) × (incoming.old.offset < incoming.new.offset) }
-    ensures limit { taken incoming.new ≤ 2 ^ 36 }
+    ensures limit { taken incoming.new ≤ STREAM_BYTES }
     ensures journal_limit { office.new.journal.limit ≡ office.old.journal.limit }
     ensures disk_counted { D.faults office.old.journal.disk ≤ D.faults office.new.journal.disk }
     ensures input_counted { S.faults source.old ≤ S.faults source.new }

@@ -16,7 +16,7 @@ returns-in-Request-clause-goes_on g c = λ told limit events first left written 
     c.args.incoming.now c.next.new.self c.in-Request.verb c.in-Request.target c.in-Request.body reply.0
     left (g.S.Source.left c.args.source.now) (g.S.Source.left c.next.new.source)
     written (g.K.Sink.written c.args.sink.now) (g.K.Sink.written c.reply_on.new.sink)
-    c.end_unless.ensures u c.in-Request.ensures.answer c.in-Request.ensures.limit
+    c.end_unless.ensures u c.in-Request.ensures.answer c.in-Request.ensures.limit c.in-Request.ensures.block
     (answered_by g.D.Disk told limit c.args.office.now.journal.limit
     (λ h. Stands told h c.args.office.now)
     (λ h. Stands told h c.reply_on.new.office)
@@ -32,7 +32,7 @@ returns-in-NoMemory-clause-goes_on g c = λ told limit events first left written
     c.args.incoming.now c.next.new.self
     left (g.S.Source.left c.args.source.now) (g.S.Source.left c.next.new.source)
     written (g.K.Sink.written c.args.sink.now) (g.K.Sink.written c.put_all.new.sink)
-    c.end_unless-in-NoMemory.ensures u c.in-NoMemory.ensures.answer c.in-NoMemory.ensures.limit c.put_all.ensures.written
+    c.end_unless-in-NoMemory.ensures u c.in-NoMemory.ensures.answer c.in-NoMemory.ensures.limit c.in-NoMemory.ensures.block c.put_all.ensures.written
 
 pub returns-else-put_all-clause-goes_on : goal.returns-else-put_all-clause-goes_on
 returns-else-put_all-clause-goes_on g c = λ told limit events first left written at u.
@@ -41,7 +41,7 @@ returns-else-put_all-clause-goes_on g c = λ told limit events first left writte
     c.args.incoming.now c.next.new.self c.in-Malformed.at
     left (g.S.Source.left c.args.source.now) (g.S.Source.left c.next.new.source)
     written (g.K.Sink.written c.args.sink.now) (g.K.Sink.written c.put_all-in-Malformed.new.sink)
-    u c.in-Malformed.ensures.answer c.in-Malformed.ensures.within
+    u c.in-Malformed.ensures.answer c.in-Malformed.ensures.within c.in-Malformed.ensures.needed
     (subst (λ b. AreWritten (g.K.Sink.written c.args.sink.now) MALFORMED_REPLY.now (g.K.Sink.written c.put_all-in-Malformed.new.sink) b)
     c.if-put_all.false c.put_all-in-Malformed.ensures.written)
 
@@ -51,7 +51,7 @@ returns-then-put_all-clause-goes_on g c = λ told limit events first left writte
     (λ h. Stands told h c.args.office.now × Passes g.D.Disk told events h first c.args.office.now.journal.disk)
     c.args.incoming.now c.next.new.self c.in-Malformed.at left
     (g.S.Source.left c.args.source.now) (g.S.Source.left c.next.new.source) written (g.K.Sink.written c.args.sink.now)
-    (g.K.Sink.written c.put_all-in-Malformed.new.sink) u c.in-Malformed.ensures.answer c.in-Malformed.ensures.within
+    (g.K.Sink.written c.put_all-in-Malformed.new.sink) u c.in-Malformed.ensures.answer c.in-Malformed.ensures.within c.in-Malformed.ensures.needed
     (subst (λ b. AreWritten (g.K.Sink.written c.args.sink.now) MALFORMED_REPLY.now (g.K.Sink.written c.put_all-in-Malformed.new.sink) b)
     c.if-put_all.true c.put_all-in-Malformed.ensures.written)
 

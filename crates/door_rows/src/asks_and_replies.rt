@@ -1,8 +1,8 @@
 //! What no clause says: that the grammar and the texts are the ones meant, by examples written by hand.
 
-use http_api::{Ask, Denied, Reply, read_ask, reply_text, write_reply};
 use daily_values::DayValue;
 use fixed_units::{Day, Micro, Second, Text};
+use http_api::{Ask, Denied, Reply, read_ask, reply_text, write_reply};
 use wire::Verb;
 
 /// To take the reading of this stamp and these millionths.

@@ -4,4 +4,6 @@
 #[cfg(test)]
 mod asks_and_replies;
 #[cfg(test)]
+mod heads;
+#[cfg(test)]
 mod messages;

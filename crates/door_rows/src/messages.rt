@@ -1,11 +1,11 @@
 //! What no clause says: that messages come at all, and which bytes make which message.
 ghost use Rattle.std.specs.Prelude.{◌<◌, ◌≤◌};
 
-use wire::{Incoming, Kind, MALFORMED_REPLY, Message, NO_MEMORY_REPLY, Verb, write_head};
 use devices::MemorySource;
 use fixed_units::{NoMemory, Text};
 use std::alloc::Global;
 use std::test::Fail;
+use wire::{Incoming, Message, Verb};
 
 const WHOLE: usize = 65_536;
 

@@ -4,7 +4,9 @@ ghost use Rattle.fixed_units.specs.Quantities.{IsStage};
 ghost use Rattle.readings.specs.Readings.{IsRising};
 ghost use Rattle.daily_values.specs.DayInputs.{AreInputs};
 
-use daily_values::{DayInputs, DayParts, DayValue, Figures, ReadingList, Sum, compute, from_scratch};
+use daily_values::{
+    DayInputs, DayParts, DayValue, Figures, ReadingList, Sum, compute, from_scratch,
+};
 use fixed_units::{Flag, Micro, Published, Reading, RoundingArray, Second, is_stage};
 use std::alloc::Global;
 use std::process::Abort;

@@ -1,8 +1,8 @@
 //! What no clause says: worked tables, periods and RDB texts, and each public call on its happy path.
 
 use crate::fixtures::{micro, second};
-use ratings::{Period, Periods, Rated, RdbFault, Table, TableFault, read_rdb};
 use fixed_units::{Micro, Second};
+use ratings::{Period, Periods, Rated, RdbFault, Table, TableFault, read_rdb};
 use std::test::Fail;
 
 /// A foot, or a cubic foot per second.

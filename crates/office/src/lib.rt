@@ -11,6 +11,7 @@ pub mod offices;
 mod opening;
 pub mod station;
 pub mod station_state;
+
 pub use limits::Limits;
 pub use offices::{Office, Refusal};
 pub use station_state::{Answer, StationState};

@@ -5,11 +5,11 @@ ghost use Rattle.fixed_units.specs.Quantities.{IsStage, IsStamp};
 ghost use Rattle.records.specs.Edits.{IsWhat};
 
 use crate::fixtures::reading;
-use office::from_scratch::changed_days;
-use office::{Answer, Limits, Office, Refusal};
 use daily_values::DayValue;
 use devices::MemoryDisk;
 use fixed_units::{Day, Flag, Micro, Published, Reading, Second};
+use office::from_scratch::changed_days;
+use office::{Answer, Limits, Office, Refusal};
 use readings::Readings;
 use records::What;
 use std::process::Abort;

@@ -13,4 +13,6 @@ mod journals;
 #[cfg(test)]
 mod payloads;
 #[cfg(test)]
+mod pending_days;
+#[cfg(test)]
 mod streams;

@@ -1,11 +1,11 @@
 //! What no clause says: that the bytes are the ones meant, by records written out by hand, and that the calls succeed.
 
+use crate::fixtures::reading;
+use fixed_units::{Text, is_stage, is_stamp};
 use records::first_path::{is_numbered, record_of};
 use records::laws::{
     built_in_keeps_grammar, keeps_grammar, none_begins_another, payload_of_one_record, sizes,
 };
-use crate::fixtures::reading;
-use fixed_units::{Text, is_stage, is_stamp};
 use records::{By, DecodeFault, Record, Ref, What, decode, encode};
 use std::alloc::Global;
 use std::process::Abort;
@@ -23,13 +23,7 @@ fn text_of(alloc: Global, bytes: &[u8]) -> Result<Text, Fail> {
     }
 }
 
-fn record(
-    rt: &impl Abort,
-    alloc: Global,
-    number: u64,
-    at: i64,
-    raw: i64,
-) -> Result<Record, Fail> {
+fn record(rt: &impl Abort, alloc: Global, number: u64, at: i64, raw: i64) -> Result<Record, Fail> {
     if number == 0 || !is_stamp(at) || !is_stage(raw) {
         return Err("an edit of the first path is meant".into());
     }

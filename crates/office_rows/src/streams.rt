@@ -1,7 +1,10 @@
 //! What no clause says: that calls succeed, and what real streams do.
 ghost use Rattle.std.specs.Prelude.{◌≤◌, IfOk};
 
-use devices::{MemorySink, MemorySource, Put, ReaderSource, Sink, Source, StderrSink, StdinSource, StdoutSink, Took, WriterSink};
+use devices::{
+    MemorySink, MemorySource, Put, ReaderSource, Sink, Source, StderrSink, StdinSource, StdoutSink,
+    Took, WriterSink,
+};
 use std::alloc::Global;
 use std::io;
 use std::io::{ErrorKind, Read, Write};

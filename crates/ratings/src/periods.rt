@@ -1,6 +1,6 @@
 //! The periods of a station, of which at most one is in force at an instant.
 
-ghost use Rattle.std.specs.Prelude.{◌≡◌, ◌≢◌, ◌+◌, ◌<◌, ◌≤◌, [], None, All, OnOk, OnErr, IsSome};
+ghost use Rattle.std.specs.Prelude.{◌≡◌, ◌≢◌, ◌+◌, ◌<◌, ◌≤◌, [], None, All, OnOk, OnErr, IsOk, IsSome, ◌↔◌};
 ghost use Rattle.rising.specs.Lists as lists;
 ghost use Rattle.ratings.specs.Periods as periods;
 ghost use Rattle.ratings.specs.Periods.{AreApart, begin, overlap, in_force, stands_in_the_way};
@@ -42,7 +42,7 @@ impl Periods {
 
     /// Makes room for so many more periods. After `NoMemory` all is as before.
     pub fn reserve(&mut self, n: usize) -> Result<(), NoMemory>
-        ensures ok { OnOk result (n ≤ self.new.spare) }
+        ensures ok { IsOk result ↔ (n ≤ self.new.spare) }
         ensures list { self.new.list ≡ self.old.list }
         ensures room { self.old.spare ≤ self.new.spare }
     {

@@ -1,5 +1,5 @@
 -- What a request asks keeps to the grammar.
-use Rattle.std.proofs.Common.{◌≡◌, ℕ, Bool, true, false, ◌&&◌, if◌then◌else◌, List, Option, Some, None, IfSome, option_map, option_and_then, Result, Ok, Err, refl, bytes_eq, codes, ℤ, pos, neg_ℤ, int_le, ◌≤ℤ◌, arith}
+use Rattle.std.proofs.Common.{◌≡◌, ℕ, Bool, true, false, if◌then◌else◌, List, Option, Some, None, IfSome, option_map, option_and_then, Result, Ok, Err, refl, bytes_eq, codes, ℤ, pos, neg_ℤ, int_le, arith}
 use Rattle.std.specs.List.{before_first, after_first}
 use Rattle.std.proofs.lemmas.Bool.{and_parts}
 use Rattle.std.proofs.lemmas.Int.{ints}

@@ -42,12 +42,11 @@ const HEADS: [(u16, Kind, Option<Verb>, usize, &[u8]); 5] = [
     ),
 ];
 
-/// The first line of each status that replies have.
-const STATUS_LINES: [(u16, &[u8]); 10] = [
+/// The first line of each status that needs no word of what is allowed.
+const STATUS_LINES: [(u16, &[u8]); 9] = [
     (200, b"HTTP/1.1 200 OK\r\n"),
     (400, b"HTTP/1.1 400 Bad Request\r\n"),
     (404, b"HTTP/1.1 404 Not Found\r\n"),
-    (405, b"HTTP/1.1 405 Method Not Allowed\r\n"),
     (409, b"HTTP/1.1 409 Conflict\r\n"),
     (411, b"HTTP/1.1 411 Length Required\r\n"),
     (413, b"HTTP/1.1 413 Payload Too Large\r\n"),

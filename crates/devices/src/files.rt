@@ -1,6 +1,6 @@
 //! Adapters: a file as a disk, and the system's files as a cabinet. They tell nothing of content, since no clause can
 //! say what a file has.
-ghost use Rattle.std.specs.Prelude.{◌≡◌, ◌≤◌, [], true, None, Ok, IfOk, IsErr, OnErr};
+ghost use Rattle.std.specs.Prelude.{◌≡◌, ◌≤◌, [], true, None, Ok, IfOk, IsErr, OnOk, OnErr};
 ghost use Rattle.devices.specs.Disks.{HasCause};
 ghost use Rattle.devices.specs.Files.{tells_nothing};
 
@@ -33,6 +33,7 @@ impl FileDisk {
 
     fn answer<T: Drop>(&mut self, outcome: io::Result<T>) -> Result<T, DiskFailed>
         ensures done { IfOk outcome (λ value. (result ≡ Ok value) × (self.new ≡ self.old)) }
+        ensures failed { OnErr outcome (IsErr result) }
         ensures counted { self.old.faults ≤ self.new.faults }
         ensures cause { HasCause self.old.faults self.new.faults result }
         ensures same_bar { self.new.sync_failed ≡ self.old.sync_failed }
@@ -60,6 +61,7 @@ impl FileDisk {
     fn sync_file(&mut self) -> io::Result<()>
         ensures barred { self.old.sync_failed ≡ true → IsErr result }
         ensures bars { OnErr result (self.new.sync_failed ≡ true) }
+        ensures stays { OnOk result (self.new.sync_failed ≡ self.old.sync_failed) }
         ensures faults { self.new.faults ≡ self.old.faults }
     {
         if self.sync_failed {
@@ -71,6 +73,7 @@ impl FileDisk {
     }
 }
 
+// What is left out of the trait's clauses speaks of a content that is told.
 impl Disk for FileDisk {
     ghost content = { λ _. None };
 
@@ -90,22 +93,41 @@ impl Disk for FileDisk {
 
     ghost only_now = { λ d image left. left };
 
-    fn len(&mut self) -> Result<u64, DiskFailed> {
+    fn len(&mut self) -> Result<u64, DiskFailed>
+        ensures same_bar { self.new.sync_failed ≡ self.old.sync_failed }
+        ensures counted { self.old.faults ≤ self.new.faults }
+        ensures cause { HasCause self.old.faults self.new.faults result }
+    {
         let metadata = self.file.metadata();
         Ok(self.answer(metadata)?.len())
     }
 
-    fn read_at(&mut self, at: u64, into: &mut [u8]) -> Result<(), DiskFailed> {
+    fn read_at(&mut self, at: u64, into: &mut [u8]) -> Result<(), DiskFailed>
+        ensures same_bar { self.new.sync_failed ≡ self.old.sync_failed }
+        ensures counted { self.old.faults ≤ self.new.faults }
+        ensures cause { HasCause self.old.faults self.new.faults result }
+    {
         let outcome = self.file.read_exact_at(into, at);
         self.answer(outcome)
     }
 
-    fn write_at(&mut self, at: u64, bytes: &[u8]) -> Result<(), DiskFailed> {
+    fn write_at(&mut self, at: u64, bytes: &[u8]) -> Result<(), DiskFailed>
+        ensures barred { self.old.sync_failed ≡ true → IsErr result }
+        ensures same_bar { self.new.sync_failed ≡ self.old.sync_failed }
+        ensures counted { self.old.faults ≤ self.new.faults }
+        ensures cause { HasCause self.old.faults self.new.faults result }
+    {
         let outcome = self.write_file(at, bytes);
         self.answer(outcome)
     }
 
-    fn sync(&mut self) -> Result<(), DiskFailed> {
+    fn sync(&mut self) -> Result<(), DiskFailed>
+        ensures barred { self.old.sync_failed ≡ true → IsErr result }
+        ensures bars { OnErr result (self.new.sync_failed ≡ true) }
+        ensures stays { OnOk result (self.new.sync_failed ≡ self.old.sync_failed) }
+        ensures counted { self.old.faults ≤ self.new.faults }
+        ensures cause { HasCause self.old.faults self.new.faults result }
+    {
         let outcome = self.sync_file();
         self.answer(outcome)
     }

@@ -29,6 +29,8 @@ from journals import FIRST, STAGE, request
 LOOP_SET_STATUS64, LOOP_GET_STATUS64 = 0x4C04, 0x4C05
 SIZE_LIMIT = slice(32, 40)
 PAGE = 4096
+# How long a sync is held back, for its blocks to be taken away meanwhile.
+HELD = "8s"
 
 
 def call(*words):
@@ -41,6 +43,13 @@ def wait_until(what, is_so):
         if time.monotonic() > end:
             raise SystemExit(f"waited in vain until {what}")
         time.sleep(0.005)
+
+
+def has_ended(process):
+    try:
+        return "State:\tZ" in pathlib.Path(f"/proc/{process}/status").read_text()
+    except OSError:
+        return True
 
 
 class FileSystem:
@@ -77,6 +86,10 @@ class FileSystem:
         yield
         self.limit(0)
 
+    def write_back(self):
+        """Has the system write what it keeps of this file system, and of no other. It may fail."""
+        subprocess.run(["sync", "--file-system", self.point], stderr=subprocess.DEVNULL)
+
     def remount(self):
         self.unmount()
         self.mount()
@@ -92,7 +105,7 @@ class Run:
 
     def __init__(self, program, journal, held=None):
         words = [program, "batch", "--journal", journal]
-        hold = ["strace", "-o", "/dev/null", f"--inject=fdatasync:delay_enter=2s:when={held}"] if held else []
+        hold = ["strace", "-o", "/dev/null", f"--inject=fdatasync:delay_enter={HELD}:when={held}"] if held else []
         self.process = subprocess.Popen(
             [*hold, *words], stdin=subprocess.PIPE, stdout=subprocess.PIPE, stderr=subprocess.DEVNULL
         )
@@ -120,13 +133,15 @@ class Run:
         return self.process.wait(), rest
 
     def kill(self):
-        """Kills the program itself, and not strace alone."""
-        for status in pathlib.Path("/proc").glob("[0-9]*/status"):
-            with contextlib.suppress(OSError):
-                if f"PPid:\t{self.process.pid}\n" in status.read_text():
-                    os.kill(int(status.parent.name), 9)
+        """Kills the program itself and then strace, which would wait out the hold before it let the program end."""
+        strace = self.process.pid
+        programs = pathlib.Path(f"/proc/{strace}/task/{strace}/children").read_text().split()
+        for program in programs:
+            os.kill(int(program), 9)
+        self.process.kill()
         self.process.wait()
         self.process.stdin.close()
+        wait_until("the program has ended", lambda: all(map(has_ended, programs)))
 
 
 class Case:
@@ -197,14 +212,14 @@ class Case:
 
 
 def killed_while(case, held, what, is_so):
-    """An edit is sent, and the run is killed at the sync of that number, once it is so. The blocks are gone when the
-    system writes what the run left."""
+    """An edit is sent, and the run is killed at the sync of that number, once it is so. The blocks go before the kill,
+    and so are gone when the system writes what the run left."""
     run = Run(case.program, case.journal, held)
     run.send(100_000)
     wait_until(what, is_so)
-    run.kill()
     with case.system.failing():
-        call("sync")
+        run.kill()
+        case.system.write_back()
     case.want("the next run is told of it", (4, "streamoffice: disk fault\n"), case.status("batch"))
 
 
@@ -254,8 +269,8 @@ def sync_of_an_opening(case):
     run = Run(case.program, case.journal, case.held_gate)
     run.send(100_000)
     wait_until("the gate is written", case.gate_is_open)
-    run.kill()
     with case.system.failing():
+        run.kill()
         for _ in range(2):
             case.want("batch", (4, "streamoffice: disk fault\n"), case.status("batch"))
     case.served()

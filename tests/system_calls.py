@@ -8,6 +8,7 @@ and synced, and its gate then, before its reply goes out; how a journal is made 
 of these calls fails. Each case states the calls or the answers that are wanted; the script ends with status 1 at the
 first that differs. It says so where strace is missing. It takes some seconds.
 """
+import os
 import pathlib
 import re
 import shutil
@@ -39,8 +40,11 @@ WATCHED = {
     "rename": "rename",
 }
 LINE = re.compile(r"(\w+)\((.*)\) += (-?\d+)")
-OPENING = ["open O_RDWR", "lock LOCK_EX|LOCK_NB", "sync", "forget POSIX_FADV_DONTNEED"]
-FOLDER = ["open folder O_RDONLY", "sync all folder", "close folder"]
+PATH = re.compile(r'[<"](.*)[>"]')
+# From the first byte to the last, which a length of 0 stands for.
+OPENING = ["open O_RDWR", "lock LOCK_EX|LOCK_NB", "sync", "forget 0, 0, POSIX_FADV_DONTNEED"]
+MAKING = ["open O_RDWR|O_CREAT", *OPENING[1:], "open folder O_RDONLY", "sync all folder", "close folder"]
+INIT = [*MAKING, f"write {HEADER + 1} at 0", "sync", "close"]
 
 
 def edit(number):
@@ -57,11 +61,13 @@ class Calls:
         self.journal = f"{self.folder}/journal"
         pathlib.Path(self.folder).mkdir()
 
-    def run(self, command, count=0, *options, shell=()):
-        """The program's status, its replies' bodies and its line, for so many readings on its input."""
+    def run(self, command, count=0, *options, shell=(), journal=None):
+        """The program's status, its replies' bodies and its line, for so many readings on its input. It runs in the
+        journal's folder."""
         readings = b"".join(request(FIRST + n) for n in range(count))
-        words = ["strace", "-f", "-y", "-o", self.log, *options, *shell, self.program, command, "--journal", self.journal]
-        done = subprocess.run(words, input=readings, capture_output=True, timeout=60)
+        program = [*shell, self.program, command, "--journal", journal or self.journal]
+        words = ["strace", "-f", "-y", "-o", self.log, *options, *program]
+        done = subprocess.run(words, input=readings, capture_output=True, timeout=60, cwd=self.folder)
         return done.returncode, re.findall(r"\{.*?\}", done.stdout.decode()), done.stderr.decode()
 
     def seen(self):
@@ -76,15 +82,17 @@ class Calls:
 
     def name(self, call, arguments, result):
         words = arguments.replace("|O_NOCTTY", "").replace("|O_CLOEXEC", "").split(", ")
-        if f'"{self.journal}"' in arguments or f"<{self.journal}>" in arguments:
+        path = PATH.search(words[1 if call == "openat" else 0])
+        path = path and os.path.normpath(os.path.join(self.folder, path[1]))
+        if path == self.journal:
             place = ""
-        elif f'"{self.folder}"' in arguments or f"<{self.folder}>" in arguments:
+        elif path == self.folder:
             place = " folder"
         elif call in ("read", "write") and words[0][:2] in ("0<", "1<", "2<"):
             place = {"0": " input", "1": " output", "2": " line"}[words[0][0]]
         else:
             return None
-        details = {"openat": words[-1], "flock": words[-1], "fadvise64": words[-1], "ftruncate": words[-1]}.get(call, "")
+        details = {"flock": words[-1], "fadvise64": ", ".join(words[1:]), "ftruncate": words[-1]}.get(call, "")
         if call == "openat":
             details = words[2]
         if call == "pwrite64":
@@ -100,11 +108,10 @@ def expect(what, wanted, got):
 
 def order_of_calls(calls):
     expect("init ends", (0, [], ""), calls.run("init"))
-    making = ["open O_RDWR|O_CREAT", *OPENING[1:], *FOLDER]
-    expect("init: lock, folder, then the journal", [*making, f"write {HEADER + 1} at 0", "sync", "close"], calls.seen())
+    expect("init: lock, folder, then the journal", INIT, calls.seen())
     expect("init over it ends", (8, [], "streamoffice: journal exists\n"), calls.run("init"))
     told = ["write line"]
-    expect("init over it writes nothing", [*making, "close", *told], calls.seen())
+    expect("init over it writes nothing", [*MAKING, "close", *told], calls.seen())
     accepted = ['{"edit":1,"repeated":false}', '{"edit":2,"repeated":false}']
     expect("batch ends", (0, accepted, ""), calls.run("batch", 2))
     session = [*OPENING, "sync", "read input", *edit(1), *edit(2), "read input", "close"]
@@ -114,6 +121,20 @@ def order_of_calls(calls):
     pathlib.Path(calls.journal).write_bytes(b"another file of some length")
     expect("batch on another file ends", (5, [], "streamoffice: not a journal\n"), calls.run("batch", 2))
     expect("batch on another file writes nothing", [*OPENING, "sync", "close", *told], calls.seen())
+
+
+def journal_in_the_folder_of_the_run(calls):
+    """A journal that is named without a folder: the folder that the program runs in is synced."""
+    name = pathlib.Path(calls.journal).name
+    expect("init of a name alone ends", (0, [], ""), calls.run("init", journal=name))
+    expect("init of a name alone syncs the folder too", INIT, calls.seen())
+    accepted = ['{"edit":1,"repeated":false}']
+    expect("batch of a name alone ends", (0, accepted, ""), calls.run("batch", 1, journal=name))
+    session = [*OPENING, "sync", "read input", *edit(1), "read input", "close"]
+    expect("batch of a name alone: the same calls", session, calls.seen())
+    pathlib.Path(calls.journal).unlink()
+    faulty = calls.run("init", 0, "-P", calls.folder, fault("fsync", 1), journal=name)
+    expect("init of a name alone where the folder's sync fails", (4, [], DISK_FAULT), faulty)
 
 
 def fault(call, number, error="EIO"):
@@ -183,7 +204,14 @@ def main():
         print("can't run here: strace is missing")
         return
     program = str(pathlib.Path(sys.argv[1]).resolve())
-    for case in [order_of_calls, faults_of_init, faults_of_batch, streams_that_are_not_taken_up]:
+    cases = [
+        order_of_calls,
+        journal_in_the_folder_of_the_run,
+        faults_of_init,
+        faults_of_batch,
+        streams_that_are_not_taken_up,
+    ]
+    for case in cases:
         with tempfile.TemporaryDirectory() as place:
             case(Calls(program, pathlib.Path(place).resolve()))
     print("every call in its order, and every fault told")

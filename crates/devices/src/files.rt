@@ -198,6 +198,10 @@ fn open_file(rt: &HostRuntime, name: &str, make: bool) -> io::Result<File> {
     if file.as_raw_fd() <= 2 {
         return Err(io::Error::from(ErrorKind::Other));
     }
+    // A device tells length 0 whatever it has, and would pass for an empty file.
+    if !file.metadata()?.is_file() {
+        return Err(io::Error::from(ErrorKind::Other));
+    }
     file.try_lock()?;
     forget_pages(&file)?;
     if make {

@@ -1,11 +1,13 @@
-//! Worked rows of the lower floors: what no clause says of numbers, readings, curves, ratings and day values, as tables. They
-//! stand beside the crates and not in them, so that each crate is proved once.
+//! Worked rows of the lower floors: what no clause says of numbers, readings, curves, ratings, day values and the days of
+//! zones, as tables. They stand beside the crates and not in them, so that each crate is proved once.
 #![tactic(auto)]
 
 #[cfg(test)]
 mod curves_rows;
 #[cfg(test)]
 mod day_values;
+#[cfg(test)]
+mod days;
 #[cfg(test)]
 mod fixtures;
 #[cfg(test)]

@@ -1,6 +1,6 @@
 //! The periods of a station, of which at most one is in force at an instant.
 
-ghost use Rattle.std.specs.Prelude.{◌≡◌, ◌≢◌, ◌+◌, ◌<◌, ◌≤◌, [], None, All, OnOk, OnErr, IsOk, IsSome, ◌↔◌};
+ghost use Rattle.std.specs.Prelude.{◌≡◌, ◌≢◌, ◌+◌, ◌<◌, ◌≤◌, [], length, None, All, OnOk, OnErr, IsOk, IsSome, ◌↔◌};
 ghost use Rattle.rising.specs.Lists as lists;
 ghost use Rattle.ratings.specs.Periods as periods;
 ghost use Rattle.ratings.specs.Periods.{AreApart, begin, overlap, in_force, stands_in_the_way};
@@ -45,6 +45,7 @@ impl Periods {
         ensures ok { IsOk result ↔ (n ≤ self.new.spare) }
         ensures list { self.new.list ≡ self.old.list }
         ensures room { self.old.spare ≤ self.new.spare }
+        ensures err { OnErr result (self.new ≡ self.old) }
     {
         self.list.reserve(n)?;
         Ok(())
@@ -73,7 +74,8 @@ impl Periods {
         requires room { 0 < self.old.spare }
         requires apart { overlap period self.old.list ≡ None }
         ensures list { self.new.list ≡ lists.put begin period self.old.list }
-        ensures room { self.old.spare ≤ self.new.spare + 1 }
+        ensures spare { self.old.spare ≤ self.new.spare + 1 }
+        ensures room { length self.new.list + self.new.spare ≡ length self.old.list + self.old.spare }
     {
         // The proof learns here that the period ends after it begins.
         let _from = period.from;
@@ -90,7 +92,8 @@ impl Periods {
         ensures list { self.new.list ≡ lists.without begin from self.old.list }
         ensures err { OnErr result (All (λ p. p.from ≢ from) self.old.list) }
         ensures unchanged { OnErr result (self.new ≡ self.old) }
-        ensures room { self.old.spare ≤ self.new.spare }
+        ensures spare { self.old.spare ≤ self.new.spare }
+        ensures room { length self.new.list + self.new.spare ≡ length self.old.list + self.old.spare }
     {
         match self.list.take_out(from) {
             Some(_taken) => Ok(()),

@@ -2,5 +2,6 @@
 #![tactic(auto)]
 
 pub mod lists;
+
 pub use fixed_units::{Flag, Reading};
 pub use lists::{Place, Readings, Window};

@@ -49,8 +49,9 @@ pub fn run_office<R, S: Source, K: Sink, E: Sink, C: Cabinet>(
     ensures init_alone { (name : List ℕ) → IsAsked (map string_bytes words.now) (Init name) → (input.new ≡ input.old) × (output.new ≡ output.old) }
 
     // The headline: the bytes written are the office's replies to the bytes read, over the journal that was found, and
-    // what is left is the journal of the edits that were accepted. A stop at any moment of the run leaves what it might
-    // have left before, or the journal of those accepted up to some point, or of these and one more.
+    // what is left is the journal of the edits that were accepted. Until the sync that begins the opening was done a stop
+    // leaves what it might have left before; from then on the journal of those accepted up to some point, or of these and
+    // one more.
     ensures batch { (name : List ℕ) → IsAsked (map string_bytes words.now) (Batch name)
         → RunsBatch C.Disk.Disk name result
         (C.places cabinet.old) (C.places cabinet.new) (C.faults cabinet.old) (C.faults cabinet.new)

@@ -5,11 +5,12 @@
 
 It needs to mount small file systems in memory, so it is run by root or where `unshare --map-root-user --mount` is
 allowed. Each case states the status and the line that are wanted; the script ends with status 1 at the first that
-differs. It takes a few seconds.
+differs. It takes a few seconds. The case of a block device needs a loop device, and is left out where none can be had.
 """
 import os
 import pathlib
 import resource
+import shutil
 import signal
 import subprocess
 import sys
@@ -136,6 +137,64 @@ def in_the_place_of_a_journal(program, place):
             raise SystemExit("the file has changed")
 
 
+def expect_nothing_is_opened(program, what, name):
+    """Neither command takes it for a journal, and each ends in time."""
+    for command in ["init", "batch"]:
+        answer = run(program, [command, "--journal", name], journals.request(1))[::2]
+        expect(f"{command} on {what}", (4, "streamoffice: disk fault\n"), answer)
+
+
+def fifo_in_the_place_of_a_journal(program, place):
+    """Nothing is written to it, also where another process has both its ends open."""
+    name = f"{place}/fifo"
+    os.mkfifo(name)
+    expect_nothing_is_opened(program, "a fifo", name)
+    ends = os.open(name, os.O_RDWR | os.O_NONBLOCK)
+    expect_nothing_is_opened(program, "a fifo that is open", name)
+    try:
+        raise SystemExit(f"the fifo was given {os.read(ends, 99)!r}")
+    except BlockingIOError:
+        os.close(ends)
+
+
+def block_device_in_the_place_of_a_journal(program, place):
+    """It tells length 0 for all its data, of which not one byte changes, not even where it is a journal's."""
+    if not shutil.which("losetup"):
+        print("a block device: can't run here, losetup is missing")
+        return
+    image = pathlib.Path(place, "image")
+    data = journals.HEADER + b"".join(journals.block(n, journals.FIRST + n, journals.STAGE) for n in range(1, 2000))
+    image.write_bytes(data[: 1 << 16])
+    made = subprocess.run(["losetup", "--find", "--show", image], capture_output=True)
+    if made.returncode != 0:
+        print(f"a block device: can't run here, {made.stderr.decode().strip()}")
+        return
+    device = made.stdout.decode().strip()
+    try:
+        expect_nothing_is_opened(program, "a block device", device)
+        if pathlib.Path(device).read_bytes() != data[: 1 << 16]:
+            raise SystemExit("the block device has changed")
+    finally:
+        subprocess.run(["losetup", "--detach", device], check=True)
+
+
+def link_to_a_journal(program, place):
+    """It is followed: the journal has the edits, and the link stays what it is."""
+    journal, link = f"{place}/journal", f"{place}/link"
+    expect("init", (0, ""), run(program, ["init", "--journal", journal])[::2])
+    os.symlink(journal, link)
+    expect("init on a link to a journal", (8, "streamoffice: journal exists\n"), run(program, ["init", "--journal", link])[::2])
+    for number, name in enumerate([link, journal, link], 1):
+        request = journals.request(journals.FIRST + 60 * number)
+        status, output, line = run(program, ["batch", "--journal", name], request)
+        expect(f"batch on {'a link to a journal' if name == link else 'the journal'}", (0, ""), (status, line))
+        if b'{"edit":%d,"repeated":false}' % number not in output:
+            raise SystemExit(f"edit {number} was answered {output!r}")
+    kept, _ = journals.read(pathlib.Path(journal).read_bytes())
+    if len(kept) != 3 or os.readlink(link) != journal:
+        raise SystemExit(f"{len(kept)} kept, and the link is to {os.readlink(link)}")
+
+
 def main():
     if len(sys.argv) != 2:
         raise SystemExit(__doc__)
@@ -148,6 +207,9 @@ def main():
         limit_on_the_size_of_files,
         read_only,
         in_the_place_of_a_journal,
+        fifo_in_the_place_of_a_journal,
+        block_device_in_the_place_of_a_journal,
+        link_to_a_journal,
     ]:
         with tempfile.TemporaryDirectory() as place:
             case(program, place)

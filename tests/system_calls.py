@@ -142,11 +142,20 @@ def fault(call, number, error="EIO"):
 
 
 def faults_of_init(calls):
-    for call in ["openat", "flock", "fdatasync", "fadvise64", "fsync", "pwrite64"]:
+    for call, number in [
+        ("openat", 1),
+        ("statx", 1),
+        ("flock", 1),
+        ("fdatasync", 1),
+        ("fadvise64", 1),
+        ("fsync", 1),
+        ("statx", 2),
+        ("pwrite64", 1),
+        ("fdatasync", 2),
+    ]:
         pathlib.Path(calls.journal).unlink(missing_ok=True)
-        expect(f"init where {call} fails", (4, [], DISK_FAULT), calls.run("init", 0, *on(calls), fault(call, 1)))
-    pathlib.Path(calls.journal).unlink(missing_ok=True)
-    expect("init where the second fdatasync fails", (4, [], DISK_FAULT), calls.run("init", 0, *on(calls), fault("fdatasync", 2)))
+        answer = calls.run("init", 0, *on(calls), fault(call, number))
+        expect(f"init where {call} fails, time {number}", (4, [], DISK_FAULT), answer)
 
 
 def on(calls):
@@ -158,11 +167,12 @@ def faults_of_batch(calls):
     accepted = ['{"edit":%d,"repeated":false}' % number for number in range(1, 5)]
     for call, number, wanted in [
         ("openat", 1, None),
+        ("statx", 1, None),
         ("flock", 1, None),
         ("fdatasync", 1, None),
         ("fadvise64", 1, None),
         ("fdatasync", 2, None),
-        ("statx", 1, None),
+        ("statx", 2, None),
         ("pread64", 1, None),
         # A write that failed stops nothing where the gate is closed for sure.
         ("pwrite64", 1, [FALSE, *accepted[:3]]),

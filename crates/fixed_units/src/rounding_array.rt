@@ -28,6 +28,13 @@ impl Model for RoundingArray {
 }
 
 impl RoundingArray {
+    /// The usual array of stages, as the definitions name it: that of `RoundingArray::STAGES`.
+    pub fn usual_of_stages() -> RoundingArray
+        ensures { result ≡ stage_array }
+    {
+        RoundingArray::STAGES
+    }
+
     /// `9999999992`, the usual array of stages: nine figures, at most two decimals.
     pub const STAGES: RoundingArray = RoundingArray {
         digits: *b"9999999992",

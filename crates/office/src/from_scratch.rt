@@ -9,7 +9,7 @@ ghost use Rattle.office.specs.Changes as changes;
 ghost use Rattle.office.specs.Changes.{same_inputs};
 
 use crate::station::{GAP, bounds};
-use fixed_units::{Day, Flag, NoMemory, Reading};
+use fixed_units::{Day, FIRST_DAY, Flag, LAST_DAY, NoMemory, Reading};
 use readings::Readings;
 use records::What;
 use std::alloc::Global;
@@ -20,7 +20,7 @@ pub fn changed_days(alloc: Global, before: &Readings, edit: &What) -> Result<Vec
 {
     let after = readings_after(alloc, before, edit)?;
     let mut days = Vec::new(alloc);
-    for number in -25_567..47_482 {
+    for number in FIRST_DAY..LAST_DAY + 1 {
         let day = Day::new(number).unwrap();
         if differs(alloc, before, &after, day)? {
             days.push(day)?;

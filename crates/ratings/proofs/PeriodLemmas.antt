@@ -11,7 +11,7 @@ use Rattle.rising.specs.Lists.{IsRising, before, after, put, without}
 use Rattle.rising.proofs.Selecting.{filter_none, AllPairs-head, AllPairs-tail, AllPairs-append}
 use Rattle.rising.proofs.Parting.{lt_yes, lt_no, after_is_after}
 use Rattle.rising.proofs.Placing.{before_is_before, put_rises, without_rises, put_keeps, without_keeps}
-use Rattle.ratings.specs.Spans.{Span}
+use Rattle.ratings.specs.Spans.{Span, EndsLater}
 use Rattle.ratings.proofs.Ends.{last_behind}
 use Rattle.ratings.specs.Periods.{AreApart, begin, overlap, share, stands_in_the_way, is_before_end, is_in_force}
 
@@ -20,9 +20,6 @@ IsEarlier p q = p.from <ℤ q.from
 
 abbrev pub IsApart : Span → Span → Type 0
 IsApart p q = share p q ≡ false
-
-abbrev EndsLater : Span → Type 0
-EndsLater p = IfSome p.until (λ until. p.from <ℤ until)
 
 eq_no : (x y : ℤ) → x ≢ y → int_eq x y ≡ false
 eq_no x y h = step (int_eq x y) refl

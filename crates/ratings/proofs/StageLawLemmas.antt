@@ -35,12 +35,12 @@ stage_around rows front back discharge e low high =
 -- the rows from one on that reaches a discharge, and those up to one that is short of it
 from_row : (rows front : List Row) (r : Row) (back : List Row) (discharge : ℤ) → IsTable rows → rows ≡ front ++ r ∷ back → discharge ≤ℤ r.1 → All (Reaches discharge) (r ∷ back)
 from_row rows front r back discharge h e k =
-    let order = subst (AllPairs IsNoMore) e h.never_falling in
+    let order = subst (AllPairs IsNoMore) e h.order.never_falling in
     All-cons (Reaches discharge) r back k (All-weaker (IsNoMore r) (Reaches discharge) (λ x m. omega (arith, ints)) back (back_of IsNoMore front r back order))
 
 up_to_row : (rows front : List Row) (r : Row) (back : List Row) (discharge : ℤ) → IsTable rows → rows ≡ front ++ r ∷ back → r.1 <ℤ discharge → All (IsShort discharge) (front ++ r ∷ [])
 up_to_row rows front r back discharge h e k =
-    let order = subst (AllPairs IsNoMore) e h.never_falling in
+    let order = subst (AllPairs IsNoMore) e h.order.never_falling in
     All-append (IsShort discharge) front (r ∷ []) (All-weaker (λ x. IsNoMore x r) (IsShort discharge) (λ x m. omega (arith, ints)) front (front_of IsNoMore front r back order))
     (All-cons (IsShort discharge) r [] k (All-nil (IsShort discharge)))
 
@@ -76,7 +76,7 @@ short_of front discharge h k = λ i d l.
 
 first_stage : (rows front : List Row) (r : Row) (back : List Row) → IsTable rows → rows ≡ front ++ r ∷ back → All (λ x. x.1 ≢ r.1) front → stage_of rows r.1 ≡ Some r.0
 first_stage rows front r back h e k =
-    let order = subst (AllPairs IsNoMore) e h.never_falling in
+    let order = subst (AllPairs IsNoMore) e h.order.never_falling in
     sym (stage_around rows front (r ∷ back) r.1 e (short_of front r.1 (front_of IsNoMore front r back order) k) (from_row rows front r back r.1 h e (omega (arith, ints))))
     ∙ on_discharge (last front) r r.1 refl
 

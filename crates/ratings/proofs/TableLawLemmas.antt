@@ -96,13 +96,13 @@ up_to_row front r back stage h k =
 at_row : (rows front : List Row) (r : Row) (back : List Row) (stage : ℤ) → IsTable rows → rows ≡ front ++ r ∷ back → r.0 ≤ℤ stage → All (IsOver stage) back
     → rated_between (Some r) (first back) stage ≡ rated rows stage
 at_row rows front r back stage h e low high =
-    let rising = subst (AllPairs IsBelow) e h.rising in
+    let rising = subst (AllPairs IsBelow) e h.order.rising in
     ap (λ o. rated_between o (first back) stage) (sym (last_at_end front r))
     ∙ rated_around rows (front ++ r ∷ []) back stage (e ∙ sym (append_assoc front (r ∷ []) back)) (up_to_row front r back stage rising low) high
 
 over_row : (rows front : List Row) (r : Row) (back : List Row) (stage : ℤ) → IsTable rows → rows ≡ front ++ r ∷ back → stage <ℤ r.0 → All (IsOver stage) (r ∷ back)
 over_row rows front r back stage h e k =
-    let rising = subst (AllPairs IsBelow) e h.rising in
+    let rising = subst (AllPairs IsBelow) e h.order.rising in
     All-cons (IsOver stage) r back k (All-weaker (IsBelow r) (IsOver stage) (λ x m. omega (arith, ints)) back (back_of IsBelow front r back rising))
 
 on_row : (r : Row) (above : Option Row) (stage : ℤ) → r.0 ≡ stage → rated_between (Some r) above stage ≡ Value r.1
@@ -118,7 +118,7 @@ off_row x y h = by (int_eq x y) refl
 
 pub row_rated : (rows front back : List Row) (r : Row) → IsTable rows → rows ≡ front ++ r ∷ back → rated rows r.0 ≡ Value r.1
 row_rated rows front back r h e =
-    sym (at_row rows front r back r.0 h e (omega (arith, ints)) (back_of IsBelow front r back (subst (AllPairs IsBelow) e h.rising))) ∙ on_row r (first back) r.0 refl
+    sym (at_row rows front r back r.0 h e (omega (arith, ints)) (back_of IsBelow front r back (subst (AllPairs IsBelow) e h.order.rising))) ∙ on_row r (first back) r.0 refl
 
 -- strictly between two rows
 within_rated : (rows front back : List Row) (r s : Row) (stage : ℤ) → IsTable rows → rows ≡ front ++ r ∷ s ∷ back → r.0 <ℤ stage → stage <ℤ s.0
@@ -132,7 +132,7 @@ pub between_rated : (rows front back : List Row) (r s : Row) (stage : ℤ) → I
     → rated rows stage ≡ Value (line_at r s stage)
 between_rated rows front back r s stage h e low high =
     let whole : rows ≡ (front ++ r ∷ []) ++ s ∷ back = e ∙ sym (append_assoc front (r ∷ []) (s ∷ back)) in
-    let next : r.0 <ℤ s.0 = All-head (IsBelow r) s back (back_of IsBelow front r (s ∷ back) (subst (AllPairs IsBelow) e h.rising)) in
+    let next : r.0 <ℤ s.0 = All-head (IsBelow r) s back (back_of IsBelow front r (s ∷ back) (subst (AllPairs IsBelow) e h.order.rising)) in
     by_lt_z stage s.0
     (λ below. by_lt_z r.0 stage
     (λ above. within_rated rows front back r s stage h e above below)

@@ -58,7 +58,7 @@ none_in_order i (r ∷ s ∷ rows) h =
     in_order_step r s rows parts.0 (none_in_order (suc i) (s ∷ rows) parts.1)
 
 pub in_order_table : (rows : List Row) → is_off_count (length rows) ≡ false → IsInOrder rows → IsTable rows
-in_order_table rows e order = record { most = grind arith; least = grind arith; rising = order.rising; never_falling = order.never_falling }
+in_order_table rows e order = record { most = grind arith; least = grind arith; order = order }
 
 table_step : (rows : List Row) (b : Bool) → (is_off_count (length rows)) ≡ b
     → cond b (Some Count) (order_fault 0 rows) ≡ None → IsTable rows

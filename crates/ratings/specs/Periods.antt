@@ -1,7 +1,9 @@
 -- The periods in which ratings are in force.
-use Rattle.std.specs.Prelude.{◌≡◌, All, IfSome, Bool, true, false, ◌&&◌, not, List, find, Option, None, Some, option_map, ℤ, int_lt, int_le, ◌<ℤ◌, AllPairs}
+use Rattle.std.specs.Prelude.{◌≡◌, All, Bool, true, false, ◌&&◌, not, List, find, Option, None, Some, option_map, ℤ, int_lt, int_le, AllPairs}
 use Rattle.std.specs.Ordering.{int_eq}
-use Rattle.ratings.specs.Spans.{Span}
+use Rattle.rising.specs.Lists.{IsRising}
+use Rattle.ratings.specs.Spans.{Span, EndsLater}
+pub use Rattle.ratings.specs.Spans.{begin}
 
 -- what ends at an instant, if at all, has not ended before that instant, which is excluded
 abbrev pub is_before_end : ℤ → Option ℤ → Bool
@@ -26,14 +28,10 @@ overlap p kept = option_map (λ (q : Span). q.from) (find (stands_in_the_way p) 
 
 -- kept periods end after they begin, rise by their starts and share no instant
 pub record AreApart (kept : List Span) : Type 0 where
-  pub ordered : All (λ p. IfSome p.until (λ until. p.from <ℤ until)) kept
-  pub rising : AllPairs (λ p q. p.from <ℤ q.from) kept
+  pub ordered : All EndsLater kept
+  pub rising : IsRising begin kept
   pub apart : AllPairs (λ p q. share p q ≡ false) kept
 
 -- the period in force at an instant
 abbrev pub in_force : ℤ → List Span → Option Span
 in_force at kept = find (is_in_force at) kept
-
--- when a period begins
-abbrev pub begin : Span → ℤ
-begin p = p.from

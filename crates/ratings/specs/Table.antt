@@ -1,6 +1,7 @@
 -- An expanded rating: a table of stages and discharges that is read by straight lines.
-use Rattle.std.specs.Prelude.{◌≤◌, ◌-◌, ℕ, suc, Bool, ◌||◌, nat_lt, if◌then◌else◌, List, [], ◌∷◌, filter, length, slice_get, Option, None, Some, ℤ, int_lt, int_le, ◌<ℤ◌, ◌≤ℤ◌, AllPairs}
+use Rattle.std.specs.Prelude.{◌≤◌, ◌-◌, ℕ, suc, Bool, ◌||◌, nat_lt, if◌then◌else◌, List, [], ◌∷◌, length, slice_get, Option, None, Some, ℤ, int_lt, int_le, ◌≤ℤ◌, AllPairs}
 use Rattle.std.specs.Ordering.{int_eq}
+use Rattle.rising.specs.Lists.{IsRising, before, from, up_to, after}
 use Rattle.fixed_units.specs.Lines.{line_at}
 use Rattle.ratings.specs.declared.table.Rated.{Rated}
 use Rattle.ratings.specs.declared.table.Rated.TheVariants.{Value, Below, Above}
@@ -12,17 +13,23 @@ use Rattle.ratings.specs.declared.table.TableFault.TheVariants.{Count, NotRising
 abbrev pub Row : Type 0
 Row = ℤ × ℤ
 
+-- the stage of a row, and its discharge
+abbrev pub stage_in : Row → ℤ
+stage_in row = row.0
+
+abbrev pub discharge_in : Row → ℤ
+discharge_in row = row.1
+
 -- rows are in order where their stages strictly rise and their discharges never fall
 pub record IsInOrder (rows : List Row) : Type 0 where
-  pub rising : AllPairs (λ r s. r.0 <ℤ s.0) rows
+  pub rising : IsRising stage_in rows
   pub never_falling : AllPairs (λ r s. r.1 ≤ℤ s.1) rows
 
--- a table has 2 to 10,000 rows, its stages strictly rise and its discharges never fall
+-- a table has 2 to 10,000 rows, which are in order
 pub record IsTable (rows : List Row) : Type 0 where
   pub most : length rows ≤ MOST_ROWS
   pub least : LEAST_ROWS ≤ length rows
-  pub rising : AllPairs (λ r s. r.0 <ℤ s.0) rows
-  pub never_falling : AllPairs (λ r s. r.1 ≤ℤ s.1) rows
+  pub order : IsInOrder rows
 
 -- the first and the last row of a list
 abbrev pub first : List Row → Option Row
@@ -33,10 +40,10 @@ last rows = slice_get rows (length rows - 1)
 
 -- the rows up to a stage, and those above it
 abbrev pub rows_upto : ℤ → List Row → List Row
-rows_upto stage rows = filter (λ r. int_le r.0 stage) rows
+rows_upto stage rows = up_to stage_in stage rows
 
 abbrev pub rows_above : ℤ → List Row → List Row
-rows_above stage rows = filter (λ r. int_lt stage r.0) rows
+rows_above stage rows = after stage_in stage rows
 
 -- what the two rows around a stage say: below the first row and above the last one there is no discharge, on a
 -- row it is that row's, and between two rows it is the line's
@@ -51,10 +58,10 @@ rated rows stage = rated_between (last (rows_upto stage rows)) (first (rows_abov
 
 -- the rows that are short of a discharge, and those that reach it
 abbrev pub rows_short : ℤ → List Row → List Row
-rows_short discharge rows = filter (λ r. int_lt r.1 discharge) rows
+rows_short discharge rows = before discharge_in discharge rows
 
 abbrev pub rows_reaching : ℤ → List Row → List Row
-rows_reaching discharge rows = filter (λ r. int_le discharge r.1) rows
+rows_reaching discharge rows = from discharge_in discharge rows
 
 -- a row read the other way round: a discharge and its stage
 abbrev pub turned : Row → ℤ × ℤ

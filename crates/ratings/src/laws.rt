@@ -5,7 +5,7 @@ ghost use Rattle.ratings.specs.declared.table.Rated.{Rated};
 ghost use Rattle.ratings.specs.declared.table.Rated.TheVariants.{Value};
 ghost use Rattle.ratings.specs.Periods.{AreApart, is_in_force, share};
 ghost use Rattle.ratings.specs.RatedDischarge.{IsInside, IsOutside, IsRated, IsStageOf};
-ghost use Rattle.ratings.specs.Spans.{Span};
+ghost use Rattle.ratings.specs.Spans.{Span, EndsLater};
 ghost use Rattle.fixed_units.specs.Lines.{line_at};
 ghost use Rattle.ratings.specs.Table.{IsTable, Row, rated, stage_of};
 
@@ -35,6 +35,6 @@ pub fn discharges_have_a_stage()
 pub fn one_period_is_in_force()
     ensures one { (kept front back : List Span) (p q : Span) (at : ℤ) → AreApart kept → kept ≡ front ++ p ∷ back → Contains back q
         → is_in_force at p ≡ true → is_in_force at q ≡ true → ⊥ }
-    ensures share { (p q : Span) → IfSome p.until (λ u. p.from <ℤ u) → IfSome q.until (λ u. q.from <ℤ u)
+    ensures share { (p q : Span) → EndsLater p → EndsLater q
         → (share p q ≡ true ↔ ((at : ℤ) × (is_in_force at p ≡ true) × (is_in_force at q ≡ true))) }
 {}

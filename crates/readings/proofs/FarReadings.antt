@@ -14,12 +14,43 @@ use Rattle.readings.proofs.Selecting.{All-reverse, find_kept}
 use Rattle.readings.specs.Window.{inner, lead, follow, neighbour_before, neighbour_after, window}
 use Rattle.readings.proofs.WindowParts.{is_early, is_late, none_inner_before, none_inner_from, none_early, none_late, inner_parts, early_parts, late_parts, far_lead, far_follow, first_leads, first_follows}
 
+-- readings before the day that change no neighbour before it have no part in the window
+pub early_apart : (a b gap at : ℤ) (xs ms ys : List Reading) → IsAbout instant_of at xs ms ys → at <ℤ a → a ≤ℤ b
+    → neighbour_before a gap (xs ++ (ms ++ ys)) ≡ neighbour_before a gap ys
+    → window a b gap (xs ++ (ms ++ ys)) ≡ window a b gap ys
+early_apart a b gap at xs ms ys h e o before =
+    let front : All (IsBefore instant_of a) xs = All-weaker (IsBefore instant_of at) (IsBefore instant_of a) (λ r k. omega (arith, ints)) xs h.below in
+    let middle : All (IsBefore instant_of a) ms = All-weaker (IsAt instant_of at) (IsBefore instant_of a) (λ r k. omega (arith, ints)) ms h.here in
+    let within : inner a b (xs ++ (ms ++ ys)) ≡ inner a b ys =
+    let i = none_inner_before a b xs front in let j = none_inner_before a b ms middle in inner_parts a b xs ms ys ∙ rw (i, j) refl in
+    let late : find (is_late b) (xs ++ (ms ++ ys)) ≡ find (is_late b) ys =
+    let i = none_late b xs (All-weaker (IsBefore instant_of a) (IsBefore instant_of b) (λ r k. omega (arith, ints)) xs front) in
+    let j = none_late b ms (All-weaker (IsBefore instant_of a) (IsBefore instant_of b) (λ r k. omega (arith, ints)) ms middle) in
+    late_parts b xs ms ys ∙ rw (i, j) refl in
+    let after : neighbour_after b gap (xs ++ (ms ++ ys)) ≡ neighbour_after b gap ys = ap (follow b gap) late in
+    rw (before, within, after) refl
+
+-- and those behind the day that change no neighbour behind it
+pub late_apart : (a b gap at : ℤ) (xs ms ys : List Reading) → IsAbout instant_of at xs ms ys → b ≤ℤ at → a ≤ℤ b
+    → neighbour_after b gap (xs ++ (ms ++ ys)) ≡ neighbour_after b gap xs
+    → window a b gap (xs ++ (ms ++ ys)) ≡ window a b gap xs
+late_apart a b gap at xs ms ys h e o after =
+    let back : All (IsFrom instant_of b) ys = All-weaker (IsAfter instant_of at) (IsFrom instant_of b) (λ r k. omega (arith, ints)) ys h.above in
+    let middle : All (IsFrom instant_of b) ms = All-weaker (IsAt instant_of at) (IsFrom instant_of b) (λ r k. omega (arith, ints)) ms h.here in
+    let within : inner a b (xs ++ (ms ++ ys)) ≡ inner a b xs =
+    let i = none_inner_from a b ys back in let j = none_inner_from a b ms middle in let k = append-nil (inner a b xs) in
+    inner_parts a b xs ms ys ∙ rw (i, j) k in
+    let early : find (is_early a) (reverse (xs ++ (ms ++ ys))) ≡ find (is_early a) (reverse xs) =
+    let i = none_early a ys (All-weaker (IsFrom instant_of b) (IsFrom instant_of a) (λ r k. omega (arith, ints)) ys back) in
+    let j = none_early a ms (All-weaker (IsFrom instant_of b) (IsFrom instant_of a) (λ r k. omega (arith, ints)) ms middle) in
+    early_parts a xs ms ys ∙ rw (i, j) refl in
+    let before : neighbour_before a gap (xs ++ (ms ++ ys)) ≡ neighbour_before a gap xs = ap (lead a gap) early in
+    rw (before, within, after) refl
+
 -- too early to be near: the readings up to an instant have no part in the window
 pub early_far : (a b gap at : ℤ) (xs ms ys : List Reading) → IsAbout instant_of at xs ms ys → at <ℤ a → a ≤ℤ b → gap <ℤ (a -ℤ at)
     → window a b gap (xs ++ (ms ++ ys)) ≡ window a b gap ys
 early_far a b gap at xs ms ys h e o far =
-    let front : All (IsBefore instant_of a) xs = All-weaker (IsBefore instant_of at) (IsBefore instant_of a) (λ r k. omega (arith, ints)) xs h.below in
-    let middle : All (IsBefore instant_of a) ms = All-weaker (IsAt instant_of at) (IsBefore instant_of a) (λ r k. omega (arith, ints)) ms h.here in
     let front_far : All (λ r. gap <ℤ (a -ℤ r.at)) xs = All-weaker (IsBefore instant_of at) (λ r. gap <ℤ (a -ℤ r.at)) (λ r k. omega (arith, ints)) xs h.below in
     let middle_far : All (λ r. gap <ℤ (a -ℤ r.at)) ms = All-weaker (IsAt instant_of at) (λ r. gap <ℤ (a -ℤ r.at)) (λ r k. omega (arith, ints)) ms h.here in
     let F = find (is_early a) (reverse ys) in
@@ -31,21 +62,12 @@ early_far a b gap at xs ms ys h e o far =
     far_lead a gap M (find_kept (λ r. gap <ℤ (a -ℤ r.at)) (is_early a) (reverse ms) (All-reverse (λ r. gap <ℤ (a -ℤ r.at)) ms middle_far)) in
     let before : neighbour_before a gap (xs ++ (ms ++ ys)) ≡ neighbour_before a gap ys =
     ap (lead a gap) (early_parts a xs ms ys) ∙ first_leads a gap (option_or F M) X gone_xs ∙ first_leads a gap F M gone_ms in
-    let within : inner a b (xs ++ (ms ++ ys)) ≡ inner a b ys =
-    let i = none_inner_before a b xs front in let j = none_inner_before a b ms middle in inner_parts a b xs ms ys ∙ rw (i, j) refl in
-    let late : find (is_late b) (xs ++ (ms ++ ys)) ≡ find (is_late b) ys =
-    let i = none_late b xs (All-weaker (IsBefore instant_of a) (IsBefore instant_of b) (λ r k. omega (arith, ints)) xs front) in
-    let j = none_late b ms (All-weaker (IsBefore instant_of a) (IsBefore instant_of b) (λ r k. omega (arith, ints)) ms middle) in
-    late_parts b xs ms ys ∙ rw (i, j) refl in
-    let after : neighbour_after b gap (xs ++ (ms ++ ys)) ≡ neighbour_after b gap ys = ap (follow b gap) late in
-    rw (before, within, after) refl
+    early_apart a b gap at xs ms ys h e o before
 
 -- too late to be near: neither have those from an instant on
 pub late_far : (a b gap at : ℤ) (xs ms ys : List Reading) → IsAbout instant_of at xs ms ys → b ≤ℤ at → a ≤ℤ b → gap <ℤ (at -ℤ b)
     → window a b gap (xs ++ (ms ++ ys)) ≡ window a b gap xs
 late_far a b gap at xs ms ys h e o far =
-    let back : All (IsFrom instant_of b) ys = All-weaker (IsAfter instant_of at) (IsFrom instant_of b) (λ r k. omega (arith, ints)) ys h.above in
-    let middle : All (IsFrom instant_of b) ms = All-weaker (IsAt instant_of at) (IsFrom instant_of b) (λ r k. omega (arith, ints)) ms h.here in
     let back_far : All (λ r. gap <ℤ (r.at -ℤ b)) ys = All-weaker (IsAfter instant_of at) (λ r. gap <ℤ (r.at -ℤ b)) (λ r k. omega (arith, ints)) ys h.above in
     let middle_far : All (λ r. gap <ℤ (r.at -ℤ b)) ms = All-weaker (IsAt instant_of at) (λ r. gap <ℤ (r.at -ℤ b)) (λ r k. omega (arith, ints)) ms h.here in
     let X = find (is_late b) xs in
@@ -58,15 +80,7 @@ late_far a b gap at xs ms ys h e o far =
     let after : neighbour_after b gap (xs ++ (ms ++ ys)) ≡ neighbour_after b gap xs =
     ap (follow b gap) (late_parts b xs ms ys)
     ∙ first_follows b gap X (option_or M F) (first_follows b gap M F gone_ys ∙ gone_ms) in
-    let within : inner a b (xs ++ (ms ++ ys)) ≡ inner a b xs =
-    let i = none_inner_from a b ys back in let j = none_inner_from a b ms middle in let k = append-nil (inner a b xs) in
-    inner_parts a b xs ms ys ∙ rw (i, j) k in
-    let early : find (is_early a) (reverse (xs ++ (ms ++ ys))) ≡ find (is_early a) (reverse xs) =
-    let i = none_early a ys (All-weaker (IsFrom instant_of b) (IsFrom instant_of a) (λ r k. omega (arith, ints)) ys back) in
-    let j = none_early a ms (All-weaker (IsFrom instant_of b) (IsFrom instant_of a) (λ r k. omega (arith, ints)) ms middle) in
-    early_parts a xs ms ys ∙ rw (i, j) refl in
-    let before : neighbour_before a gap (xs ++ (ms ++ ys)) ≡ neighbour_before a gap xs = ap (lead a gap) early in
-    rw (before, within, after) refl
+    late_apart a b gap at xs ms ys h e o after
 
 -- a reading put too far away leaves the window
 pub about_one : (r : Reading) (rs : List Reading) → IsAbout instant_of r.at (before_instant r.at rs) (r ∷ []) (after_instant r.at rs)

@@ -4,7 +4,7 @@ use Rattle.std.specs.Option.{option_or}
 use Rattle.std.proofs.Common.{arith, refl, ap, sym, ◌∙◌, subst}
 use Rattle.std.proofs.lemmas.Int.{ints, by_lt_z}
 use Rattle.std.proofs.lemmas.Option.{MatchOption-at_some}
-use Rattle.std.proofs.lemmas.List.{append-nil, reverse-reverse}
+use Rattle.std.proofs.lemmas.List.{reverse-reverse}
 use Rattle.std.proofs.lemmas.List.Elements.{All-cons, All-weaker}
 use Rattle.std.proofs.lemmas.List.Folds.{find-append}
 use Rattle.fixed_units.specs.declared.readings.Reading.{Reading}
@@ -15,9 +15,9 @@ use Rattle.rising.proofs.Splitting.{IsAt, IsAbout, whole, about, rest_rises, res
 use Rattle.rising.proofs.Selecting.{filter_none}
 use Rattle.readings.proofs.Instants.{no_lt}
 use Rattle.readings.proofs.Selecting.{none_found, reverse-cons, All-reverse, find_kept, find_passes}
-use Rattle.readings.specs.Window.{is_of_day, inner, lead, follow, neighbour_before, neighbour_after, window, is_found_in_day}
-use Rattle.readings.proofs.WindowParts.{is_inner, is_early, is_late, inner_no_before, inner_no_from, none_inner_before, none_inner_from, none_early, none_late, inner_parts, early_parts, late_parts, no_inner}
-use Rattle.readings.proofs.FarReadings.{about_one}
+use Rattle.readings.specs.Window.{is_of_day, inner, lead, follow, window, is_found_in_day}
+use Rattle.readings.proofs.WindowParts.{is_inner, is_early, is_late, inner_no_before, inner_no_from, none_inner_before, none_inner_from, inner_parts, early_parts, late_parts, no_inner}
+use Rattle.readings.proofs.FarReadings.{about_one, early_apart, late_apart}
 
 -- in a rising list the first used reading is the earliest
 pub first_step : (y : Reading) (ys : List Reading) (b : Bool) → is_used y ≡ b → (s : Reading) → All (IsAfter instant_of y.at) ys
@@ -115,18 +115,7 @@ pub early_found : (a b gap at : ℤ) (xs ms ys : List Reading) → IsAbout insta
     → window a b gap (xs ++ (ms ++ ys)) ≡ window a b gap ys
 early_found a b gap at xs ms ys h e o None f k = absurd (k refl)
 early_found a b gap at xs ms ys h e o (Some s) f k =
-    let front : All (IsBefore instant_of a) xs = All-weaker (IsBefore instant_of at) (IsBefore instant_of a) (λ r k. omega (arith, ints)) xs h.below in
-    let middle : All (IsBefore instant_of a) ms = All-weaker (IsAt instant_of at) (IsBefore instant_of a) (λ r k. omega (arith, ints)) ms h.here in
-    let early : find (is_early a) (reverse (xs ++ (ms ++ ys))) ≡ find (is_early a) (reverse ys) = early_parts a xs ms ys ∙ rw f refl in
-    let before : neighbour_before a gap (xs ++ (ms ++ ys)) ≡ neighbour_before a gap ys = ap (lead a gap) early in
-    let within : inner a b (xs ++ (ms ++ ys)) ≡ inner a b ys =
-    let i = none_inner_before a b xs front in let j = none_inner_before a b ms middle in inner_parts a b xs ms ys ∙ rw (i, j) refl in
-    let late : find (is_late b) (xs ++ (ms ++ ys)) ≡ find (is_late b) ys =
-    let i = none_late b xs (All-weaker (IsBefore instant_of a) (IsBefore instant_of b) (λ r k. omega (arith, ints)) xs front) in
-    let j = none_late b ms (All-weaker (IsBefore instant_of a) (IsBefore instant_of b) (λ r k. omega (arith, ints)) ms middle) in
-    late_parts b xs ms ys ∙ rw (i, j) refl in
-    let after : neighbour_after b gap (xs ++ (ms ++ ys)) ≡ neighbour_after b gap ys = ap (follow b gap) late in
-    rw (before, within, after) refl
+    early_apart a b gap at xs ms ys h e o (ap (lead a gap) (early_parts a xs ms ys ∙ rw f refl))
 
 pub early_is_found : (a : ℤ) (ys : List Reading) (s : Reading) → find is_used ys ≡ Some s → s.at <ℤ a → find (is_early a) (reverse ys) ≢ None
 early_is_found a ys s f l none =
@@ -167,19 +156,7 @@ pub late_found : (a b gap at : ℤ) (xs ms ys : List Reading) → IsAbout instan
     → window a b gap (xs ++ (ms ++ ys)) ≡ window a b gap xs
 late_found a b gap at xs ms ys h e o None f k = absurd (k refl)
 late_found a b gap at xs ms ys h e o (Some s) f k =
-    let back : All (IsFrom instant_of b) ys = All-weaker (IsAfter instant_of at) (IsFrom instant_of b) (λ r k. omega (arith, ints)) ys h.above in
-    let middle : All (IsFrom instant_of b) ms = All-weaker (IsAt instant_of at) (IsFrom instant_of b) (λ r k. omega (arith, ints)) ms h.here in
-    let late : find (is_late b) (xs ++ (ms ++ ys)) ≡ find (is_late b) xs = late_parts b xs ms ys ∙ rw f refl in
-    let after : neighbour_after b gap (xs ++ (ms ++ ys)) ≡ neighbour_after b gap xs = ap (follow b gap) late in
-    let within : inner a b (xs ++ (ms ++ ys)) ≡ inner a b xs =
-    let i = none_inner_from a b ys back in let j = none_inner_from a b ms middle in let l = append-nil (inner a b xs) in
-    inner_parts a b xs ms ys ∙ rw (i, j) l in
-    let early : find (is_early a) (reverse (xs ++ (ms ++ ys))) ≡ find (is_early a) (reverse xs) =
-    let i = none_early a ys (All-weaker (IsFrom instant_of b) (IsFrom instant_of a) (λ r k. omega (arith, ints)) ys back) in
-    let j = none_early a ms (All-weaker (IsFrom instant_of b) (IsFrom instant_of a) (λ r k. omega (arith, ints)) ms middle) in
-    early_parts a xs ms ys ∙ rw (i, j) refl in
-    let before : neighbour_before a gap (xs ++ (ms ++ ys)) ≡ neighbour_before a gap xs = ap (lead a gap) early in
-    rw (before, within, after) refl
+    late_apart a b gap at xs ms ys h e o (ap (follow b gap) (late_parts b xs ms ys ∙ rw f refl))
 
 pub from_reversed : (P : Reading → Type 0) (rs : List Reading) → All P (reverse rs) → All P rs
 from_reversed P rs h = subst (λ (z : List Reading). All P z) (reverse-reverse rs) (All-reverse P (reverse rs) h)

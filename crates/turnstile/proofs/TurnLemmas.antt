@@ -9,7 +9,7 @@ use Rattle.atomic_table.specs.Table.{State, step, Act, keeps, takes, gives, Vali
 use Rattle.atomic_table.proofs.Lists.{at_set, at_snoc, at_longer, set_else, set_again}
 use Rattle.turnstile.specs.Places.{places, times, longer}
 use Rattle.turnstile.specs.Parties.{holding, wrote, at_rest, has_seen, newcomer, left_part, right_part, joined, spent, learned}
-use Rattle.turnstile.specs.Plays.{Sat, Takes, Writes, Gives, Glances, Learns, Closes}
+use Rattle.turnstile.specs.Plays.{AtTable, Takes, Writes, Gives, Glances, Learns, Closes}
 use Rattle.turnstile.specs.Turns.{turn_of, Fits, Lies, Shares, Turns}
 use Rattle.turnstile.specs.declared.parties.Party.{Party}
 use Rattle.turnstile.proofs.ListLemmas.{total_set, total_snoc, total_alone, alone_else, times-append, times-places, times-places-at, times-out, times-in, prefix_here, prefix_on, prefix_length, prefix_whole, longer_begins}
@@ -82,14 +82,14 @@ module _ {T E F : Type 0} (history : T → List E) (fixed : T → F) (first : T)
       }
 
   -- what a step on a word owes, of a table with these parts
-  abbrev Goes : ℕ → ℕ → Sat T E F → (ℕ → ℕ) → (ℕ → Sat T E F → Type 0) → List ℕ → Homes → Views → Type 0
+  abbrev Goes : ℕ → ℕ → AtTable T E F → (ℕ → ℕ) → (ℕ → AtTable T E F → Type 0) → List ℕ → Homes → Views → Type 0
   Goes i id m f then words homes views =
       let s : State (Option T) Known = record { words = words; homes = homes; views = views } in
       (w : Known) × (a : Act (Option T)) × Valid homes m.1 a × Rule (stepped s i (f (slice_index words i)) id m.1 w a)
       × then (slice_index words i) (w, carried_after m.1 a)
 
   -- it is enough to look at a table in its parts
-  pub goes : (slots i id : ℕ) (m : Sat T E F) (f : ℕ → ℕ) (then : ℕ → Sat T E F → Type 0)
+  pub goes : (slots i id : ℕ) (m : AtTable T E F) (f : ℕ → ℕ) (then : ℕ → AtTable T E F → Type 0)
       → ((log : List E) (holder : Option ℕ) (homes : Homes) (views : Views)
       → Lie log views holder homes → Share log holder views → get_elem? views id ≡ opt.some m.0
       → Goes i id m f then (turn_of holder ∷ length log ∷ []) homes views)

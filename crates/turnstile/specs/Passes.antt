@@ -27,9 +27,16 @@ module _ {T E F : Type 0} where
   abbrev pub tally : Seat (Option T) (Party E F) → List ℕ
   tally pass = (knows pass).tally
 
+  -- a holding's pass, and the value that it holds
+  abbrev pub pass_of : Held T E F → Seat (Option T) (Party E F)
+  pass_of held = held.pass
+
+  abbrev pub value_of : Held T E F → T
+  value_of held = held.value
+
   -- the history at `enter`, which the pass of a holding has seen
   abbrev pub entered : Held T E F → List E
-  entered held = seen held.pass
+  entered held = seen (pass_of held)
 
   -- the value that the turnstile was made with
   abbrev pub first_value : Turnstile T E F → T

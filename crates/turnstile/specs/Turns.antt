@@ -8,11 +8,13 @@ use Rattle.turnstile.specs.Places.{places, times}
 use Rattle.turnstile.specs.Parties.{total}
 use Rattle.turnstile.specs.declared.parties.Party.{Party}
 
+-- the word of the turn: 0 while it is free
 abbrev pub turn_of : Option ℕ → ℕ
 turn_of None = 0
 turn_of (Some holder) = 1
 
 module _ {T E F : Type 0} (history : T → List E) (fixed : T → F) (first : T) where
+  -- the length of the history when the turnstile was made
   abbrev pub begins_at : ℕ
   begins_at = length (history first)
 
@@ -30,12 +32,15 @@ module _ {T E F : Type 0} (history : T → List E) (fixed : T → F) (first : T)
   Lies log views None homes = (v : T) × (homes ≡ opt.some (Some v) ∷ []) × (history v ≡ log) × (fixed v ≡ fixed first)
   Lies log views (Some id) homes = (homes ≡ opt.none ∷ []) × ((v : Party E F) × (get_elem? views id ≡ opt.some v) × (v.holds ≡ true))
 
+  -- all parties together: their shares are the whole, and each place since the beginning stands in one tally once
   pub record Shares (log : List E) (holder : Option ℕ) (views : List (Party E F)) : Type 0 where
     pub grown : begins_at ≤ length log
     pub each : (id : ℕ) (v : Party E F) → get_elem? views id ≡ opt.some v → Fits log holder id v
     pub whole : total (λ v. v.share) views ≡ 2 ^ 32
     pub once : (x : ℕ) → total (λ v. times x v.tally) views ≡ times x (places begins_at (length log - begins_at))
 
+  -- the rule: there is one history, of which each party has seen a beginning; the value with that history is in the slot while
+  -- the turn is free, and else with the one party that has the turn
   pub record Turns (s : State (Option T) (Party E F)) : Type 0 where
     pub log : List E
     pub holder : Option ℕ

@@ -1,5 +1,6 @@
 //! A pass that holds the value.
 ghost use Rattle.std.specs.Prelude.{◌≡◌};
+ghost use Rattle.turnstile.specs.Passes.{value_of};
 
 use crate::kept::Kept;
 use crate::parties::Pass;
@@ -19,7 +20,7 @@ impl<T: Kept> Held<T> {
 
     /// The value.
     pub fn value(&self) -> &T
-        ensures { result.now ≡ self.now.value }
+        ensures { result.now ≡ value_of self.now }
     {
         &self.value
     }
@@ -27,7 +28,7 @@ impl<T: Kept> Held<T> {
     /// The value, lent for writing. All else of the holding stays.
     pub fn value_mut(&mut self) -> &mut T
         ensures* writes_back { sem 𝓛 (follows (the_row T.row T.Entry.row T.Fixed.row) T.row self.entry.ghost_name result.ghost_name (with_value self.old)) }
-        ensures value { result.now ≡ self.old.value }
+        ensures value { result.now ≡ value_of self.old }
     {
         &mut self.value
     }

@@ -19,7 +19,7 @@ pub struct Turnstile<T: Kept> {
 }
 
 /// The words and the slot, as the parties share them.
-pub(crate) type Top<T> = Shared<
+pub(crate) type SharedTable<T> = Shared<
     Option<T>,
     Party<<T as Kept>::Entry, <T as Kept>::Fixed>,
     Snapshot<T>,

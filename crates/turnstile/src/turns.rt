@@ -3,11 +3,11 @@ ghost use Rattle.std.specs.Prelude.{◌≡◌, ◌<◌, ◌≤◌, ◌^◌, ◌+
 ghost use mathlib.Core.List.{IsPrefix};
 ghost use Rattle.turnstile.specs.Places.{places, times, longer, IsEachOnce};
 ghost use Rattle.turnstile.specs.Parties.{holding, wrote, at_rest};
-ghost use Rattle.turnstile.specs.Passes.{knows, seen, share, tally, entered, first_value, IsPassOf, IsHeldOf, Rests, Holds, IsSized};
+ghost use Rattle.turnstile.specs.Passes.{knows, seen, share, tally, pass_of, value_of, entered, first_value, IsPassOf, IsHeldOf, Rests, Holds, IsSized};
 
 use crate::held::Held;
 use crate::kept::Kept;
-use crate::lock::{Top, Turnstile};
+use crate::lock::{SharedTable, Turnstile};
 use crate::parties::Pass;
 use crate::steps::{Close, Cut, Give, Glance, Glue, Learn, Take, Write};
 use atomic_table::Table;
@@ -54,11 +54,11 @@ impl<T: Kept> Turnstile<T> {
     pub fn enter<R: Wait>(&self, rt: &R, mut pass: Pass<T>) -> Held<T>
         requires { IsPassOf T.history T.fixed self.now pass }
         ensures held { IsHeldOf T.history T.fixed self.now result }
-        ensures entered { entered result ≡ T.history result.value }
-        ensures begins { IsPrefix (seen pass) (T.history result.value) }
-        ensures fixed { T.fixed result.value ≡ T.fixed (first_value self.now) }
-        ensures share { share result.pass ≡ share pass }
-        ensures tally { tally result.pass ≡ tally pass }
+        ensures entered { entered result ≡ T.history (value_of result) }
+        ensures begins { IsPrefix (seen pass) (T.history (value_of result)) }
+        ensures fixed { T.fixed (value_of result) ≡ T.fixed (first_value self.now) }
+        ensures share { share (pass_of result) ≡ share pass }
+        ensures tally { tally (pass_of result) ≡ tally pass }
     {
         for _ in rt.forever() {
             if try_take(&self.table.shared, &mut pass) {
@@ -72,12 +72,12 @@ impl<T: Kept> Turnstile<T> {
     /// Gives the value back. The pass has then seen its history, and its tally has the places of the entries that were added.
     pub fn leave(&self, held: Held<T>) -> Pass<T>
         requires held { IsHeldOf T.history T.fixed self.now held }
-        requires begins { IsPrefix (entered held) (T.history held.value) }
-        requires fixed { T.fixed held.value ≡ T.fixed (first_value self.now) }
+        requires begins { IsPrefix (entered held) (T.history (value_of held)) }
+        requires fixed { T.fixed (value_of held) ≡ T.fixed (first_value self.now) }
         ensures pass { IsPassOf T.history T.fixed self.now result }
-        ensures seen { seen result ≡ T.history held.value }
-        ensures share { share result ≡ share held.pass }
-        ensures tally { tally result ≡ tally held.pass ++ places (length (entered held)) (length (T.history held.value) - length (entered held)) }
+        ensures seen { seen result ≡ T.history (value_of held) }
+        ensures share { share result ≡ share (pass_of held) }
+        ensures tally { tally result ≡ tally (pass_of held) ++ places (length (entered held)) (length (T.history (value_of held)) - length (entered held)) }
     {
         let Held { mut pass, value } = held;
         let events = value.events();
@@ -145,37 +145,37 @@ impl<T: Kept> Turnstile<T> {
 }
 
 // Takes the value where the turn is free.
-fn try_take<T: Kept>(top: &Top<T>, pass: &mut Pass<T>) -> bool
-    requires table { IsSized top.now.table_id }
-    requires pass { Rests top.now.table_id pass.old }
+fn try_take<T: Kept>(table: &SharedTable<T>, pass: &mut Pass<T>) -> bool
+    requires table { IsSized table.now.table_id }
+    requires pass { Rests table.now.table_id pass.old }
     ensures table { pass.new.table_id ≡ pass.old.table_id }
     ensures taken { result ≡ true → (v : T) × (pass.new.me.1 ≡ (0, Some v) ∷ []) × (knows pass.new ≡ holding (knows pass.old) (T.history v)) × IsPrefix (knows pass.old).seen (T.history v) × ((knows pass.old).fixed ≡ Some (T.fixed v)) }
     ensures missed { result ≡ false → pass.new.me ≡ pass.old.me }
 {
-    top.compare_exchange::<Take>(pass, 0, 0, 1) == 0
+    table.compare_exchange::<Take>(pass, 0, 0, 1) == 0
 }
 
 // The value that was taken.
-fn taken<T: Kept>(top: &Top<T>, mut pass: Pass<T>) -> Held<T>
-    requires { (pass.table_id ≡ top.now.table_id) × ((v : T) × (pass.me.1 ≡ (0, Some v) ∷ [])) }
+fn taken<T: Kept>(table: &SharedTable<T>, mut pass: Pass<T>) -> Held<T>
+    requires { (pass.table_id ≡ table.now.table_id) × ((v : T) × (pass.me.1 ≡ (0, Some v) ∷ [])) }
     ensures pass { (result.pass.table_id ≡ pass.table_id) × (knows result.pass ≡ knows pass) × (result.pass.me.1 ≡ (0, None) ∷ []) }
     ensures value { pass.me.1 ≡ (0, Some result.value) ∷ [] }
 {
-    let value = top.exchange(&mut pass, 0, None).unwrap();
+    let value = table.exchange(&mut pass, 0, None).unwrap();
     Held { pass, value }
 }
 
 // Puts the value back, writes the length and gives up the turn.
-fn put<T: Kept>(top: &Top<T>, pass: &mut Pass<T>, value: T, events: u64)
-    requires table { IsSized top.now.table_id }
-    requires holding { Holds top.now.table_id pass.old }
+fn put<T: Kept>(table: &SharedTable<T>, pass: &mut Pass<T>, value: T, events: u64)
+    requires table { IsSized table.now.table_id }
+    requires holding { Holds table.now.table_id pass.old }
     requires begins { IsPrefix (knows pass.old).seen (T.history value) }
     requires fixed { (knows pass.old).fixed ≡ Some (T.fixed value) }
     requires length { events ≡ length (T.history value) }
     ensures pass { (pass.new.table_id ≡ pass.old.table_id) × (pass.new.me ≡ (at_rest (wrote (knows pass.old) (T.history value)), [])) }
 {
-    let nothing = top.exchange(pass, 0, Some(value));
+    let nothing = table.exchange(pass, 0, Some(value));
     let None = nothing else { unreachable!() };
-    top.store::<Write>(pass, 1, events);
-    top.store::<Give>(pass, 0, 0);
+    table.store::<Write>(pass, 1, events);
+    table.store::<Give>(pass, 0, 0);
 }

@@ -95,6 +95,7 @@ impl Disk for FileDisk {
 
     fn len(&mut self) -> Result<u64, DiskFailed>
         ensures same_bar { self.new.sync_failed ≡ self.old.sync_failed }
+        ensures done { OnOk result (self.new.faults ≡ self.old.faults) }
         ensures counted { self.old.faults ≤ self.new.faults }
         ensures cause { HasCause self.old.faults self.new.faults result }
     {
@@ -104,6 +105,7 @@ impl Disk for FileDisk {
 
     fn read_at(&mut self, at: u64, into: &mut [u8]) -> Result<(), DiskFailed>
         ensures same_bar { self.new.sync_failed ≡ self.old.sync_failed }
+        ensures done { OnOk result (self.new.faults ≡ self.old.faults) }
         ensures counted { self.old.faults ≤ self.new.faults }
         ensures cause { HasCause self.old.faults self.new.faults result }
     {
@@ -114,6 +116,7 @@ impl Disk for FileDisk {
     fn write_at(&mut self, at: u64, bytes: &[u8]) -> Result<(), DiskFailed>
         ensures barred { self.old.sync_failed ≡ true → IsErr result }
         ensures same_bar { self.new.sync_failed ≡ self.old.sync_failed }
+        ensures done { OnOk result (self.new.faults ≡ self.old.faults) }
         ensures counted { self.old.faults ≤ self.new.faults }
         ensures cause { HasCause self.old.faults self.new.faults result }
     {
@@ -125,6 +128,7 @@ impl Disk for FileDisk {
         ensures barred { self.old.sync_failed ≡ true → IsErr result }
         ensures bars { OnErr result (self.new.sync_failed ≡ true) }
         ensures stays { OnOk result (self.new.sync_failed ≡ self.old.sync_failed) }
+        ensures done { OnOk result (self.new.faults ≡ self.old.faults) }
         ensures counted { self.old.faults ≤ self.new.faults }
         ensures cause { HasCause self.old.faults self.new.faults result }
     {

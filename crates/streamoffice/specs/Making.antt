@@ -1,27 +1,29 @@
 -- What a run of `init` comes to.
-use Rattle.std.specs.Prelude.{◌≡◌, ◌⊎◌, ℕ, List, Option, Some, IfSome, IsSomeAnd, ⊤}
+use Rattle.std.specs.Prelude.{◌≡◌, ◌⊎◌, ℕ, List, Option, Some, IfSome, IsSomeAnd, Result, Ok, Err, ⊤}
 use Rattle.devices.specs.declared.disks.Disk.{Ghosts}
 use Rattle.devices.specs.Cabinets.{Place, Free, Kept, Out, OthersStay}
-use Rattle.devices.specs.Disks.{Only, Torn, NothingNew}
 use Rattle.devices.specs.Faults.{Rose}
-use Rattle.journal.specs.JournalBytes.{IsTaken, IsForeign, IsOccupied, empty_journal}
+use Rattle.journal.specs.Init.{InitAnswers, InitLeaves, IsLeftByInit}
 use Rattle.journal.specs.Moments.{LeavesOnly}
-use Rattle.journal.specs.Writing.{WasTorn}
+use Rattle.journal.specs.declared.making.InitFault.{InitFault}
+use Rattle.journal.specs.declared.making.InitFault.TheVariants as making
 use Rattle.streamoffice.specs.Places.{HasKept, bytes_found, images_found}
 use Rattle.streamoffice.specs.declared.commands.RunEnd.{RunEnd}
 use Rattle.streamoffice.specs.declared.commands.RunEnd.TheVariants.{Made, Served, Exists, DiskFault, NotAJournal, Damaged, NoMemory}
 
 module _ {D : Type 0} (g : Ghosts D) where
-  -- Exactly where which end comes, over these bytes of which a stop might leave these images, and what the disk has then: a
-  -- journal of no records, or what it had. A fault may come in place of each: it leaves all as it was where no journal is made
-  -- over the bytes, and else perhaps any bytes in the place of the first 17.
+  -- the making of a journal answered so, and left the disk so
+  abbrev pub IsMadeBy : Result (Unit {0}) InitFault → List ℕ → (List ℕ → Type 0) → D → Type 0
+  IsMadeBy made bytes images disk = InitAnswers bytes made × InitLeaves bytes (g.content disk) images (g.may_leave disk) made
+
+  -- exactly where which end comes, over these bytes of which a stop might leave these images, and what the disk has then: each
+  -- end is an answer of the making; a fault may come in place of each
   abbrev pub MakesOn : List ℕ → (List ℕ → Type 0) → RunEnd → D → Type 0
-  MakesOn bytes images Made disk =
-      ((¬ IsTaken bytes) × (¬ IsForeign bytes)) × ((g.content disk ≡ Some empty_journal) × Only empty_journal (g.may_leave disk))
-  MakesOn bytes images Exists disk = IsTaken bytes × ((g.content disk ≡ Some bytes) × NothingNew images (g.may_leave disk))
-  MakesOn bytes images NotAJournal disk = IsForeign bytes × ((g.content disk ≡ Some bytes) × NothingNew images (g.may_leave disk))
+  MakesOn bytes images Made disk = IsMadeBy (Ok tt) bytes images disk
+  MakesOn bytes images Exists disk = IsMadeBy (Err making.Exists) bytes images disk
+  MakesOn bytes images NotAJournal disk = IsMadeBy (Err making.NotAJournal) bytes images disk
   MakesOn bytes images DiskFault disk =
-      IsSomeAnd (g.content disk) (Torn 0 17 bytes) × (IsOccupied bytes → (g.content disk ≡ Some bytes) × NothingNew images (g.may_leave disk))
+      InitLeaves {T = Unit {0}} bytes (g.content disk) images (g.may_leave disk) (Err making.Fault)
   MakesOn bytes images (Served end) disk = ⊥
   MakesOn bytes images (Damaged at) disk = ⊥
   MakesOn bytes images NoMemory disk = ⊥
@@ -36,13 +38,13 @@ IsMakingEnd (Served end) before now = ⊥
 IsMakingEnd (Damaged at) before now = ⊥
 IsMakingEnd NoMemory before now = ⊥
 
--- What a stop at some moment of the making leaves, over this content, of which it might have left these images before: one of
--- them, and where a journal is made perhaps with any bytes in the place of the first 17.
+-- what a stop at some moment of the making leaves, over this content, of which it might have left these images before, by the
+-- answer of the making
 abbrev pub IsLeftByMaking : Option (List ℕ) → (List ℕ → Type 0) → RunEnd → List ℕ → Type 0
-IsLeftByMaking content images Made image = WasTorn 0 17 images image
-IsLeftByMaking content images Exists image = images image
-IsLeftByMaking content images NotAJournal image = images image
-IsLeftByMaking content images DiskFault image = WasTorn 0 17 images image × (IsSomeAnd content IsOccupied → images image)
+IsLeftByMaking content images Made image = IsLeftByInit {T = Unit {0}} content images (Ok tt) image
+IsLeftByMaking content images Exists image = IsLeftByInit {T = Unit {0}} content images (Err making.Exists) image
+IsLeftByMaking content images NotAJournal image = IsLeftByInit {T = Unit {0}} content images (Err making.NotAJournal) image
+IsLeftByMaking content images DiskFault image = IsLeftByInit {T = Unit {0}} content images (Err making.Fault) image
 IsLeftByMaking content images (Served end) image = ⊥
 IsLeftByMaking content images (Damaged at) image = ⊥
 IsLeftByMaking content images NoMemory image = ⊥

@@ -1,10 +1,42 @@
-use Rattle.std.proofs.Common.{◌≡◌, ◌∙◌, pos, ◌+ℤ◌, ◌-ℤ◌, ◌*ℤ◌, ◌≤ℤ◌, ◌<ℤ◌, ◌+◌, ◌<◌, ◌≤◌, length, arith, FitsSigned, to_z, of_z, w32, w64}
+use Rattle.std.proofs.Common.{ℕ, ℤ, List, ◌≡◌, ◌∙◌, pos, ◌+ℤ◌, ◌-ℤ◌, ◌*ℤ◌, ◌≤ℤ◌, ◌<ℤ◌, ◌+◌, ◌<◌, ◌≤◌, length, arith, FitsSigned, to_z, of_z, w32, w64}
+use Rattle.fixed_units.specs.Quantities.{first_day, last_day}
+use Rattle.civil_days.specs.declared.runs.Run.{Run}
 use Rattle.std.proofs.lemmas.Int.{to_z-of_z}
 use Rattle.jiff.proofs.SpanFacts.{signed_arith}
 use Rattle.civil_days.specs.Runs.{Covers, first_at, offset_at, begin_at}
 use Rattle.civil_days.specs.Starts.{calendar_end, day_start_of, IsIn}
 use Rattle.civil_days.proofs.RunLemmas.{first_begins, offset_small, offset_fits, first_fits, before_fits, day_by_run, day_by_next}
 use Rattle.civil_days.proofs.zones.StationZone.found.Goals as goal
+
+-- what the search and the division found, without their bits
+record Found (start : ℤ → ℤ) (runs : List Run) (k : ℕ) (at day : ℤ) : Type 0 where
+  from : begin_at runs k ≤ℤ at
+  until : k + 1 < length runs → at <ℤ begin_at runs (k + 1)
+  low : (day *ℤ pos 86_400) ≤ℤ (at +ℤ offset_at runs k)
+  high : (at +ℤ offset_at runs k) <ℤ ((day +ℤ pos 1) *ℤ pos 86_400)
+  day_is : to_z w32 (of_z w32 day) ≡ day
+
+abbrev pub bits : ℤ → ℤ
+bits n = to_z w64 (of_z w64 n)
+
+found : (start : ℤ → ℤ) (runs : List Run) (k : ℕ) (at get again day : ℤ) → Covers start calendar_end runs → k < length runs
+    → FitsSigned w64 get → get ≡ at → FitsSigned w64 again → again ≡ at
+    → begin_at runs k ≤ℤ bits get → (k + 1 < length runs → bits get <ℤ begin_at runs (k + 1))
+    → (day *ℤ pos 86_400) ≤ℤ (bits again +ℤ to_z w32 (of_z w32 (offset_at runs k)))
+    → (bits again +ℤ to_z w32 (of_z w32 (offset_at runs k))) <ℤ ((day +ℤ pos 1) *ℤ pos 86_400)
+    → first_day ≤ℤ day → day <ℤ last_day → Found start runs k at day
+found start runs k at get again day covers place fits is again_fits again_is from until low high first last =
+    let offset : to_z w32 (of_z w32 (offset_at runs k)) ≡ offset_at runs k = to_z-of_z w32 (offset_at runs k) (offset_fits start runs k covers place) in
+    let at_is : bits get ≡ at = to_z-of_z w64 get fits ∙ is in
+    let same_at : bits again ≡ at = to_z-of_z w64 again again_fits ∙ again_is in
+    let day_fits : FitsSigned w32 day = omega (arith, signed_arith) in
+    record {
+      from = rw at_is at from;
+      until = rw at_is at until;
+      low = rw (same_at, offset) at low;
+      high = rw (same_at, offset) at high;
+      day_is = to_z-of_z w32 day day_fits;
+    }
 
 pub run_on-place-requires-clause-first : goal.run_on-place-requires-clause-first
 run_on-place-requires-clause-first c =
@@ -48,118 +80,60 @@ overflow_sub-result c =
     to_z-of_z w32 (first_at runs (k + 1)) (first_fits (day_start_of c.args.self.now) runs (k + 1) covers more) in
     rw next (before_fits (day_start_of c.args.self.now) runs (k + 1) covers more)
 
-pub returns-then-next-day-clause-day : goal.returns-then-next-day-clause-day
-returns-then-next-day-clause-day c =
-    let covers : Covers (day_start_of c.args.self.now) calendar_end c.as_slice-runs.result.now =
-    rw (c.as_slice-runs.ensures.value, ← c.self.view_is) c.self.invariant.starts in
+pub returns-then-next-day : goal.returns-then-next-day
+returns-then-next-day c =
+    let start = day_start_of c.args.self.now in
     let runs = c.as_slice-runs.result.now in
     let k = c.run_on-place.result in
-    let place : k < length runs = c.run_on-place.ensures.place in
-    let offset : to_z w32 (of_z w32 (offset_at runs k)) ≡ offset_at runs k =
-    to_z-of_z w32 (offset_at runs k) (offset_fits (day_start_of c.args.self.now) runs k covers place) in
-    let at_fits : FitsSigned w64 c.get.result = record { sfits = c.get.type_inv } in
-    let at_is : to_z w64 (of_z w64 c.get.result) ≡ c.args.at = to_z-of_z w64 c.get.result at_fits ∙ c.get.ensures.value in
-    let same_fits : FitsSigned w64 c.get-2.result = record { sfits = c.get-2.type_inv } in
-    let same_at : to_z w64 (of_z w64 c.get-2.result) ≡ c.args.at = to_z-of_z w64 c.get-2.result same_fits ∙ c.get-2.ensures.value in
-    let from : begin_at runs k ≤ℤ c.args.at = rw at_is at c.run_on-place.ensures.from in
-    let until : k + 1 < length runs → c.args.at <ℤ begin_at runs (k + 1) = rw at_is at c.run_on-place.ensures.until in
-    let low : (c.day_by-day.result *ℤ pos 86_400) ≤ℤ (c.args.at +ℤ offset_at runs k) = rw (same_at, offset) at c.day_by-day.ensures.from in
-    let high : (c.args.at +ℤ offset_at runs k) <ℤ ((c.day_by-day.result +ℤ pos 1) *ℤ pos 86_400) = rw (same_at, offset) at c.day_by-day.ensures.until in
-    let first = c.day_by-day.ensures.first in
-    let last = c.day_by-day.ensures.last in
-    let day_fits : FitsSigned w32 c.day_by-day.result = omega (arith, signed_arith) in
-    let day : to_z w32 (of_z w32 c.day_by-day.result) ≡ c.day_by-day.result = to_z-of_z w32 c.day_by-day.result day_fits in
+    let day = c.day_by-day.result in
+    let covers : Covers start calendar_end runs = rw (c.as_slice-runs.ensures.value, ← c.self.view_is) c.self.invariant.starts in
+    let f : Found start runs k c.args.at day = found start runs k c.args.at c.get.result c.get-2.result day covers c.run_on-place.ensures.place
+    (record { sfits = c.get.type_inv }) c.get.ensures.value (record { sfits = c.get-2.type_inv }) c.get-2.ensures.value
+    c.run_on-place.ensures.from c.run_on-place.ensures.until c.day_by-day.ensures.from c.day_by-day.ensures.until c.day_by-day.ensures.first c.day_by-day.ensures.last in
     let more : k + 1 < length runs = c.if-place-runs.true in
     let next : to_z w32 (of_z w32 (first_at runs (k + 1))) ≡ first_at runs (k + 1) =
-    to_z-of_z w32 (first_at runs (k + 1)) (first_fits (day_start_of c.args.self.now) runs (k + 1) covers more) in
+    to_z-of_z w32 (first_at runs (k + 1)) (first_fits start runs (k + 1) covers more) in
     let before : to_z w32 (of_z w32 (first_at runs (k + 1) -ℤ pos 1)) ≡ first_at runs (k + 1) -ℤ pos 1 =
-    to_z-of_z w32 (first_at runs (k + 1) -ℤ pos 1) (before_fits (day_start_of c.args.self.now) runs (k + 1) covers more) in
-    let past : first_at runs (k + 1) ≤ℤ c.day_by-day.result = omega (arith, signed_arith, rw (next, day) at c.if-next-day.true) in
-    let found = day_by_next (day_start_of c.args.self.now) runs k c.args.at c.day_by-day.result covers more (until more) low past in
-    rw (next, before) found.1
-
-pub returns-then-next-day-clause-holds : goal.returns-then-next-day-clause-holds
-returns-then-next-day-clause-holds c =
-    let covers : Covers (day_start_of c.args.self.now) calendar_end c.as_slice-runs.result.now =
-    rw (c.as_slice-runs.ensures.value, ← c.self.view_is) c.self.invariant.starts in
-    let runs = c.as_slice-runs.result.now in
-    let k = c.run_on-place.result in
-    let place : k < length runs = c.run_on-place.ensures.place in
-    let offset : to_z w32 (of_z w32 (offset_at runs k)) ≡ offset_at runs k =
-    to_z-of_z w32 (offset_at runs k) (offset_fits (day_start_of c.args.self.now) runs k covers place) in
-    let at_fits : FitsSigned w64 c.get.result = record { sfits = c.get.type_inv } in
-    let at_is : to_z w64 (of_z w64 c.get.result) ≡ c.args.at = to_z-of_z w64 c.get.result at_fits ∙ c.get.ensures.value in
-    let same_fits : FitsSigned w64 c.get-2.result = record { sfits = c.get-2.type_inv } in
-    let same_at : to_z w64 (of_z w64 c.get-2.result) ≡ c.args.at = to_z-of_z w64 c.get-2.result same_fits ∙ c.get-2.ensures.value in
-    let from : begin_at runs k ≤ℤ c.args.at = rw at_is at c.run_on-place.ensures.from in
-    let until : k + 1 < length runs → c.args.at <ℤ begin_at runs (k + 1) = rw at_is at c.run_on-place.ensures.until in
-    let low : (c.day_by-day.result *ℤ pos 86_400) ≤ℤ (c.args.at +ℤ offset_at runs k) = rw (same_at, offset) at c.day_by-day.ensures.from in
-    let high : (c.args.at +ℤ offset_at runs k) <ℤ ((c.day_by-day.result +ℤ pos 1) *ℤ pos 86_400) = rw (same_at, offset) at c.day_by-day.ensures.until in
-    let first = c.day_by-day.ensures.first in
-    let last = c.day_by-day.ensures.last in
-    let day_fits : FitsSigned w32 c.day_by-day.result = omega (arith, signed_arith) in
-    let day : to_z w32 (of_z w32 c.day_by-day.result) ≡ c.day_by-day.result = to_z-of_z w32 c.day_by-day.result day_fits in
-    let more : k + 1 < length runs = c.if-place-runs.true in
-    let next : to_z w32 (of_z w32 (first_at runs (k + 1))) ≡ first_at runs (k + 1) =
-    to_z-of_z w32 (first_at runs (k + 1)) (first_fits (day_start_of c.args.self.now) runs (k + 1) covers more) in
-    let before : to_z w32 (of_z w32 (first_at runs (k + 1) -ℤ pos 1)) ≡ first_at runs (k + 1) -ℤ pos 1 =
-    to_z-of_z w32 (first_at runs (k + 1) -ℤ pos 1) (before_fits (day_start_of c.args.self.now) runs (k + 1) covers more) in
-    let past : first_at runs (k + 1) ≤ℤ c.day_by-day.result = omega (arith, signed_arith, rw (next, day) at c.if-next-day.true) in
-    let found = day_by_next (day_start_of c.args.self.now) runs k c.args.at c.day_by-day.result covers more (until more) low past in
-    let holds : IsIn c.args.self.now (first_at runs (k + 1) -ℤ pos 1) c.args.at = record { from = found.0.0; until = found.0.1 } in
-    rw (next, before) holds
+    to_z-of_z w32 (first_at runs (k + 1) -ℤ pos 1) (before_fits start runs (k + 1) covers more) in
+    let past : first_at runs (k + 1) ≤ℤ day = omega (arith, signed_arith, rw (next, f.day_is) at c.if-next-day.true) in
+    let is = day_by_next start runs k c.args.at day covers more (f.until more) f.low past in
+    let holds : IsIn c.args.self.now (first_at runs (k + 1) -ℤ pos 1) c.args.at = record { from = is.0.0; until = is.0.1 } in
+    record {
+      zone = rw (← c.self.view_is) c.self.invariant.good;
+      day = rw (next, before) is.1;
+      holds = rw (next, before) holds;
+    }
 
 pub returns-else-next-day-clause-holds : goal.returns-else-next-day-clause-holds
 returns-else-next-day-clause-holds c =
-    let covers : Covers (day_start_of c.args.self.now) calendar_end c.as_slice-runs.result.now =
-    rw (c.as_slice-runs.ensures.value, ← c.self.view_is) c.self.invariant.starts in
+    let start = day_start_of c.args.self.now in
     let runs = c.as_slice-runs.result.now in
     let k = c.run_on-place.result in
-    let place : k < length runs = c.run_on-place.ensures.place in
-    let offset : to_z w32 (of_z w32 (offset_at runs k)) ≡ offset_at runs k =
-    to_z-of_z w32 (offset_at runs k) (offset_fits (day_start_of c.args.self.now) runs k covers place) in
-    let at_fits : FitsSigned w64 c.get.result = record { sfits = c.get.type_inv } in
-    let at_is : to_z w64 (of_z w64 c.get.result) ≡ c.args.at = to_z-of_z w64 c.get.result at_fits ∙ c.get.ensures.value in
-    let same_fits : FitsSigned w64 c.get-2.result = record { sfits = c.get-2.type_inv } in
-    let same_at : to_z w64 (of_z w64 c.get-2.result) ≡ c.args.at = to_z-of_z w64 c.get-2.result same_fits ∙ c.get-2.ensures.value in
-    let from : begin_at runs k ≤ℤ c.args.at = rw at_is at c.run_on-place.ensures.from in
-    let until : k + 1 < length runs → c.args.at <ℤ begin_at runs (k + 1) = rw at_is at c.run_on-place.ensures.until in
-    let low : (c.day_by-day.result *ℤ pos 86_400) ≤ℤ (c.args.at +ℤ offset_at runs k) = rw (same_at, offset) at c.day_by-day.ensures.from in
-    let high : (c.args.at +ℤ offset_at runs k) <ℤ ((c.day_by-day.result +ℤ pos 1) *ℤ pos 86_400) = rw (same_at, offset) at c.day_by-day.ensures.until in
-    let first = c.day_by-day.ensures.first in
-    let last = c.day_by-day.ensures.last in
-    let day_fits : FitsSigned w32 c.day_by-day.result = omega (arith, signed_arith) in
-    let day : to_z w32 (of_z w32 c.day_by-day.result) ≡ c.day_by-day.result = to_z-of_z w32 c.day_by-day.result day_fits in
+    let day = c.day_by-day.result in
+    let covers : Covers start calendar_end runs = rw (c.as_slice-runs.ensures.value, ← c.self.view_is) c.self.invariant.starts in
+    let f : Found start runs k c.args.at day = found start runs k c.args.at c.get.result c.get-2.result day covers c.run_on-place.ensures.place
+    (record { sfits = c.get.type_inv }) c.get.ensures.value (record { sfits = c.get-2.type_inv }) c.get-2.ensures.value
+    c.run_on-place.ensures.from c.run_on-place.ensures.until c.day_by-day.ensures.from c.day_by-day.ensures.until c.day_by-day.ensures.first c.day_by-day.ensures.last in
     let more : k + 1 < length runs = c.if-place-runs.true in
     let next : to_z w32 (of_z w32 (first_at runs (k + 1))) ≡ first_at runs (k + 1) =
-    to_z-of_z w32 (first_at runs (k + 1)) (first_fits (day_start_of c.args.self.now) runs (k + 1) covers more) in
-    let inside : c.day_by-day.result <ℤ first_at runs (k + 1) = omega (arith, signed_arith, rw (next, day) at c.if-next-day.false) in
-    let found = day_by_run (day_start_of c.args.self.now) runs k c.args.at c.day_by-day.result covers place from until low high last (λ _. inside) in
-    let holds : IsIn c.args.self.now c.day_by-day.result c.args.at = record { from = found.0; until = found.1 } in
-    rw day holds
+    to_z-of_z w32 (first_at runs (k + 1)) (first_fits start runs (k + 1) covers more) in
+    let inside : day <ℤ first_at runs (k + 1) = omega (arith, signed_arith, rw (next, f.day_is) at c.if-next-day.false) in
+    let is = day_by_run start runs k c.args.at day covers c.run_on-place.ensures.place f.from f.until f.low f.high c.day_by-day.ensures.last (λ _. inside) in
+    let holds : IsIn c.args.self.now day c.args.at = record { from = is.0; until = is.1 } in
+    rw f.day_is holds
 
 pub returns-else-place-runs-clause-holds : goal.returns-else-place-runs-clause-holds
 returns-else-place-runs-clause-holds c =
-    let covers : Covers (day_start_of c.args.self.now) calendar_end c.as_slice-runs.result.now =
-    rw (c.as_slice-runs.ensures.value, ← c.self.view_is) c.self.invariant.starts in
+    let start = day_start_of c.args.self.now in
     let runs = c.as_slice-runs.result.now in
     let k = c.run_on-place.result in
-    let place : k < length runs = c.run_on-place.ensures.place in
-    let offset : to_z w32 (of_z w32 (offset_at runs k)) ≡ offset_at runs k =
-    to_z-of_z w32 (offset_at runs k) (offset_fits (day_start_of c.args.self.now) runs k covers place) in
-    let at_fits : FitsSigned w64 c.get.result = record { sfits = c.get.type_inv } in
-    let at_is : to_z w64 (of_z w64 c.get.result) ≡ c.args.at = to_z-of_z w64 c.get.result at_fits ∙ c.get.ensures.value in
-    let same_fits : FitsSigned w64 c.get-2.result = record { sfits = c.get-2.type_inv } in
-    let same_at : to_z w64 (of_z w64 c.get-2.result) ≡ c.args.at = to_z-of_z w64 c.get-2.result same_fits ∙ c.get-2.ensures.value in
-    let from : begin_at runs k ≤ℤ c.args.at = rw at_is at c.run_on-place.ensures.from in
-    let until : k + 1 < length runs → c.args.at <ℤ begin_at runs (k + 1) = rw at_is at c.run_on-place.ensures.until in
-    let low : (c.day_by-day.result *ℤ pos 86_400) ≤ℤ (c.args.at +ℤ offset_at runs k) = rw (same_at, offset) at c.day_by-day.ensures.from in
-    let high : (c.args.at +ℤ offset_at runs k) <ℤ ((c.day_by-day.result +ℤ pos 1) *ℤ pos 86_400) = rw (same_at, offset) at c.day_by-day.ensures.until in
-    let first = c.day_by-day.ensures.first in
-    let last = c.day_by-day.ensures.last in
-    let day_fits : FitsSigned w32 c.day_by-day.result = omega (arith, signed_arith) in
-    let day : to_z w32 (of_z w32 c.day_by-day.result) ≡ c.day_by-day.result = to_z-of_z w32 c.day_by-day.result day_fits in
+    let day = c.day_by-day.result in
+    let covers : Covers start calendar_end runs = rw (c.as_slice-runs.ensures.value, ← c.self.view_is) c.self.invariant.starts in
+    let f : Found start runs k c.args.at day = found start runs k c.args.at c.get.result c.get-2.result day covers c.run_on-place.ensures.place
+    (record { sfits = c.get.type_inv }) c.get.ensures.value (record { sfits = c.get-2.type_inv }) c.get-2.ensures.value
+    c.run_on-place.ensures.from c.run_on-place.ensures.until c.day_by-day.ensures.from c.day_by-day.ensures.until c.day_by-day.ensures.first c.day_by-day.ensures.last in
     let none : length runs ≤ k + 1 = c.if-place-runs.false in
-    let found = day_by_run (day_start_of c.args.self.now) runs k c.args.at c.day_by-day.result covers place from until low high last (λ more. absurd (omega arith)) in
-    let holds : IsIn c.args.self.now c.day_by-day.result c.args.at = record { from = found.0; until = found.1 } in
-    rw day holds
+    let is = day_by_run start runs k c.args.at day covers c.run_on-place.ensures.place f.from f.until f.low f.high c.day_by-day.ensures.last
+    (λ more. absurd (omega arith)) in
+    let holds : IsIn c.args.self.now day c.args.at = record { from = is.0; until = is.1 } in
+    rw f.day_is holds

@@ -4,13 +4,13 @@ ghost use Rattle.fixed_units.specs.Quantities.{IsStage};
 ghost use Rattle.readings.specs.Readings.{IsRising};
 ghost use Rattle.daily_values.specs.DayInputs.{AreInputs};
 
+use crate::fixtures::{micro, same};
 use daily_values::{
     DayInputs, DayParts, DayValue, Figures, ReadingList, Sum, compute, from_scratch,
 };
-use fixed_units::{Flag, Micro, Published, Reading, RoundingArray, Second, is_stage};
+use fixed_units::{Flag, Published, Reading, RoundingArray, Second, is_stage};
 use std::alloc::Global;
 use std::process::Abort;
-use std::test::Fail;
 
 // The day of the examples: 2024-01-05 at UTC-5.
 const START: i64 = 1_704_430_800;
@@ -53,16 +53,17 @@ fn second(rt: &impl Abort, after_start: i32) -> Second {
 }
 
 // The readings at these seconds after the start, of so many millionths of a foot.
-fn readings(rt: &impl Abort, alloc: Global, listed: &[(i32, i64)]) -> Result<Vec<Reading>, Fail> {
+fn readings(rt: &impl Abort, alloc: Global, listed: &[(i32, i64)]) -> Vec<Reading> {
     let mut readings = Vec::new(alloc);
     for (after_start, raw) in listed {
-        readings.push(Reading {
+        let reading = Reading {
             at: second(rt, *after_start),
-            raw: Micro::new(*raw).expect(rt, "a stage"),
+            raw: micro(rt, *raw),
             flag: Flag::Usable,
-        })?;
+        };
+        readings.push(reading).expect(rt, "memory for a reading");
     }
-    Ok(readings)
+    readings
 }
 
 // The figures of a day of so many seconds.
@@ -73,19 +74,19 @@ fn figures_of(
     length: i32,
     stage_array: RoundingArray,
     listed: &[(i32, i64)],
-) -> Result<Figures, Fail> {
+) -> Figures {
     let inputs = DayInputs::Day(DayParts {
         gap,
         from: second(rt, 0),
         until: second(rt, length),
-        window: ReadingList::from_vec(readings(rt, alloc, listed)?),
+        window: ReadingList::from_vec(readings(rt, alloc, listed)),
         stage_array,
     });
     assert!(rt; are_inputs(&inputs));
     let DayValue::Day(figures) = compute(&inputs) else {
         panic!(rt; "a day with a window has figures");
     };
-    Ok(figures)
+    figures
 }
 
 // The seconds that are covered, twice the area, and the hundredths of the mean, of a day of so many seconds.
@@ -96,37 +97,38 @@ fn expect_day(
     length: i32,
     listed: &[(i32, i64)],
     want: (u32, i128, Option<i64>),
-) -> Result<(), Fail> {
-    let figures = figures_of(rt, alloc, gap, length, RoundingArray::STAGES, listed)?;
+) {
+    let figures = figures_of(rt, alloc, gap, length, RoundingArray::STAGES, listed);
     let sum = figures.stage();
     let units = figures.stage_text().map(|published| published.units);
-    assert_eq!(rt; (sum.covered, sum.twice, units), want);
-    Ok(())
+    same(rt, gap, &(sum.covered, sum.twice, units), &want);
 }
 
+const MEAN: i128 = 2 * 1_500_000 * 86_400;
+
+const NOON: (i32, i64) = (43_200, 2_000_000);
+
 #[test]
-fn days_worked_by_hand(rt: HostRuntime) -> Result<(), Fail> {
+fn days_worked_by_hand(rt: HostRuntime) {
     let alloc = rt.alloc();
-    let mean = 2 * 1_500_000 * 86_400;
-    let noon = (43_200, 2_000_000);
     // two pairs of exactly 12 hours
     expect_day(
         &rt,
         alloc,
         720,
         86_400,
-        &[(0, 1_000_000), noon, (86_400, 1_000_000)],
-        (86_400, mean, Some(150)),
-    )?;
+        &[(0, 1_000_000), NOON, (86_400, 1_000_000)],
+        (86_400, MEAN, Some(150)),
+    );
     // the second half is not covered
     expect_day(
         &rt,
         alloc,
         720,
         86_400,
-        &[(0, 1_000_000), noon],
-        (43_200, mean / 2, None),
-    )?;
+        &[(0, 1_000_000), NOON],
+        (43_200, MEAN / 2, None),
+    );
     // one second over the tolerance
     expect_day(
         &rt,
@@ -135,7 +137,7 @@ fn days_worked_by_hand(rt: HostRuntime) -> Result<(), Fail> {
         86_400,
         &[(0, 1_000_000), (43_201, 2_000_000)],
         (0, 0, None),
-    )?;
+    );
     // the nearest readings on either side are too far from each other
     expect_day(
         &rt,
@@ -144,7 +146,7 @@ fn days_worked_by_hand(rt: HostRuntime) -> Result<(), Fail> {
         72_000,
         &[(-21_600, 1_000_000), (93_600, 2_000_000)],
         (0, 0, None),
-    )?;
+    );
     // no pair touches the day
     expect_day(
         &rt,
@@ -153,7 +155,7 @@ fn days_worked_by_hand(rt: HostRuntime) -> Result<(), Fail> {
         86_400,
         &[(-20, 5), (-10, 5), (86_410, 5), (86_420, 5)],
         (0, 0, None),
-    )?;
+    );
     // cut at the start, half a millionth below 0; cut at the end, half a millionth above 0
     expect_day(
         &rt,
@@ -162,7 +164,7 @@ fn days_worked_by_hand(rt: HostRuntime) -> Result<(), Fail> {
         86_400,
         &[(-1, 0), (1, -1), (86_399, 0), (86_401, 1)],
         (2, -2 + 1, None),
-    )?;
+    );
     // half a hundredth below 0
     expect_day(
         &rt,
@@ -171,57 +173,61 @@ fn days_worked_by_hand(rt: HostRuntime) -> Result<(), Fail> {
         86_400,
         &[(0, -5_000), (43_200, -5_000), (86_400, -5_000)],
         (86_400, -10_000 * 86_400, Some(-1)),
-    )
+    );
 }
 
 #[test]
-fn a_mean_is_published_by_the_array_of_its_day(rt: HostRuntime) -> Result<(), Fail> {
+fn a_mean_is_published_by_the_array_of_its_day(rt: HostRuntime) {
     let listed = [(0, 1_000_000), (43_200, 2_000_000), (86_400, 1_000_000)];
     let array = RoundingArray::read(b"0111111111").expect(&rt, "a rounding array");
-    let figures = figures_of(&rt, rt.alloc(), 720, 86_400, array, &listed)?;
-    assert_eq!(rt;
-        figures.stage_text(),
-        Some(Published {
-            units: 2,
-            places: 0
-        })
-    );
-    Ok(())
+    let figures = figures_of(&rt, rt.alloc(), 720, 86_400, array, &listed);
+    let want = Published {
+        units: 2,
+        places: 0,
+    };
+    same(&rt, "mean", &figures.stage_text(), &Some(want));
 }
 
 // The value of the example day from all readings of a station.
-fn from_all(
-    rt: &impl Abort,
-    alloc: Global,
-    gap: u32,
-    readings: &[Reading],
-) -> Result<DayValue, Fail> {
+fn from_all(rt: &impl Abort, alloc: Global, gap: u32, readings: &[Reading]) -> DayValue {
     assert!(rt; (1..=720).contains(&gap) && are_rising(readings) && are_stages(readings));
     let from = second(rt, 0);
     let until = second(rt, 86_400);
     let length = until.get() - from.get();
     assert!(rt; length == 86_400);
-    Ok(from_scratch::day_value(alloc, gap, RoundingArray::STAGES, from, until, readings)?)
+    from_scratch::day_value(alloc, gap, RoundingArray::STAGES, from, until, readings).expect(
+        rt,
+        "memory for a window",
+    )
+}
+
+const WHOLE_LIST: [(i32, i64); 6] = [
+    (-90_000, 7),
+    (-3_600, 1_000_000),
+    (0, 9),
+    (3_600, 2_000_000),
+    (90_001, 1_000_000),
+    (90_002, 7),
+];
+
+#[test]
+fn from_readings_before_the_day(rt: HostRuntime) {
+    let early = readings(&rt, rt.alloc(), &WHOLE_LIST[..2]);
+    same(
+        &rt,
+        "early",
+        &from_all(&rt, rt.alloc(), 120, &early),
+        &DayValue::Empty,
+    );
 }
 
 #[test]
-fn from_the_whole_list(rt: HostRuntime) -> Result<(), Fail> {
-    let alloc = rt.alloc();
-    let listed = [
-        (-90_000, 7),
-        (-3_600, 1_000_000),
-        (0, 9),
-        (3_600, 2_000_000),
-        (90_001, 1_000_000),
-        (90_002, 7),
-    ];
-    let early = readings(&rt, alloc, &listed[..2])?;
-    assert_eq!(rt; from_all(&rt, alloc, 120, &early)?, DayValue::Empty);
-    let mut readings = readings(&rt, alloc, &listed)?;
+fn from_the_whole_list(rt: HostRuntime) {
+    let mut readings = readings(&rt, rt.alloc(), &WHOLE_LIST);
     if let Some(bad) = readings.get_mut(2) {
         bad.flag = Flag::Erroneous;
     }
-    let DayValue::Day(figures) = from_all(&rt, alloc, 120, &readings)? else {
+    let DayValue::Day(figures) = from_all(&rt, rt.alloc(), 120, &readings) else {
         panic!(rt; "a day with a reading has figures");
     };
     // the pair over the start is cut at half its rise; the one over the end is too long
@@ -229,11 +235,15 @@ fn from_the_whole_list(rt: HostRuntime) -> Result<(), Fail> {
         twice: (1_500_000 + 2_000_000) * 3_600,
         covered: 3_600,
     };
-    assert_eq!(rt; (figures.length(), figures.stage()), (86_400, want));
-    Ok(())
+    same(
+        &rt,
+        "sum",
+        &(figures.length(), figures.stage()),
+        &(86_400, want),
+    );
 }
 
 #[test]
 fn no_window_no_figures(rt: HostRuntime) {
-    assert_eq!(rt; compute(&DayInputs::Empty), DayValue::Empty);
+    same(&rt, "empty", &compute(&DayInputs::Empty), &DayValue::Empty);
 }

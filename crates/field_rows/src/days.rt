@@ -1,16 +1,30 @@
 //! Days of zones, and the texts of days and instants: the changes of 2024 by the Energy Policy Act of 2005, and edges of what is a zone.
+ghost use Rattle.std.specs.Prelude.{◌≡◌};
 
-use crate::fixtures::second;
+use crate::fixtures::{same, second};
 use civil_days::{StationZone, ZoneFault, read_day, read_instant, write_day, write_instant};
 use fixed_units::{Day, Second, Text, is_stamp};
 use std::alloc::Global;
 use std::process::Abort;
-use std::test::Fail;
 
 const EASTERN: &str = "EST5EDT,M3.2.0,M11.1.0";
 
-fn zone(alloc: Global, text: &str) -> Result<StationZone, Fail> {
-    Ok(StationZone::read(alloc, text).ok().ok_or("a zone")?)
+// a gap from 23:30 to 00:30
+const LATE: &str = "AAA0BBB,M3.2.0/23:30,M11.1.0/12";
+
+// changes of exactly four hours at noon
+const WIDE: &str = "AAA0BBB-4,M3.2.0/12,M11.1.0/12";
+
+fn zone(rt: &impl Abort, alloc: Global, text: &str) -> StationZone {
+    StationZone::read(alloc, text).expect(rt, "a zone")
+}
+
+fn day(rt: &impl Abort, text: &str) -> Day {
+    read_day(text.as_bytes()).expect(rt, "a day")
+}
+
+fn instant(rt: &impl Abort, text: &str) -> Second {
+    read_instant(text.as_bytes()).expect(rt, "an instant")
 }
 
 fn day_of(rt: &impl Abort, zone: &StationZone, at: Second) -> Day {
@@ -19,125 +33,154 @@ fn day_of(rt: &impl Abort, zone: &StationZone, at: Second) -> Day {
     zone.day_of(at)
 }
 
+/// When a day of a zone begins, how long it is, and that its first and its last second are of it.
+fn expect_interval(rt: &impl Abort, zone: &StationZone, day: Day, first: Second, length: i64) {
+    let (start, end) = zone.bounds(day);
+    same(rt, "start", &start, &first);
+    same(rt, "day_start", &zone.day_start(day), &first);
+    same(
+        rt,
+        "length",
+        &end.get().saturating_sub(start.get()),
+        &length,
+    );
+    same(rt, "first second", &day_of(rt, zone, start), &day);
+    let last = second(rt, end.get().saturating_sub(1));
+    same(rt, "last second", &day_of(rt, zone, last), &day);
+}
+
+const INTERVALS: [(&str, &str, &str, i64); 11] = [
+    (EASTERN, "2024-03-10", "2024-03-10T05:00:00Z", 82_800),
+    (EASTERN, "2024-11-02", "2024-11-02T04:00:00Z", 86_400),
+    (EASTERN, "2024-11-03", "2024-11-03T04:00:00Z", 90_000),
+    (EASTERN, "2024-11-04", "2024-11-04T05:00:00Z", 86_400),
+    (LATE, "2024-03-10", "2024-03-10T00:00:00Z", 86_400),
+    (LATE, "2024-03-11", "2024-03-11T00:00:00Z", 82_800),
+    (LATE, "2024-03-12", "2024-03-11T23:00:00Z", 86_400),
+    (WIDE, "2024-03-10", "2024-03-10T00:00:00Z", 72_000),
+    (WIDE, "2024-11-03", "2024-11-02T20:00:00Z", 100_800),
+    ("-05:00", "2024-01-05", "2024-01-05T05:00:00Z", 86_400),
+    ("+14:59", "1900-01-04", "1900-01-03T09:01:00Z", 86_400),
+];
+
 #[test]
-fn intervals(rt: HostRuntime) -> Result<(), Fail> {
-    // a gap from 23:30 to 00:30, and changes of exactly four hours at noon
-    let late = "AAA0BBB,M3.2.0/23:30,M11.1.0/12";
-    let wide = "AAA0BBB-4,M3.2.0/12,M11.1.0/12";
-    let cases = [
-        (EASTERN, b"2024-03-10", b"2024-03-10T05:00:00Z", 82_800),
-        (EASTERN, b"2024-11-02", b"2024-11-02T04:00:00Z", 86_400),
-        (EASTERN, b"2024-11-03", b"2024-11-03T04:00:00Z", 90_000),
-        (EASTERN, b"2024-11-04", b"2024-11-04T05:00:00Z", 86_400),
-        (late, b"2024-03-10", b"2024-03-10T00:00:00Z", 86_400),
-        (late, b"2024-03-11", b"2024-03-11T00:00:00Z", 82_800),
-        (late, b"2024-03-12", b"2024-03-11T23:00:00Z", 86_400),
-        (wide, b"2024-03-10", b"2024-03-10T00:00:00Z", 72_000),
-        (wide, b"2024-11-03", b"2024-11-02T20:00:00Z", 100_800),
-        ("-05:00", b"2024-01-05", b"2024-01-05T05:00:00Z", 86_400),
-        ("+14:59", b"1900-01-04", b"1900-01-03T09:01:00Z", 86_400),
-    ];
-    for (text, day, first, length) in cases {
-        let zone = zone(rt.alloc(), text)?;
-        let day = read_day(day.as_slice()).ok_or("a day")?;
-        let first = read_instant(first.as_slice()).ok_or("an instant")?;
-        let (start, end) = zone.bounds(day);
-        assert_eq!(rt; start, first, "{text}");
-        assert_eq!(rt; zone.day_start(day), first, "{text}");
-        assert_eq!(rt; end.get().saturating_sub(start.get()), length, "{text}");
-        let last = second(end.get().saturating_sub(1))?;
-        assert_eq!(rt; day_of(&rt, &zone, start), day, "{text}");
-        assert_eq!(rt; day_of(&rt, &zone, last), day, "{text}");
+fn intervals(rt: HostRuntime) {
+    for (text, named, first, length) in INTERVALS {
+        let zone = zone(&rt, rt.alloc(), text);
+        expect_interval(&rt, &zone, day(&rt, named), instant(&rt, first), length);
     }
-    Ok(())
+}
+
+const ZONES: [(&str, bool); 19] = [
+    ("+14:59", true),
+    ("+15:00", false),
+    ("-14:59", true),
+    ("-00:00", true),
+    ("+05:60", false),
+    ("05:00", false),
+    ("+5:00", false),
+    ("EST5", true),
+    ("<-03>3", true),
+    ("UTC0", true),
+    ("NZST-12NZDT,M9.5.0,M4.1.0/3", true),
+    (EASTERN, true),
+    ("America/New_York", false),
+    ("", false),
+    ("EST5EDT", false),
+    // days of exactly 20 and 28 hours, and of a second less and more
+    ("AAA0BBB-4,M3.2.0/12,M11.1.0/12", true),
+    ("AAA0BBB-4:00:01,M3.2.0/12,M11.1.0/12", false),
+    // 60 bytes, and 61
+    (
+        "<ABCDEFGHIJKLMNO>+00:00:00<ABCDEFGHIJKLMNO>-01:00:00,J60,J99",
+        true,
+    ),
+    (
+        "<ABCDEFGHIJKLMNO>+00:00:00<ABCDEFGHIJKLMNO>-01:00:00,J60,J300",
+        false,
+    ),
+];
+
+/// Why a text is no zone, if it is none.
+fn zone_fault(alloc: Global, text: &str) -> Option<ZoneFault> {
+    StationZone::read(alloc, text).err()
 }
 
 #[test]
 fn texts_of_zones(rt: HostRuntime) {
-    let cases = [
-        ("+14:59", true),
-        ("+15:00", false),
-        ("-14:59", true),
-        ("-00:00", true),
-        ("+05:60", false),
-        ("05:00", false),
-        ("+5:00", false),
-        ("EST5", true),
-        ("<-03>3", true),
-        ("UTC0", true),
-        ("NZST-12NZDT,M9.5.0,M4.1.0/3", true),
-        (EASTERN, true),
-        ("America/New_York", false),
-        ("", false),
-        ("EST5EDT", false),
-        // days of exactly 20 and 28 hours, and of a second less and more
-        ("AAA0BBB-4,M3.2.0/12,M11.1.0/12", true),
-        ("AAA0BBB-4:00:01,M3.2.0/12,M11.1.0/12", false),
-        // 60 bytes, and 61
-        (
-            "<ABCDEFGHIJKLMNO>+00:00:00<ABCDEFGHIJKLMNO>-01:00:00,J60,J99",
-            true,
-        ),
-        (
-            "<ABCDEFGHIJKLMNO>+00:00:00<ABCDEFGHIJKLMNO>-01:00:00,J60,J300",
-            false,
-        ),
-    ];
-    for (text, good) in cases {
-        let fault = StationZone::read(rt.alloc(), text).err();
+    for (text, good) in ZONES {
         let want = if good { None } else { Some(ZoneFault::BadZone) };
-        assert_eq!(rt; fault, want, "{text}");
+        same(&rt, text, &zone_fault(rt.alloc(), text), &want);
+    }
+}
+
+const DAYS: [(&str, Option<i32>); 9] = [
+    ("2024-02-29", Some(19_782)),
+    ("2023-02-29", None),
+    ("1900-01-01", Some(-25_567)),
+    ("1899-12-31", None),
+    ("2099-12-31", Some(47_481)),
+    ("2100-01-01", None),
+    ("2024-13-01", None),
+    ("2024-1-010", None),
+    ("2024-01-01 ", None),
+];
+
+#[test]
+fn texts_of_days(rt: HostRuntime) {
+    for (text, number) in DAYS {
+        same(&rt, text, &read_day(text.as_bytes()).map(Day::get), &number);
     }
 }
 
 #[test]
-fn texts_of_days(rt: HostRuntime) -> Result<(), Fail> {
-    let cases: [(&[u8], Option<i32>); 9] = [
-        (b"2024-02-29", Some(19_782)),
-        (b"2023-02-29", None),
-        (b"1900-01-01", Some(-25_567)),
-        (b"1899-12-31", None),
-        (b"2099-12-31", Some(47_481)),
-        (b"2100-01-01", None),
-        (b"2024-13-01", None),
-        (b"2024-1-010", None),
-        (b"2024-01-01 ", None),
-    ];
-    for (text, number) in cases {
-        assert_eq!(rt; read_day(text).map(Day::get), number);
-        if let Some(day) = read_day(text) {
-            let mut out = Text::new(rt.alloc());
-            write_day(day, &mut out)?;
-            assert!(rt; out.as_slice() == text);
-        }
-    }
-    Ok(())
-}
-
-#[test]
-fn texts_of_instants(rt: HostRuntime) -> Result<(), Fail> {
-    let cases: [(&[u8], Option<i64>); 8] = [
-        (b"2024-03-10T05:00:00Z", Some(1_710_046_800)),
-        (b"1900-01-03T00:00:00Z", Some(-2_208_816_000)),
-        (b"1900-01-02T23:59:59Z", None),
-        (b"2099-12-28T23:59:59Z", Some(4_102_185_599)),
-        (b"2099-12-29T00:00:00Z", None),
-        (b"2024-03-10T05:00:60Z", None),
-        (b"2024-03-10t05:00:00Z", None),
-        (b"2024-03-10T05:00:00z", None),
-    ];
-    for (text, at) in cases {
-        assert_eq!(rt; read_instant(text).map(|at| at.get()), at);
-    }
-    let spellings: [(i64, &[u8]); 3] = [
-        (-10_000_000_000, b"1653-02-10T06:13:20Z"),
-        (-1, b"1969-12-31T23:59:59Z"),
-        (10_000_000_000, b"2286-11-20T17:46:40Z"),
-    ];
-    for (at, text) in spellings {
+fn spellings_of_days(rt: HostRuntime) {
+    for text in ["2024-02-29", "1900-01-01", "2099-12-31"] {
         let mut out = Text::new(rt.alloc());
-        write_instant(second(at)?, &mut out)?;
-        assert!(rt; out.as_slice() == text);
+        same(&rt, text, &write_day(day(&rt, text), &mut out), &Ok(()));
+        same(&rt, text, &out.as_slice(), &text.as_bytes());
     }
-    Ok(())
+}
+
+const INSTANTS: [(&str, Option<i64>); 8] = [
+    ("2024-03-10T05:00:00Z", Some(1_710_046_800)),
+    ("1900-01-03T00:00:00Z", Some(-2_208_816_000)),
+    ("1900-01-02T23:59:59Z", None),
+    ("2099-12-28T23:59:59Z", Some(4_102_185_599)),
+    ("2099-12-29T00:00:00Z", None),
+    ("2024-03-10T05:00:60Z", None),
+    ("2024-03-10t05:00:00Z", None),
+    ("2024-03-10T05:00:00z", None),
+];
+
+#[test]
+fn texts_of_instants(rt: HostRuntime) {
+    for (text, at) in INSTANTS {
+        same(
+            &rt,
+            text,
+            &read_instant(text.as_bytes()).map(Second::get),
+            &at,
+        );
+    }
+}
+
+const SPELLINGS: [(i64, &str); 3] = [
+    (-10_000_000_000, "1653-02-10T06:13:20Z"),
+    (-1, "1969-12-31T23:59:59Z"),
+    (10_000_000_000, "2286-11-20T17:46:40Z"),
+];
+
+#[test]
+fn spellings_of_instants(rt: HostRuntime) {
+    for (at, text) in SPELLINGS {
+        let mut out = Text::new(rt.alloc());
+        same(
+            &rt,
+            text,
+            &write_instant(second(&rt, at), &mut out),
+            &Ok(()),
+        );
+        same(&rt, text, &out.as_slice(), &text.as_bytes());
+    }
 }

@@ -1,19 +1,25 @@
-//! Quantities and instants of the rows.
-ghost use Rattle.std.specs.Prelude.{◌≡◌, IfOk};
+//! Quantities and instants of the rows, and the assertion that the rows make.
+ghost use Rattle.std.specs.Prelude.{◌≡◌};
 
 use fixed_units::{Micro, Second};
-use std::test::Fail;
+use std::fmt::{Debug, Display};
+use std::process::Abort;
 
 /// That many millionths of a foot or of a cubic foot per second.
-pub fn micro(millionths: i64) -> Result<Micro, Fail>
-    ensures { IfOk result (λ m. m ≡ millionths) }
+pub fn micro(rt: &impl Abort, millionths: i64) -> Micro
+    ensures { result ≡ millionths }
 {
-    Ok(Micro::new(millionths).ok_or("a quantity")?)
+    Micro::new(millionths).expect(rt, "a quantity")
 }
 
 /// The instant of that many seconds.
-pub fn second(seconds: i64) -> Result<Second, Fail>
-    ensures { IfOk result (λ s. s ≡ seconds) }
+pub fn second(rt: &impl Abort, seconds: i64) -> Second
+    ensures { result ≡ seconds }
 {
-    Ok(Second::new(seconds).ok_or("an instant")?)
+    Second::new(seconds).expect(rt, "an instant")
+}
+
+/// What comes of a row is what stands in it.
+pub fn same<R: Display + Drop, T: PartialEq + Debug>(rt: &impl Abort, row: R, got: &T, want: &T) {
+    assert_eq!(rt; got, want, "{row}");
 }

@@ -1,117 +1,161 @@
 //! What no clause says: examples of windows, and each public call on its happy path.
 
-ghost use Rattle.std.specs.Prelude.{◌≡◌, true, IfOk};
+ghost use Rattle.std.specs.Prelude.{◌≡◌, true};
 ghost use Rattle.readings.specs.Readings.{is_used};
 
-use crate::fixtures::{micro, second};
+use crate::fixtures::{micro, same, second};
+use fixed_units::Second;
 use readings::{Flag, Reading, Readings};
-use std::test::Fail;
+use std::alloc::Global;
+use std::process::Abort;
 
 const DAY: i64 = 86_400;
 
-fn used(at: i64, raw: i64) -> Result<Reading, Fail>
-    ensures { IfOk result (λ r. is_used r ≡ true) }
+fn used(rt: &impl Abort, at: i64, raw: i64) -> Reading
+    ensures { is_used result ≡ true }
 {
-    Ok(Reading {
-        at: second(at)?,
-        raw: micro(raw)?,
+    Reading {
+        at: second(rt, at),
+        raw: micro(rt, raw),
         flag: Flag::Usable,
-    })
+    }
 }
 
-fn readings(rt: &HostRuntime, list: &[(i64, Flag)]) -> Result<Readings, Fail> {
-    let mut readings = Readings::new(rt.alloc());
+fn put(rt: &impl Abort, readings: &mut Readings, reading: Reading) {
+    readings.reserve(1).expect(rt, "room for a reading");
+    readings.put(reading);
+}
+
+fn readings(rt: &impl Abort, alloc: Global, list: &[(i64, Flag)]) -> Readings {
+    let mut readings = Readings::new(alloc);
     for (at, flag) in list {
-        let mut reading = used(*at, 0)?;
+        let mut reading = used(rt, *at, 0);
         reading.flag = *flag;
-        readings.reserve(1)?;
-        readings.put(reading);
+        put(rt, &mut readings, reading);
     }
-    Ok(readings)
+    readings
+}
+
+const USED: Flag = Flag::Usable;
+
+const WRONG: Flag = Flag::Erroneous;
+
+/// When the readings were read that the window of the first day holds.
+fn window(rt: &impl Abort, alloc: Global, list: &[(i64, Flag)]) -> Vec<Second> {
+    let readings = readings(rt, alloc, list);
+    let window = readings
+        .to_list(alloc, second(rt, 0), second(rt, DAY), 60)
+        .expect(rt, "memory for a window");
+    let mut instants = Vec::new(alloc);
+    for reading in window.iter() {
+        instants
+            .push(reading.at)
+            .expect(rt, "memory for an instant");
+    }
+    instants
+}
+
+fn expect_window(rt: &impl Abort, alloc: Global, list: &[(i64, Flag)], want: &[i64]) {
+    let instants = window(rt, alloc, list);
+    same(rt, "length", &instants.len(), &want.len());
+    for (instant, at) in instants.iter().zip(want) {
+        same(rt, *at, &instant.get(), at);
+    }
 }
 
 #[test]
-fn windows(rt: HostRuntime) -> Result<(), Fail> {
-    let (from, until) = (second(0)?, second(DAY)?);
-    let used = Flag::Usable;
-    let wrong = Flag::Erroneous;
-    let cases: [(&[(i64, Flag)], &[i64]); 5] = [
-        (
-            &[(-3_600, used), (100, used), (DAY, used)],
-            &[-3_600, 100, DAY],
-        ),
-        (&[(-3_601, used), (100, used), (DAY + 3_601, used)], &[100]),
-        (&[(0, used), (DAY + 3_600, used)], &[0, DAY + 3_600]),
-        (&[(-1, used), (50, wrong), (DAY, used)], &[]),
-        (
-            &[
-                (-9, used),
-                (-1, wrong),
-                (10, wrong),
-                (20, Flag::Affected),
-                (DAY, wrong),
-                (DAY + 9, used),
-            ],
-            &[-9, 20, DAY + 9],
-        ),
-    ];
-    for (list, want) in cases {
-        let readings = readings(&rt, list)?;
-        let window = readings.to_list(rt.alloc(), from, until, 60)?;
-        assert_eq!(rt; window.len(), want.len());
-        for (reading, at) in window.iter().zip(want) {
-            assert_eq!(rt; reading.at.get(), *at);
-        }
-    }
-    Ok(())
-}
-
-#[test]
-fn altered_windows(rt: HostRuntime) -> Result<(), Fail> {
-    let (from, until, next) = (second(0)?, second(DAY)?, second(2 * DAY)?);
-    let good = Flag::Usable;
-    let readings = readings(
+fn windows(rt: HostRuntime) {
+    let alloc = rt.alloc();
+    expect_window(
         &rt,
-        &[
-            (-50, good),
-            (-40, Flag::Erroneous),
-            (100, good),
-            (DAY + 50, good),
-        ],
-    )?;
-    let cases = [
-        (-50, 0, false),
-        (-50, 1, true),
-        (-51, 0, false),
-        (-45, 0, true),
-        (-1, 0, true),
-        (0, 0, true),
-        (100, 0, false),
-        (DAY - 1, 0, true),
-        (DAY, 0, true),
-        (DAY + 51, 0, false),
+        alloc,
+        &[(-3_600, USED), (100, USED), (DAY, USED)],
+        &[-3_600, 100, DAY],
+    );
+    expect_window(
+        &rt,
+        alloc,
+        &[(-3_601, USED), (100, USED), (DAY + 3_601, USED)],
+        &[100],
+    );
+    expect_window(
+        &rt,
+        alloc,
+        &[(0, USED), (DAY + 3_600, USED)],
+        &[0, DAY + 3_600],
+    );
+    expect_window(&rt, alloc, &[(-1, USED), (50, WRONG), (DAY, USED)], &[]);
+    let list = [
+        (-9, USED),
+        (-1, WRONG),
+        (10, WRONG),
+        (20, Flag::Affected),
+        (DAY, WRONG),
+        (DAY + 9, USED),
     ];
-    for (at, raw, want) in cases {
-        let alters = readings.alters_window(used(at, raw)?, from, until, 60);
-        assert_eq!(rt; alters, want, "at {at}");
-    }
-    assert!(rt; !readings.alters_window(used(DAY - 3_601, 0)?, until, next, 60));
-    assert!(rt; readings.alters_window(used(DAY - 3_600, 0)?, until, next, 60));
-    Ok(())
+    expect_window(&rt, alloc, &list, &[-9, 20, DAY + 9]);
+}
+
+const ALTERED: [(i64, i64, bool); 10] = [
+    (-50, 0, false),
+    (-50, 1, true),
+    (-51, 0, false),
+    (-45, 0, true),
+    (-1, 0, true),
+    (0, 0, true),
+    (100, 0, false),
+    (DAY - 1, 0, true),
+    (DAY, 0, true),
+    (DAY + 51, 0, false),
+];
+
+/// Four readings about the first day.
+fn about_a_day(rt: &impl Abort, alloc: Global) -> Readings {
+    readings(
+        rt,
+        alloc,
+        &[(-50, USED), (-40, WRONG), (100, USED), (DAY + 50, USED)],
+    )
 }
 
 #[test]
-fn puts(rt: HostRuntime) -> Result<(), Fail> {
+fn altered_windows(rt: HostRuntime) {
+    let readings = about_a_day(&rt, rt.alloc());
+    let (from, until) = (second(&rt, 0), second(&rt, DAY));
+    for (at, raw, want) in ALTERED {
+        same(
+            &rt,
+            at,
+            &readings.alters_window(used(&rt, at, raw), from, until, 60),
+            &want,
+        );
+    }
+}
+
+#[test]
+fn altered_windows_of_the_next_day(rt: HostRuntime) {
+    let readings = about_a_day(&rt, rt.alloc());
+    let (from, until) = (second(&rt, DAY), second(&rt, 2 * DAY));
+    for (at, want) in [(DAY - 3_601, false), (DAY - 3_600, true)] {
+        same(
+            &rt,
+            at,
+            &readings.alters_window(used(&rt, at, 0), from, until, 60),
+            &want,
+        );
+    }
+}
+
+#[test]
+fn puts(rt: HostRuntime) {
     let mut readings = Readings::new(rt.alloc());
     for (at, raw) in [(7, 1), (3, 2), (5, 3), (5, 4)] {
-        readings.reserve(1)?;
-        readings.put(used(at, raw)?);
+        put(&rt, &mut readings, used(&rt, at, raw));
     }
-    let want = [used(3, 2)?, used(5, 4)?, used(7, 1)?];
-    assert_eq!(rt; readings.as_slice(), want.as_slice());
-    let place = readings.place(second(5)?);
-    assert_eq!(rt; place.before, Some(want[0]));
-    assert_eq!(rt; place.here, Some(want[1]));
-    assert_eq!(rt; place.after, Some(want[2]));
-    Ok(())
+    let want = [used(&rt, 3, 2), used(&rt, 5, 4), used(&rt, 7, 1)];
+    same(&rt, "list", &readings.as_slice(), &want.as_slice());
+    let place = readings.place(second(&rt, 5));
+    same(&rt, "before", &place.before, &Some(want[0]));
+    same(&rt, "here", &place.here, &Some(want[1]));
+    same(&rt, "after", &place.after, &Some(want[2]));
 }

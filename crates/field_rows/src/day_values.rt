@@ -2,7 +2,7 @@
 ghost use Rattle.std.specs.Prelude.{◌≡◌, true, All, IsTrue};
 ghost use Rattle.fixed_units.specs.Quantities.{IsStage};
 ghost use Rattle.readings.specs.Readings.{IsRising};
-ghost use Rattle.daily_values.specs.DayInputs.{AreInputs};
+ghost use Rattle.day_inputs.specs.DayInputs.{AreInputs};
 
 use daily_values::{
     DayInputs, DayParts, DayValue, Figures, ReadingList, Sum, compute, from_scratch,

@@ -11,10 +11,10 @@ use Rattle.fixed_units.specs.declared.readings.Flag.{Flag}
 use Rattle.fixed_units.specs.declared.readings.Flag.TheVariants.{Usable, Erroneous, Affected}
 use Rattle.readings.specs.Readings.{put}
 use Rattle.readings.specs.Window.{window}
-use Rattle.daily_values.specs.DayInputs.{with_window}
-use Rattle.daily_values.specs.declared.day_inputs.DayInputs.{DayInputs}
-use Rattle.daily_values.specs.declared.day_inputs.DayInputs.TheVariants.{Empty, Day}
-use Rattle.daily_values.specs.declared.day_inputs.DayParts.{DayParts}
+use Rattle.day_inputs.specs.DayInputs.{with_window}
+use Rattle.day_inputs.specs.declared.day_inputs.DayInputs.{DayInputs}
+use Rattle.day_inputs.specs.declared.day_inputs.DayInputs.TheVariants.{Empty, Day}
+use Rattle.day_inputs.specs.declared.day_inputs.DayParts.{DayParts}
 use Rattle.office.specs.Calendar.{day_start, day_end}
 use Rattle.office.specs.Changes.{same_number, same_flag, same_reading, same_readings, same_inputs, changes}
 use Rattle.office.specs.Inputs.{Inputs, inputs_after, inputs_of_day, reading_of}

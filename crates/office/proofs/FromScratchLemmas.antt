@@ -15,7 +15,7 @@ use Rattle.fixed_units.specs.declared.readings.Flag.{Flag}
 use Rattle.fixed_units.specs.declared.readings.Reading.{Reading}
 use Rattle.readings.specs.Readings.{IsRising, put, before_instant, after_instant}
 use Rattle.readings.specs.Window.{window}
-use Rattle.daily_values.specs.DayInputs.{with_window}
+use Rattle.day_inputs.specs.DayInputs.{with_window}
 use Rattle.office.specs.Calendar.{day_start, day_end, days_from, calendar}
 use Rattle.office.specs.Changes.{same_inputs}
 use Rattle.office.specs.Inputs.{Inputs, inputs_of_day}

@@ -8,7 +8,7 @@ use Rattle.fixed_units.specs.declared.readings.Reading.{Reading}
 use Rattle.readings.specs.Readings.{IsRising}
 use Rattle.readings.specs.Window.{window}
 use Rattle.readings.proofs.WindowLemmas.{window_keeps, window_rises}
-use Rattle.daily_values.specs.DayInputs.{AreParts}
+use Rattle.day_inputs.specs.DayInputs.{AreParts}
 use Rattle.office.specs.Calendar.{day_start, day_end}
 use Rattle.office.specs.Inputs.{AreReadings}
 

@@ -3,8 +3,8 @@ use Rattle.std.specs.Prelude.{Bool, true, false, ◌&&◌, ◌==◌, not, List, 
 use Rattle.fixed_units.specs.declared.readings.Reading.{Reading}
 use Rattle.fixed_units.specs.declared.readings.Flag.{Flag}
 use Rattle.fixed_units.specs.declared.readings.Flag.TheVariants.{Usable, Erroneous, Affected}
-use Rattle.daily_values.specs.declared.day_inputs.DayInputs.{DayInputs}
-use Rattle.daily_values.specs.declared.day_inputs.DayInputs.TheVariants.{Empty, Day}
+use Rattle.day_inputs.specs.declared.day_inputs.DayInputs.{DayInputs}
+use Rattle.day_inputs.specs.declared.day_inputs.DayInputs.TheVariants.{Empty, Day}
 use Rattle.office.specs.Calendar.{calendar}
 use Rattle.office.specs.Inputs.{Inputs, inputs_after, inputs_of_day}
 use Rattle.records.specs.declared.edits.What.{What}

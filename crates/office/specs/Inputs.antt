@@ -5,8 +5,8 @@ use Rattle.fixed_units.specs.RoundingArray.{stage_array}
 use Rattle.fixed_units.specs.declared.readings.Reading.{Reading}
 use Rattle.fixed_units.specs.declared.readings.Flag.TheVariants.{Usable}
 use Rattle.readings.specs.Readings.{IsRising, put}
-use Rattle.daily_values.specs.DayInputs.{day_inputs}
-use Rattle.daily_values.specs.declared.day_inputs.DayInputs.{DayInputs}
+use Rattle.day_inputs.specs.DayInputs.{day_inputs}
+use Rattle.day_inputs.specs.declared.day_inputs.DayInputs.{DayInputs}
 use Rattle.office.specs.Calendar.{day_start, day_end}
 use Rattle.records.specs.declared.edits.What.{What}
 use Rattle.records.specs.declared.edits.What.TheVariants.{PutReadings}

@@ -1,7 +1,7 @@
 //! The record of the built-in station in memory: its readings, and which days await a computation.
 
 ghost use Rattle.std.specs.Prelude.{◌≡◌, ◌+◌, ◌-◌, ◌^◌, ◌<◌, ℤ, List, [], length, map, slice_get, IfSome, IsSome, IfOk, OnErr};
-ghost use Rattle.daily_values.specs.DayInputs.{AreInputs};
+ghost use Rattle.day_inputs.specs.DayInputs.{AreInputs};
 ghost use Rattle.daily_values.specs.DayValue.{day_value};
 ghost use Rattle.office.specs.Inputs as inputs;
 ghost use Rattle.records.specs.Edits.{IsWhat};

@@ -17,9 +17,10 @@ use Rattle.readings.specs.Readings.{IsRising, put, before_instant, after_instant
 use Rattle.readings.specs.Window.{window}
 use Rattle.day_inputs.specs.DayInputs.{with_window}
 use Rattle.office.specs.Calendar.{day_start, day_end, days_from, calendar}
-use Rattle.office.specs.Changes.{same_inputs}
+use Rattle.day_inputs.specs.Equality.{same_inputs}
+use Rattle.day_inputs.proofs.EqualityLemmas.{Decides-same_inputs}
 use Rattle.office.specs.Inputs.{Inputs, inputs_of_day}
-use Rattle.office.proofs.ChangesLemmas.{Decides-same_inputs, window_told, day_window}
+use Rattle.office.proofs.ChangesLemmas.{window_told, day_window}
 
 -- readings are the same where each of their parts is
 abbrev pub is_same : Reading → Reading → Bool
@@ -45,8 +46,8 @@ readings_decide r s =
 inputs_decided : (before after : Inputs) (day : ℤ) (b : Bool) → Decides b (day_window before day ≡ day_window after day)
     → Decides b (inputs_of_day before day ≡ inputs_of_day after day)
 inputs_decided before after day b h =
-    Decides-like b (ap (with_window 720 stage_array (day_start day) (day_end day)))
-    (window_told 720 stage_array (day_start day) (day_end day) (day_window before day) (day_window after day)) h
+    Decides-like b (ap (with_window 720 stage_array stage_array (day_start day) (day_end day)))
+    (window_told 720 stage_array stage_array (day_start day) (day_end day) (day_window before day) (day_window after day)) h
 
 pub windows_tell : (before after : List Reading) (day from until : ℤ) (xs ys : List Reading) (b : Bool)
     → from ≡ day_start day → until ≡ day_end day

@@ -14,7 +14,7 @@ use Rattle.office.specs.Inputs.{AreReadings}
 
 pub inputs_kept : (readings items : List Reading) (day from until : ℤ) → AreReadings readings → from ≡ day_start day → until ≡ day_end day
     → items ≡ window from until (pos (60 * 720)) readings
-    → AreParts (record { gap = 720; from = from; until = until; window = items; stage_array = stage_array })
+    → AreParts (record { gap = 720; stage_array = stage_array; discharge_array = stage_array; from = from; until = until; window = items })
 inputs_kept readings items day from until h f u w = record {
   gap_low = omega arith;
   gap_high = omega arith;

@@ -40,6 +40,6 @@ pub record AreReadings (readings : List Reading) : Type 0 where
   pub rising : IsRising readings
   pub stages : All (λ r. IsStage r.raw) readings
 
--- the inputs of a day of the built-in station, whose gap tolerance is 720 minutes
+-- the inputs of a day of the built-in station, whose gap tolerance is 720 minutes and whose two rounding arrays are one
 abbrev pub inputs_of_day : Inputs → ℤ → DayInputs
-inputs_of_day inputs day = day_inputs 720 stage_array (day_start day) (day_end day) inputs.readings
+inputs_of_day inputs day = day_inputs 720 stage_array stage_array (day_start day) (day_end day) inputs.readings

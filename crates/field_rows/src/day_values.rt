@@ -1,8 +1,8 @@
 //! Days worked by hand.
-ghost use Rattle.std.specs.Prelude.{◌≡◌, true, All, IsTrue};
+ghost use Rattle.std.specs.Prelude.{◌≡◌, ◌<◌, true, All, IsTrue};
 ghost use Rattle.fixed_units.specs.Quantities.{IsStage};
 ghost use Rattle.readings.specs.Readings.{IsRising};
-ghost use Rattle.daily_values.specs.DayInputs.{AreInputs};
+ghost use Rattle.day_inputs.specs.DayInputs.{AreInputs};
 
 use crate::fixtures::{micro, same};
 use daily_values::{
@@ -10,7 +10,10 @@ use daily_values::{
 };
 use fixed_units::{Flag, Published, Reading, RoundingArray, Second, is_stage};
 use std::alloc::Global;
+use std::marker::Brand;
 use std::process::Abort;
+use std::sync::ledger::{Blank, Ledger};
+use steps::Steps;
 
 // The day of the examples: 2024-01-05 at UTC-5.
 const START: i64 = 1_704_430_800;
@@ -48,6 +51,22 @@ fn are_inputs(inputs: &DayInputs) -> bool
     are_rising(window) && are_stages(window)
 }
 
+fn value_of(inputs: &DayInputs) -> DayValue
+    requires { AreInputs inputs.now }
+{
+    counted::<Brand>(inputs, Blank::new(1))
+}
+
+fn counted<L: Ledger>(inputs: &DayInputs, blank: Blank) -> DayValue
+    requires inputs { AreInputs inputs.now }
+    requires name { blank.name ≡ L.name }
+    requires parts { blank.parts ≡ L.parts }
+    requires some { 0 < blank.parts }
+{
+    let mut steps = Steps::<L>::new(blank);
+    compute(inputs, &mut steps)
+}
+
 fn second(rt: &impl Abort, after_start: i32) -> Second {
     Second::new(START + i64::from(after_start)).expect(rt, "an instant")
 }
@@ -77,13 +96,14 @@ fn figures_of(
 ) -> Figures {
     let inputs = DayInputs::Day(DayParts {
         gap,
+        stage_array,
+        discharge_array: RoundingArray::STAGES,
         from: second(rt, 0),
         until: second(rt, length),
         window: ReadingList::from_vec(readings(rt, alloc, listed)),
-        stage_array,
     });
     assert!(rt; are_inputs(&inputs));
-    let DayValue::Day(figures) = compute(&inputs) else {
+    let DayValue::Day(figures) = value_of(&inputs) else {
         panic!(rt; "a day with a window has figures");
     };
     figures
@@ -195,10 +215,16 @@ fn from_all(rt: &impl Abort, alloc: Global, gap: u32, readings: &[Reading]) -> D
     let until = second(rt, 86_400);
     let length = until.get() - from.get();
     assert!(rt; length == 86_400);
-    from_scratch::day_value(alloc, gap, RoundingArray::STAGES, from, until, readings).expect(
-        rt,
-        "memory for a window",
+    from_scratch::day_value(
+        alloc,
+        gap,
+        RoundingArray::STAGES,
+        RoundingArray::STAGES,
+        from,
+        until,
+        readings,
     )
+    .expect(rt, "memory for a window")
 }
 
 const WHOLE_LIST: [(i32, i64); 6] = [
@@ -245,5 +271,5 @@ fn from_the_whole_list(rt: HostRuntime) {
 
 #[test]
 fn no_window_no_figures(rt: HostRuntime) {
-    same(&rt, "empty", &compute(&DayInputs::Empty), &DayValue::Empty);
+    same(&rt, "empty", &value_of(&DayInputs::Empty), &DayValue::Empty);
 }

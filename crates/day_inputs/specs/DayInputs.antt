@@ -4,20 +4,26 @@ use Rattle.fixed_units.specs.Quantities.{IsStage}
 use Rattle.fixed_units.specs.declared.readings.Reading.{Reading}
 use Rattle.readings.specs.Readings.{IsRising}
 use Rattle.readings.specs.Window.{window}
-use Rattle.daily_values.specs.declared.day_inputs.DayInputs.{DayInputs}
-use Rattle.daily_values.specs.declared.day_inputs.DayInputs.TheVariants.{Empty, Day}
-use Rattle.daily_values.specs.declared.day_inputs.DayParts.{DayParts}
+use Rattle.day_inputs.specs.declared.day_inputs.DayInputs.{DayInputs}
+use Rattle.day_inputs.specs.declared.day_inputs.DayInputs.TheVariants.{Empty, Day}
+use Rattle.day_inputs.specs.declared.day_inputs.DayParts.{DayParts}
 
 -- the inputs of a day [from, until) with this window: none where the window is empty
-abbrev pub with_window : ℕ → List ℕ → ℤ → ℤ → List Reading → DayInputs
-with_window gap stage_array from until [] = Empty
-with_window gap stage_array from until (r ∷ rs) =
-    Day (record { gap = gap; from = from; until = until; window = r ∷ rs; stage_array = stage_array })
+abbrev pub with_window : ℕ → List ℕ → List ℕ → ℤ → ℤ → List Reading → DayInputs
+with_window gap stage_array discharge_array from until [] = Empty
+with_window gap stage_array discharge_array from until (r ∷ rs) = Day (record {
+  gap = gap;
+  stage_array = stage_array;
+  discharge_array = discharge_array;
+  from = from;
+  until = until;
+  window = r ∷ rs;
+})
 
--- the inputs of the day [from, until) of a station with this gap tolerance, in minutes, and these readings
-abbrev pub day_inputs : ℕ → List ℕ → ℤ → ℤ → List Reading → DayInputs
-day_inputs gap stage_array from until readings =
-    with_window gap stage_array from until (window from until (pos (60 * gap)) readings)
+-- the inputs of the day [from, until) of a station with this gap tolerance, in minutes, these rounding arrays and these readings
+abbrev pub day_inputs : ℕ → List ℕ → List ℕ → ℤ → ℤ → List Reading → DayInputs
+day_inputs gap stage_array discharge_array from until readings =
+    with_window gap stage_array discharge_array from until (window from until (pos (60 * gap)) readings)
 
 -- a day has 20 to 28 hours, in seconds
 abbrev pub shortest_day : ℕ

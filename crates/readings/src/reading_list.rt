@@ -1,8 +1,8 @@
-//! All that the value of a day depends on.
+//! A list of readings that is handed on whole, as the window of a day.
 
 ghost use Rattle.std.specs.Prelude.{◌≡◌, List};
 
-use fixed_units::{Reading, RoundingArray, Second};
+use fixed_units::Reading;
 use std::marker::Model;
 
 /// A list of readings. Contracts see the list.
@@ -41,28 +41,4 @@ impl ReadingList {
     {
         self.readings.as_slice()
     }
-}
-
-/// The inputs of a day that has a window.
-#[derive(Debug, Drop)]
-pub struct DayParts {
-    /// The gap tolerance in minutes, 1 to 720: the greatest distance over which a line is drawn.
-    pub gap: u32,
-    /// The first instant of the day.
-    pub from: Second,
-    /// The first instant of the next day, 20 to 28 hours later.
-    pub until: Second,
-    /// The readings of the day and its neighbours, rising by instant: stages of at most 100,000 feet either way.
-    pub window: ReadingList,
-    /// The rounding array for stages.
-    pub stage_array: RoundingArray,
-}
-
-/// The inputs of a day.
-#[derive(Debug, Drop)]
-pub enum DayInputs {
-    /// The day has no reading that is used.
-    Empty,
-    /// The day has a window.
-    Day(DayParts),
 }

@@ -2,6 +2,8 @@
 #![tactic(auto)]
 
 pub mod lists;
+pub mod reading_list;
 
 pub use fixed_units::{Flag, Reading};
 pub use lists::{Place, Readings, Window};
+pub use reading_list::ReadingList;

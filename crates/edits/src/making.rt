@@ -7,7 +7,7 @@ ghost use Rattle.edits.specs.Lawful.{IsLawful, AreSettings, ArePutReadings, IsGa
 
 use crate::content::{Edit, What};
 use crate::faults::EditFault;
-use crate::names::{Name, is_name};
+use crate::names::is_name;
 use crate::senders::{By, Ref};
 use civil_days::{StationZone, ZoneFault};
 use fixed_units::{Flag, NoMemory, Reading, RoundingArray, Site, is_stage, is_stamp};
@@ -57,7 +57,12 @@ fn is_lawful(alloc: Global, what: &What) -> Result<bool, NoMemory>
             stage_array,
             discharge_array,
         } => {
-            if !are_settings(name, *gap, stage_array, discharge_array) {
+            if !are_settings(
+                name.as_slice(),
+                *gap,
+                &stage_array.digits(),
+                &discharge_array.digits(),
+            ) {
                 return Ok(false);
             }
             is_zone(alloc, zone.as_slice())
@@ -67,24 +72,24 @@ fn is_lawful(alloc: Global, what: &What) -> Result<bool, NoMemory>
             gap,
             stage_array,
             discharge_array,
-        } => Ok(are_settings(name, *gap, stage_array, discharge_array)),
+        } => Ok(are_settings(
+            name.as_slice(),
+            *gap,
+            &stage_array.digits(),
+            &discharge_array.digits(),
+        )),
         What::PutReadings { readings } => Ok(are_put_readings(readings.as_slice())),
     }
 }
 
-/// Whether these can be set of a station: the other parts are in their ranges by their types.
-fn are_settings(
-    name: &Name,
-    gap: u32,
-    stage_array: &RoundingArray,
-    discharge_array: &RoundingArray,
-) -> bool
+/// Whether these can be set of a station: a name, a gap tolerance in minutes, and two rounding arrays in digits.
+pub fn are_settings(name: &[u8], gap: u32, stage_array: &[u8], discharge_array: &[u8]) -> bool
     ensures { result ≡ true ↔ AreSettings name.now gap stage_array.now discharge_array.now }
 {
-    let _name = name.as_slice();
-    let _stages = stage_array.digits();
-    let _discharges = discharge_array.digits();
-    is_gap(gap)
+    is_name(name)
+        && is_gap(gap)
+        && RoundingArray::read(stage_array).is_some()
+        && RoundingArray::read(discharge_array).is_some()
 }
 
 /// Whether the number is a gap tolerance: 1 to 720 minutes.

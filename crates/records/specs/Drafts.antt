@@ -1,11 +1,10 @@
 -- The parts of a payload that is a record's.
-use Rattle.std.specs.Prelude.{◌≡◌, ℕ, List}
+use Rattle.std.specs.Prelude.{◌≡◌}
 use Rattle.edits.specs.Lawful.{IsLawful}
 use Rattle.edits.specs.Texts.{AreInitials, IsReference}
 use Rattle.edits.specs.declared.content.What.{What}
 use Rattle.edits.specs.declared.content.What.TheVariants.{AddStation, SetStation}
 use Rattle.fixed_units.specs.Quantities.{IsSite}
-use Rattle.records.specs.Payloads.{payload}
 use Rattle.records.specs.Reading.{Parts, put_one}
 use Rattle.records.specs.declared.drafts.Draft.{Draft}
 use Rattle.records.specs.declared.drafts.Fields.{Fields}
@@ -17,7 +16,7 @@ abbrev pub what_of : Fields → What
 what_of (Addition name zone gap stage_array discharge_array) =
     AddStation name.now zone.now gap stage_array.now discharge_array.now
 what_of (Setting name gap stage_array discharge_array) = SetStation name.now gap stage_array.now discharge_array.now
-what_of (Put at raw) = put_one (at, raw)
+what_of (Put draft) = put_one (draft.at, draft.raw)
 
 -- the parts that a draft lends
 abbrev pub parts : Draft → Parts
@@ -37,8 +36,3 @@ pub record HasParts (piece : Record) (p : Parts) : Type 0 where
   pub reference_is : piece.edit.reference ≡ p.reference
   pub site_is : piece.edit.site ≡ p.site
   pub what_is : piece.edit.what ≡ p.what
-
--- the bytes are the payload of the record that has these parts, and each part keeps to its range
-pub record SpellsRecord (p : Parts) (bytes : List ℕ) : Type 0 where
-  pub lawful : AreLawful p
-  pub spelled : (piece : Record) → HasParts piece p → bytes ≡ payload piece

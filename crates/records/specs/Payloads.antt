@@ -1,5 +1,5 @@
 -- The bytes of a record, one spelling for each. Numbers stand with their lowest byte first.
-use Rattle.std.specs.Prelude.{ℕ, ◌^◌, List, [], ◌∷◌, ◌++◌, length, flat_map, ℤ}
+use Rattle.std.specs.Prelude.{ℕ, List, [], ◌∷◌, ◌++◌, length, flat_map, ℤ}
 use Rattle.std.specs.Int.{w32, w64, to_le_bytes, cast_unsigned}
 use Rattle.edits.specs.Texts.{AreInitials, IsReference}
 use Rattle.edits.specs.declared.content.Edit.{Edit}

@@ -1,6 +1,6 @@
 //! The parts of a payload that was read: their ranges, and the record that they make.
 
-ghost use Rattle.std.specs.Prelude.{◌≡◌, ◌↔◌, true, IfOk, OnErr, ◌∷◌, []};
+ghost use Rattle.std.specs.Prelude.{◌≡◌, ◌↔◌, true, IfOk, IfSome, IfNone, OnErr, ◌∷◌, []};
 ghost use Rattle.edits.specs.Lawful.{IsLawful, ArePutReadings, IsStationZone};
 ghost use Rattle.edits.specs.Texts.{AreInitials, IsName, IsReference};
 ghost use Rattle.edits.specs.declared.content.What.TheVariants.{PutReadings};
@@ -11,7 +11,9 @@ ghost use Rattle.records.specs.Reading.{usable};
 
 use crate::payloads::Record;
 use edits::{By, Edit, Name, Ref, What, are_put_readings, are_settings, is_zone};
-use fixed_units::{Flag, Micro, NoMemory, Reading, RoundingArray, Second, Site, Text, is_stage, is_stamp};
+use fixed_units::{
+    Flag, Micro, NoMemory, Reading, RoundingArray, Second, Site, Text, is_stage, is_stamp,
+};
 use readings::ReadingList;
 use std::alloc::Global;
 
@@ -44,7 +46,14 @@ pub(crate) enum Fields<'a> {
         discharge_array: &'a [u8],
     },
     /// One usable reading that is put.
-    Put { at: i64, raw: i64 },
+    Put(ReadingDraft),
+}
+
+/// The instant and the stage of a reading as they stand in a payload.
+#[derive(Clone, Copy)]
+pub(crate) struct ReadingDraft {
+    pub(crate) at: i64,
+    pub(crate) raw: i64,
 }
 
 /// Whether each part keeps to its range. `NoMemory` comes only where each does.
@@ -91,28 +100,30 @@ fn are_lawful(alloc: Global, fields: &Fields<'_>) -> Result<bool, NoMemory>
             stage_array,
             discharge_array,
         } => Ok(are_settings(name, *gap, stage_array, discharge_array)),
-        Fields::Put { at, raw } => Ok(is_put(*at, *raw)),
+        Fields::Put(reading) => Ok(is_put(reading)),
     }
 }
 
 /// Whether the reading may be put.
-fn is_put(at: i64, raw: i64) -> bool
-    ensures { result ≡ true ↔ ArePutReadings (usable at raw ∷ []) }
+fn is_put(draft: &ReadingDraft) -> bool
+    ensures { result ≡ true ↔ ArePutReadings (usable draft.now.at draft.now.raw ∷ []) }
 {
-    is_stamp(at) && is_stage(raw) && are_put_readings(&[usable_reading(at, raw)])
+    match usable_reading(draft) {
+        Some(reading) => are_put_readings(&[reading]),
+        None => false,
+    }
 }
 
-/// The usable reading of that stage at that instant.
-fn usable_reading(at: i64, raw: i64) -> Reading
-    requires stamp { IsStamp at }
-    requires stage { IsStage raw }
-    ensures { result ≡ usable at raw }
+/// The usable reading of that stage at that instant, or `None` only where it may not be put.
+fn usable_reading(draft: &ReadingDraft) -> Option<Reading>
+    ensures some { IfSome result (λ reading. reading ≡ usable draft.now.at draft.now.raw) }
+    ensures none { IfNone result (¬ (IsStamp draft.now.at × IsStage draft.now.raw)) }
 {
-    Reading {
-        at: Second::new(at).unwrap(),
-        raw: Micro::new(raw).unwrap(),
+    Some(Reading {
+        at: Second::new(draft.at)?,
+        raw: Micro::new(draft.raw)?,
         flag: Flag::Usable,
-    }
+    })
 }
 
 /// The record that the parts make.
@@ -161,17 +172,17 @@ fn what_from(alloc: Global, fields: &Fields<'_>) -> Result<What, NoMemory>
             stage_array: array_from(stage_array),
             discharge_array: array_from(discharge_array),
         }),
-        Fields::Put { at, raw } => put_from(alloc, *at, *raw),
+        Fields::Put(reading) => put_from(alloc, reading),
     }
 }
 
 /// The put of one usable reading.
-fn put_from(alloc: Global, at: i64, raw: i64) -> Result<What, NoMemory>
-    requires { ArePutReadings (usable at raw ∷ []) }
-    ensures { IfOk result (λ what. what ≡ PutReadings (usable at raw ∷ [])) }
+fn put_from(alloc: Global, draft: &ReadingDraft) -> Result<What, NoMemory>
+    requires { ArePutReadings (usable draft.now.at draft.now.raw ∷ []) }
+    ensures { IfOk result (λ what. what ≡ PutReadings (usable draft.now.at draft.now.raw ∷ [])) }
 {
     let mut readings = Vec::new(alloc);
-    readings.push(usable_reading(at, raw))?;
+    readings.push(usable_reading(draft).unwrap())?;
     Ok(What::PutReadings {
         readings: ReadingList::from_vec(readings),
     })

@@ -1,7 +1,7 @@
 //! The bytes of a record in the journal, both ways.
 
 ghost use Rattle.std.specs.Prelude.{◌≡◌, ◌≢◌, IfOk, IfSome, IfNone, Err};
-ghost use Rattle.records.specs.Drafts.{parts, AreLawful, SpellsRecord};
+ghost use Rattle.records.specs.Drafts.{parts, AreLawful};
 ghost use Rattle.records.specs.Payloads.{IsInGrammar, payload, encoded, encoded_and_closed};
 ghost use Rattle.records.specs.declared.payloads.Record.{Record};
 

@@ -5,7 +5,7 @@ ghost use Rattle.std.specs.Int.{w32, w64};
 ghost use Rattle.records.specs.Drafts.{parts, what_of};
 ghost use Rattle.records.specs.Reading.{byte_at, number_at, front_at, short_text_at, signed_number_at, site_number_at, sender_at, arrays_at, addition_at, setting_at, reading_at, put_at, fields_at, parts_at};
 
-use crate::drafts::{Draft, Fields};
+use crate::drafts::{Draft, Fields, ReadingDraft};
 
 /// The parts of a whole payload, with nothing behind the last.
 #[tactic(auto, unfolding(crate::specs::Reading::parts_at))]
@@ -92,7 +92,7 @@ fn put_of(bytes: &[u8]) -> Option<(Fields<'_>, &[u8])>
     ensures { option_map (λ x. (what_of x.0, x.1.now)) result ≡ put_at bytes.now }
 {
     let ((at, raw), rest) = reading_of(bytes)?;
-    Some((Fields::Put { at, raw }, rest))
+    Some((Fields::Put(ReadingDraft { at, raw }), rest))
 }
 
 /// A gap tolerance and two rounding arrays.

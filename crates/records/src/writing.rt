@@ -6,7 +6,7 @@ ghost use Rattle.edits.specs.Lawful.{IsLawful};
 ghost use Rattle.records.specs.Payloads.{short_text, signed_number, site_number, flag_number, reading_bytes, kind, fields, edit_bytes};
 
 use edits::{Edit, What};
-use fixed_units::{Flag, NoMemory, Reading, RoundingArray, Site};
+use fixed_units::{Flag, Micro, NoMemory, Reading, RoundingArray, Second, Site};
 
 /// How many bytes the kind, the site and the lengths of the texts take.
 const FRAME: usize = 12;
@@ -104,7 +104,12 @@ fn put_fields(out: &mut Vec<u8>, what: &What) -> Result<(), NoMemory>
 }
 
 /// Adds a gap tolerance and two rounding arrays.
-fn put_arrays(out: &mut Vec<u8>, gap: u32, stage_array: RoundingArray, discharge_array: RoundingArray) -> Result<(), NoMemory>
+fn put_arrays(
+    out: &mut Vec<u8>,
+    gap: u32,
+    stage_array: RoundingArray,
+    discharge_array: RoundingArray,
+) -> Result<(), NoMemory>
     ensures { OnOk result (out.new.items ≡ out.old.items ++ to_le_bytes w32 gap ++ stage_array ++ discharge_array) }
 {
     out.extend_from_slice(&gap.to_le_bytes())?;
@@ -129,9 +134,25 @@ fn put_readings(out: &mut Vec<u8>, readings: &[Reading]) -> Result<(), NoMemory>
 fn put_reading(out: &mut Vec<u8>, reading: Reading) -> Result<(), NoMemory>
     ensures { OnOk result (out.new.items ≡ out.old.items ++ reading_bytes reading) }
 {
-    out.extend_from_slice(&reading.at.get().to_le_bytes())?;
-    out.extend_from_slice(&reading.raw.get().to_le_bytes())?;
+    put_second(out, reading.at)?;
+    put_micro(out, reading.raw)?;
     out.push(flag_of(reading.flag))?;
+    Ok(())
+}
+
+/// Adds an instant.
+fn put_second(out: &mut Vec<u8>, at: Second) -> Result<(), NoMemory>
+    ensures { OnOk result (out.new.items ≡ out.old.items ++ signed_number at) }
+{
+    out.extend_from_slice(&at.get().to_le_bytes())?;
+    Ok(())
+}
+
+/// Adds a quantity.
+fn put_micro(out: &mut Vec<u8>, amount: Micro) -> Result<(), NoMemory>
+    ensures { OnOk result (out.new.items ≡ out.old.items ++ signed_number amount) }
+{
+    out.extend_from_slice(&amount.get().to_le_bytes())?;
     Ok(())
 }
 

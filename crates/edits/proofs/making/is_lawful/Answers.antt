@@ -1,12 +1,7 @@
-use Rattle.std.proofs.Common.{◌≡◌, ◌↔◌, true, Bool, IfOk, refl}
-use Rattle.std.specs.Prelude.{Result, Ok, Err}
+use Rattle.std.proofs.Common.{refl}
 use Rattle.edits.specs.Lawful.{AreSettings, IsStationZone}
+use Rattle.edits.proofs.TestLemmas.{told_as_well}
 use Rattle.edits.proofs.making.is_lawful.Goals as goal
-
--- a test of one fact tells another that is as good
-told_as_well : {E : Type 0} (P Q : Type 0) (r : Result Bool E) → (P → Q) → (Q → P) → IfOk r (λ told. told ≡ true ↔ P) → IfOk r (λ told. told ≡ true ↔ Q)
-told_as_well P Q (Ok b) to from h = (λ e. to (h.0 e), λ q. h.1 (from q))
-told_as_well P Q (Err e) to from h = h
 
 pub returns-else-not-are_settings-clause-told : goal.returns-else-not-are_settings-clause-told
 returns-else-not-are_settings-clause-told c =

@@ -1,0 +1,180 @@
+-- The laws of the spelling: lengths, bytes, and that no record begins another.
+use Rattle.std.proofs.Common.{◌≡◌, ℕ, ◌^◌, ◌<◌, ◌≤◌, ◌%◌, ◌/◌, List, true, ◌||◌, get_or, [], ◌∷◌, ◌++◌, length, take, drop, Option, Some, refl, sym, ap, subst, ◌∙◌, length-append, arith, w64}
+use Rattle.std.specs.Prelude.{All, ◌==◌, flat_map}
+use Rattle.std.specs.Int.{w32, to_le_bytes, cast_unsigned}
+use Rattle.std.specs.List.{list_all}
+use Rattle.std.specs.Char.{is_ascii_digit}
+use Rattle.std.proofs.lemmas.Bool.Decides.{nat_tests}
+use Rattle.std.proofs.lemmas.List.{take_at, drop_at}
+use Rattle.std.proofs.lemmas.List.Concat.{flat_map-cons}
+use Rattle.std.proofs.lemmas.List.Sums.{AllPass-from_list_all}
+use Rattle.std.proofs.lemmas.List.Elements.{All-nil, All-cons, All-append}
+use Rattle.edits.specs.Lawful.{IsLawful}
+use Rattle.edits.specs.Texts.{is_letter, is_digit, is_printed, AreInitials, IsReference, IsName}
+use Rattle.edits.specs.declared.content.What.{What}
+use Rattle.edits.specs.declared.content.What.TheVariants.{AddStation, SetStation, PutReadings}
+use Rattle.fixed_units.specs.Quantities.{SiteNumber, IsSite}
+use Rattle.fixed_units.specs.RoundingArray.{IsRoundingArray}
+use Rattle.fixed_units.specs.declared.readings.Flag.{Flag}
+use Rattle.fixed_units.specs.declared.readings.Flag.TheVariants.{Usable, Erroneous, Affected}
+use Rattle.fixed_units.specs.declared.readings.Reading.{Reading}
+use Rattle.records.specs.Payloads.{short_text, signed_number, site_number, flag_number, reading_bytes, kind, fields, payload, encoded, IsInGrammar}
+use Rattle.records.specs.Reading.{number_at}
+use Rattle.records.specs.declared.payloads.Record.{Record}
+use Rattle.records.proofs.Fields.{some_is, wide32, number_again}
+use Rattle.records.proofs.PutLemmas.{length-readings}
+use Rattle.records.proofs.Records.{one_record}
+
+-- ---- lengths
+
+few_fields : (what : What) → IsLawful what → length (fields what) ≤ 146
+few_fields (AddStation name zone gap stages discharges) law =
+    let set = law.0 in
+    let a = length-append (short_text name) (short_text zone) in
+    let b = length-append (short_text name ++ short_text zone) (to_le_bytes w32 gap) in
+    let c = length-append (short_text name ++ short_text zone ++ to_le_bytes w32 gap) stages in
+    let d = length-append (short_text name ++ short_text zone ++ to_le_bytes w32 gap ++ stages) discharges in
+    omega (arith, a, b, c, d, set.named.longest, law.1.printed.longest, set.stages.ten, set.discharges.ten)
+few_fields (SetStation name gap stages discharges) set =
+    let a = length-append (short_text name) (to_le_bytes w32 gap) in
+    let b = length-append (short_text name ++ to_le_bytes w32 gap) stages in
+    let c = length-append (short_text name ++ to_le_bytes w32 gap ++ stages) discharges in
+    omega (arith, a, b, c, set.named.longest, set.stages.ten, set.discharges.ten)
+few_fields (PutReadings readings) are =
+    let a = length-append (to_le_bytes w32 (length readings)) (flat_map reading_bytes readings) in
+    omega (arith, a, length-readings readings, are.most)
+
+pub few_bytes : (piece : Record) → IsInGrammar piece.edit → length (payload piece) ≤ 206
+few_bytes piece g =
+    let e = piece.edit in
+    let a = length-append (short_text e.by) (short_text e.reference) in
+    let b = length-append (short_text e.by ++ short_text e.reference) (site_number e.site) in
+    let c = length-append (short_text e.by ++ short_text e.reference ++ site_number e.site) (fields e.what) in
+    omega (arith, a, b, c, few_fields e.what e.lawful, g.initials.longest, g.code.longest)
+
+-- ---- bytes
+
+abbrev is_byte : ℕ → Type 0
+is_byte b = b < 256
+
+four : (a b c d : ℕ) → a < 256 → b < 256 → c < 256 → d < 256 → All is_byte (a ∷ b ∷ c ∷ d ∷ [])
+four a b c d i j k l =
+    All-cons is_byte a (b ∷ c ∷ d ∷ []) i (All-cons is_byte b (c ∷ d ∷ []) j (All-cons is_byte c (d ∷ []) k (All-cons is_byte d [] l (All-nil is_byte))))
+
+low_byte : (n : ℕ) → n % 256 < 256
+low_byte n = omega arith
+
+bytes_32 : (n : ℕ) → All is_byte (to_le_bytes w32 n)
+bytes_32 n = four _ _ _ _ (low_byte n) (low_byte (n / 2 ^ 8)) (low_byte (n / 2 ^ 16)) (low_byte (n / 2 ^ 24))
+
+bytes_64 : (n : ℕ) → All is_byte (to_le_bytes w64 n)
+bytes_64 n =
+    All-append is_byte (n % 256 ∷ n / 2 ^ 8 % 256 ∷ n / 2 ^ 16 % 256 ∷ n / 2 ^ 24 % 256 ∷ []) (n / 2 ^ 32 % 256 ∷ n / 2 ^ 40 % 256 ∷ n / 2 ^ 48 % 256 ∷ n / 2 ^ 56 % 256 ∷ [])
+    (four _ _ _ _ (low_byte n) (low_byte (n / 2 ^ 8)) (low_byte (n / 2 ^ 16)) (low_byte (n / 2 ^ 24)))
+    (four _ _ _ _ (low_byte (n / 2 ^ 32)) (low_byte (n / 2 ^ 40)) (low_byte (n / 2 ^ 48)) (low_byte (n / 2 ^ 56)))
+
+letter_byte : (code : ℕ) → is_letter code ≡ true → code < 256
+letter_byte code e = grind (arith, nat_tests)
+
+code_byte : (code : ℕ) → (is_letter code || (is_digit code || (code == 45))) ≡ true → code < 256
+code_byte code e = grind (arith, nat_tests)
+
+printed_byte : (code : ℕ) → is_printed code ≡ true → code < 256
+printed_byte code e = grind (arith, nat_tests)
+
+by_bytes : (text : List ℕ) → AreInitials text → All is_byte (short_text text)
+by_bytes text is = All-cons is_byte (length text) text (omega (arith, is.longest)) (λ k d lt. letter_byte (get_or text k d) (is.letters k d lt))
+
+reference_bytes : (text : List ℕ) → IsReference text → All is_byte (short_text text)
+reference_bytes text is = All-cons is_byte (length text) text (omega (arith, is.longest)) (λ k d lt. code_byte (get_or text k d) (is.codes k d lt))
+
+name_bytes : (text : List ℕ) → IsName text → All is_byte (short_text text)
+name_bytes text is = All-cons is_byte (length text) text (omega (arith, is.longest)) (λ k d lt. printed_byte (get_or text k d) (is.codes k d lt))
+
+site_bytes : (site : SiteNumber) → IsSite site → All is_byte (site_number site)
+site_bytes site is = All-cons is_byte site.digits (to_le_bytes w64 site.value) (omega (arith, is.longest)) (bytes_64 site.value)
+
+digit_byte : (code : ℕ) → is_ascii_digit code ≡ true → code < 256
+digit_byte code e = grind (arith, nat_tests)
+
+digits_are_bytes : (digits : List ℕ) → list_all is_ascii_digit digits ≡ true → All is_byte digits
+digits_are_bytes digits e = let pass = AllPass-from_list_all is_ascii_digit digits e in λ k d lt. digit_byte (get_or digits k d) (pass k d lt)
+
+array_bytes : (digits : List ℕ) → IsRoundingArray digits → All is_byte digits
+array_bytes digits is = digits_are_bytes digits is.digits
+
+flag_byte : (flag : Flag) → flag_number flag < 256
+flag_byte Usable = omega arith
+flag_byte Erroneous = omega arith
+flag_byte Affected = omega arith
+
+one_bytes : (r : Reading) → All is_byte (reading_bytes r)
+one_bytes r =
+    All-append is_byte (signed_number r.at ++ signed_number r.raw) (flag_number r.flag ∷ [])
+    (All-append is_byte (signed_number r.at) (signed_number r.raw) (bytes_64 (cast_unsigned w64 r.at)) (bytes_64 (cast_unsigned w64 r.raw)))
+    (All-cons is_byte (flag_number r.flag) [] (flag_byte r.flag) (All-nil is_byte))
+
+readings_are_bytes : (readings : List Reading) → All is_byte (flat_map reading_bytes readings)
+readings_are_bytes [] = All-nil is_byte
+readings_are_bytes (r ∷ rest) =
+    subst (λ (t : List ℕ). All is_byte t) (sym (flat_map-cons reading_bytes r rest))
+    (All-append is_byte (reading_bytes r) (flat_map reading_bytes rest) (one_bytes r) (readings_are_bytes rest))
+
+fields_are_bytes : (what : What) → IsLawful what → All is_byte (fields what)
+fields_are_bytes (AddStation name zone gap stages discharges) law =
+    let set = law.0 in
+    let a = All-append is_byte (short_text name) (short_text zone) (name_bytes name set.named) (name_bytes zone law.1.printed) in
+    let b = All-append is_byte (short_text name ++ short_text zone) (to_le_bytes w32 gap) a (bytes_32 gap) in
+    let c = All-append is_byte (short_text name ++ short_text zone ++ to_le_bytes w32 gap) stages b (array_bytes stages set.stages) in
+    All-append is_byte (short_text name ++ short_text zone ++ to_le_bytes w32 gap ++ stages) discharges c (array_bytes discharges set.discharges)
+fields_are_bytes (SetStation name gap stages discharges) set =
+    let a = All-append is_byte (short_text name) (to_le_bytes w32 gap) (name_bytes name set.named) (bytes_32 gap) in
+    let b = All-append is_byte (short_text name ++ to_le_bytes w32 gap) stages a (array_bytes stages set.stages) in
+    All-append is_byte (short_text name ++ to_le_bytes w32 gap ++ stages) discharges b (array_bytes discharges set.discharges)
+fields_are_bytes (PutReadings readings) are =
+    All-append is_byte (to_le_bytes w32 (length readings)) (flat_map reading_bytes readings) (bytes_32 (length readings)) (readings_are_bytes readings)
+
+kind_byte : (what : What) → kind what < 256
+kind_byte (AddStation name zone gap stages discharges) = omega arith
+kind_byte (SetStation name gap stages discharges) = omega arith
+kind_byte (PutReadings readings) = omega arith
+
+payload_bytes : (piece : Record) → IsInGrammar piece.edit → All is_byte (payload piece)
+payload_bytes piece g =
+    let e = piece.edit in
+    let first = All-cons is_byte (kind e.what) (short_text e.by) (kind_byte e.what) (by_bytes e.by g.initials) in
+    let a = All-append is_byte (kind e.what ∷ short_text e.by) (short_text e.reference) first (reference_bytes e.reference g.code) in
+    let b = All-append is_byte (kind e.what ∷ short_text e.by ++ short_text e.reference) (site_number e.site) a (site_bytes e.site g.station) in
+    All-append is_byte (kind e.what ∷ short_text e.by ++ short_text e.reference ++ site_number e.site) (fields e.what) b (fields_are_bytes e.what e.lawful)
+
+pub encoded_bytes : (piece : Record) → IsInGrammar piece.edit → All is_byte (encoded piece)
+encoded_bytes piece g =
+    All-append is_byte (to_le_bytes w32 (length (payload piece))) (payload piece) (bytes_32 (length (payload piece))) (payload_bytes piece g)
+
+-- ---- none begins another
+
+abbrev read_pair : ℕ → List ℕ → Option (ℕ × List ℕ)
+read_pair n rest = Some (n, rest)
+
+pair_of : (m n : ℕ) (p q : List ℕ) → read_pair m p ≡ read_pair n q → (m ≡ n) × (p ≡ q)
+pair_of m n p q e =
+    let same = some_is (m, p) (n, q) e in
+    (ap (λ (u : ℕ × List ℕ). u.0) same, ap (λ (u : ℕ × List ℕ). u.1) same)
+
+prefix_free : (p q x y : List ℕ) → length p < 2 ^ 32 → length q < 2 ^ 32 → to_le_bytes w32 (length p) ++ (p ++ x) ≡ to_le_bytes w32 (length q) ++ (q ++ y) → (p ≡ q) × (x ≡ y)
+prefix_free p q x y short-p short-q e =
+    let read-p = number_again w32 (2 ^ 32) wide32 (length p) (p ++ x) short-p in
+    let read-q = number_again w32 (2 ^ 32) wide32 (length q) (q ++ y) short-q in
+    let same = pair_of (length p) (length q) (p ++ x) (q ++ y) (sym read-p ∙ ap (number_at w32) e ∙ read-q) in
+    let fronts : take (length p) (p ++ x) ≡ take (length p) (q ++ y) = ap (take (length p)) same.1 in
+    let rests : drop (length p) (p ++ x) ≡ drop (length p) (q ++ y) = ap (drop (length p)) same.1 in (
+      sym (take_at p x (length p) refl) ∙ fronts ∙ take_at q y (length p) (sym same.0),
+      sym (drop_at p x (length p) refl) ∙ rests ∙ drop_at q y (length p) (sym same.0),
+    )
+
+pub no_prefix : (a b : Record) (x y : List ℕ) → IsInGrammar a.edit → IsInGrammar b.edit → encoded a ++ x ≡ encoded b ++ y → (a ≡ b) × (x ≡ y)
+no_prefix a b x y g h e =
+    let fits-a : length (payload a) < 2 ^ 32 = omega (arith, few_bytes a g) in
+    let fits-b : length (payload b) < 2 ^ 32 = omega (arith, few_bytes b h) in
+    let same = prefix_free (payload a) (payload b) x y fits-a fits-b e in
+    (one_record a b g h same.0, same.1)

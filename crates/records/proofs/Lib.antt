@@ -1,0 +1,5 @@
+pub mod Fields
+pub mod KindLemmas
+pub mod LawLemmas
+pub mod PutLemmas
+pub mod Records

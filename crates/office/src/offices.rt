@@ -15,9 +15,9 @@ use crate::limits::Limits;
 use crate::opening::read_all;
 use crate::station_state::{Answer, StationState};
 use devices::Disk;
+use first_records::What;
 use fixed_units::{Day, NoMemory, Text};
 use journal::{AppendFault, Journal, OpenRefused};
-use first_records::What;
 use std::alloc::Global;
 use thiserror::Error;
 
@@ -165,7 +165,11 @@ impl<D: Disk> Office<D> {
         requires room { self.now.station.edits < 2 ^ 64 - 1 }
         ensures { IfOk result (IsEncoded (self.now.station.edits + 1) what) }
     {
-        let piece = first_records::first_path::record_of(self.alloc, self.station.edits() + 1, what)?;
+        let piece = first_records::first_path::record_of(
+            self.alloc,
+            self.station.edits() + 1,
+            what,
+        )?;
         let mut bytes = first_records::encode(self.alloc, &piece)?;
         bytes.push(0)?;
         Ok(bytes)

@@ -14,9 +14,9 @@ ghost use Rattle.office.specs.Replay.{HasReadEdits, HasAllEdits, ReadsEdits, IsR
 
 use crate::station_state::StationState;
 use devices::Disk;
+use first_records::Record;
 use fixed_units::NoMemory;
 use journal::{OpenFault, Opening};
-use first_records::Record;
 use std::alloc::Global;
 
 /// Reads the records up to the closed gate, and accepts the edit of each.

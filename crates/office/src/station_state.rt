@@ -18,9 +18,9 @@ use crate::cells::Cells;
 use crate::marks::{Mark, Marks, make_room, mark_days};
 use crate::station::{GAP, STAGE_ARRAY, bounds, day_after, day_before, day_of};
 use daily_values::{DayInputs, DayParts, DayValue, ReadingList, compute};
+use first_records::What;
 use fixed_units::{Day, Flag, NoMemory, Reading};
 use readings::Readings;
-use first_records::What;
 use std::alloc::Global;
 use std::marker::Model;
 

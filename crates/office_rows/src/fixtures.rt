@@ -2,8 +2,8 @@
 ghost use Rattle.fixed_units.specs.Quantities.{IsStage, IsStamp};
 ghost use Rattle.first_records.specs.Edits.{IsWhat};
 
-use fixed_units::{Micro, Second};
 use first_records::What;
+use fixed_units::{Micro, Second};
 use std::process::Abort;
 
 /// A reading of so many millionths of a foot.

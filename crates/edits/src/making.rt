@@ -2,7 +2,7 @@
 
 ghost use Rattle.std.specs.Prelude.{◌≡◌, ◌↔◌, true, IfOk, IfErr, OnErr, ◌≤◌, length, IsTrue};
 ghost use Rattle.civil_days.specs.Starts.{IsZone};
-ghost use Rattle.edits.specs.Faults.{IsEditFault};
+ghost use Rattle.edits.specs.Faults.{AddsStation, IsEditFault};
 ghost use Rattle.edits.specs.Lawful.{IsLawful, AreSettings, ArePutReadings, IsGap, IsPutReading, IsStationZone};
 
 use crate::content::{Edit, What};
@@ -44,10 +44,10 @@ impl Edit {
     }
 }
 
-/// Whether what an edit changes is lawful. `NoMemory` comes only where it is.
+/// Whether what an edit changes is lawful. `NoMemory` comes only where it is, and adds a station.
 fn is_lawful(alloc: Global, what: &What) -> Result<bool, NoMemory>
     ensures told { IfOk result (λ lawful. lawful ≡ true ↔ IsLawful what.now) }
-    ensures memory { OnErr result (IsLawful what.now) }
+    ensures memory { OnErr result (AddsStation what.now × IsLawful what.now) }
 {
     match what {
         What::AddStation {

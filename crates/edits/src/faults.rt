@@ -9,7 +9,7 @@ pub enum EditFault {
     /// A part of it is out of its range, or its zone is none.
     #[error("a part of the edit is out of its range, or its zone is none")]
     NotLawful,
-    /// There was no memory to test it.
-    #[error("there was no memory to test the edit")]
+    /// There was no memory to read its zone.
+    #[error("there was no memory to read the zone of the edit")]
     NoMemory,
 }

@@ -15,7 +15,7 @@ use Rattle.day_inputs.proofs.EqualityLemmas.{Decides-same_inputs}
 use Rattle.office.specs.Calendar.{day_start, day_end}
 use Rattle.office.specs.Changes.{same_number, changes}
 use Rattle.office.specs.Inputs.{Inputs, inputs_after, inputs_of_day, reading_of}
-use Rattle.records.specs.declared.edits.What.{What}
+use Rattle.first_records.specs.declared.edits.What.{What}
 
 -- two numbers are one
 same_number-refl : (a : ℤ) → same_number a a ≡ true

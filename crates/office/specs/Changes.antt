@@ -3,7 +3,7 @@ use Rattle.std.specs.Prelude.{Bool, ◌&&◌, not, List, filter, ℤ, int_le}
 use Rattle.day_inputs.specs.Equality.{same_inputs}
 use Rattle.office.specs.Calendar.{calendar}
 use Rattle.office.specs.Inputs.{Inputs, inputs_after, inputs_of_day}
-use Rattle.records.specs.declared.edits.What.{What}
+use Rattle.first_records.specs.declared.edits.What.{What}
 
 -- two numbers are one
 abbrev pub same_number : ℤ → ℤ → Bool

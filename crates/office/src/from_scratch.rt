@@ -9,9 +9,9 @@ ghost use Rattle.office.specs.Changes as changes;
 ghost use Rattle.day_inputs.specs.Equality.{same_inputs};
 
 use crate::station::{GAP, bounds};
+use first_records::What;
 use fixed_units::{Day, FIRST_DAY, Flag, LAST_DAY, NoMemory, Reading};
 use readings::Readings;
-use records::What;
 use std::alloc::Global;
 
 /// The days that an edit changes, found by comparing every day of the calendar.

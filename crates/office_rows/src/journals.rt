@@ -1,12 +1,12 @@
 //! What no clause says: that the bytes are the ones meant, by journals written out by hand, and that the calls succeed.
 
 use devices::{DiskFailed, MemoryDisk};
+use first_records::first_path::is_numbered;
 use journal::laws::{
     begun_is_made_anew, damaged_at_one_gate, empty_journal_has_no_records, no_journal_is_damaged,
     nothing_else_has_the_header, one_record_more, stands_for_one_list,
 };
 use journal::{AppendFault, InitFault, Journal, OpenFault, init, open};
-use records::first_path::is_numbered;
 use std::alloc::Global;
 use std::test::Fail;
 

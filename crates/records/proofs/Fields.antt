@@ -8,7 +8,7 @@ use Rattle.std.proofs.lemmas.List.{take_at, drop_at, take-append-drop, length-ap
 use Rattle.std.proofs.lemmas.Nat.{le_bytes_4, le_bytes_8, from_le_bytes-to_le_bytes_4, from_le_bytes-to_le_bytes_8}
 use Rattle.fixed_units.specs.Quantities.{SiteNumber}
 use Rattle.records.specs.Payloads.{short_text, signed_number, site_number}
-use Rattle.records.specs.Reading.{◌>>=◌, byte_at, number_at, short_text_at, signed_number_at, site_number_at}
+use Rattle.records.specs.Reading.{◌>>=◌, both_at, made_at, byte_at, number_at, front_at, short_text_at, signed_number_at, site_number_at}
 
 abbrev pub IsBytes : List ℕ → Type 0
 IsBytes bytes = (i : ℕ) → get_or bytes i 0 < 256
@@ -119,40 +119,105 @@ unfolding signed_number_at
 signed_number_again z rest fits =
     rw (number_again w64 (2 ^ 64) wide64 (cast_unsigned w64 z) rest (cast_fits z fits), to_z-of_z w64 z fits) refl
 
+-- ---- a reader and a writer of one thing
+
+pub record Reads (A : Type 0) (read : List ℕ → Option (A × List ℕ)) (write : A → List ℕ) (Fits : A → Type 0) : Type 0 where
+  pub takes : (bytes : List ℕ) (x : A) (rest : List ℕ) → IsBytes bytes → read bytes ≡ Some (x, rest) → Takes bytes (write x) rest
+  pub again : (x : A) (rest : List ℕ) → Fits x → read (write x ++ rest) ≡ Some (x, rest)
+
+abbrev pub IsAny : {A : Type 0} → A → Type 0
+IsAny x = Unit {0}
+
+pub both_reads : (A B : Type 0) (r : List ℕ → Option (A × List ℕ)) (w : A → List ℕ) (F : A → Type 0) (s : List ℕ → Option (B × List ℕ)) (v : B → List ℕ) (G : B → Type 0) → Reads A r w F → Reads B s v G → Reads (A × B) (both_at r s) (λ p. w p.0 ++ v p.1) (λ p. F p.0 × G p.1)
+both_reads A B r w F s v G first second =
+    record {
+      takes = λ bytes x rest fits e.
+          let a = bind_some (r bytes) (λ a. s a.1 >>= λ b. Some ((a.0, b.0), b.1)) (x, rest) e in
+          let b = bind_some (s a.0.1) (λ b. Some ((a.0.0, b.0), b.1)) (x, rest) a.2 in
+          let t0 = first.takes bytes a.0.0 a.0.1 fits a.1 in
+          let t1 = second.takes a.0.1 b.0.0 b.0.1 t0.rest_fits b.1 in
+          let made : (A × B) × List ℕ = ((a.0.0, b.0.0), b.0.1) in
+          subst (λ (p : (A × B) × List ℕ). Takes bytes (w p.0.0 ++ v p.0.1) p.1) (some_is made (x, rest) b.2)
+          (Takes-then bytes (w a.0.0) a.0.1 (v b.0.0) b.0.1 t0 t1);
+      again = λ x rest fits. rw (append_assoc (w x.0) (v x.1) rest, first.again x.0 (v x.1 ++ rest) fits.0, second.again x.1 rest fits.1) refl;
+    }
+
+-- what is made of a value that was read
+pub made_takes : (A B : Type 0) (f : A → B) (r : List ℕ → Option (A × List ℕ)) (w : A → List ℕ) (F : A → Type 0) → Reads A r w F → (bytes : List ℕ) (y : B) (rest : List ℕ) → IsBytes bytes → made_at f r bytes ≡ Some (y, rest) → (x : A) × (f x ≡ y) × Takes bytes (w x) rest
+made_takes A B f r w F reads bytes y rest fits e =
+    let a = bind_some (r bytes) (λ a. Some (f a.0, a.1)) (y, rest) e in
+    let made : B × List ℕ = (f a.0.0, a.0.1) in
+    let same = some_is made (y, rest) a.2 in
+    (a.0.0, ap (λ (p : B × List ℕ). p.0) same, subst (λ (t : List ℕ). Takes bytes (w a.0.0) t) (ap (λ (p : B × List ℕ). p.1) same) (reads.takes bytes a.0.0 a.0.1 fits a.1))
+
+pub made_again : (A B : Type 0) (f : A → B) (r : List ℕ → Option (A × List ℕ)) (w : A → List ℕ) (F : A → Type 0) → Reads A r w F → (x : A) (rest : List ℕ) → F x → made_at f r (w x ++ rest) ≡ Some (f x, rest)
+made_again A B f r w F reads x rest fits = rw (reads.again x rest fits) refl
+
+pub byte_reads : Reads ℕ byte_at (λ b. b ∷ []) IsAny
+byte_reads = record { takes = byte_takes; again = λ b rest fits. byte_again b rest }
+
+pub number_reads : (w : Width) (limit : ℕ) → IsWide w limit → Reads ℕ (number_at w) (to_le_bytes w) (λ n. n < limit)
+number_reads w limit wide =
+    record { takes = λ bytes n rest fits e. (number_takes w limit wide bytes n rest fits e).0; again = λ n rest lt. number_again w limit wide n rest lt }
+
+pub signed_reads : Reads ℤ signed_number_at signed_number (FitsSigned w64)
+signed_reads = record { takes = signed_number_takes; again = signed_number_again }
+
 -- ---- texts and site numbers
 
-pub short_text_takes : (bytes text rest : List ℕ) → IsBytes bytes → short_text_at bytes ≡ Some (text, rest) → Takes bytes (short_text text) rest
+front_takes : (count : ℕ) (bytes text rest : List ℕ) → IsBytes bytes → front_at count bytes ≡ Some (text, rest) → Takes bytes text rest × (length text ≡ count)
+front_takes count bytes text rest fits e =
+    let g = guard_false (ltb (length bytes) count) (take count bytes, drop count bytes) (text, rest) e in
+    let long : count ≤ length bytes = ltb-false _ _ g.0 in
+    let text-is : take count bytes ≡ text = ap (λ (p : List ℕ × List ℕ). p.0) g.1 in
+    let rest-is : drop count bytes ≡ rest = ap (λ (p : List ℕ × List ℕ). p.1) g.1 in
+    let len : length (take count bytes) ≡ count = omega (arith, length-take count bytes) in
+    (record { parts = rw (← text-is, ← rest-is) (sym (take-append-drop count bytes)); rest_fits = rw (← rest-is) (IsBytes-drop count bytes fits) }, rw (← text-is) len)
+
+front_again : (count : ℕ) (text rest : List ℕ) → length text ≡ count → front_at count (text ++ rest) ≡ Some (text, rest)
+front_again count text rest len =
+    let long : ltb (length (text ++ rest)) count ≡ false = le-ltb _ _ (omega (arith, length-append text rest)) in
+    rw (long, take_at text rest count len, drop_at text rest count len) refl
+
+pub front_reads : (count : ℕ) → Reads (List ℕ) (front_at count) (λ text. text) (λ text. length text ≡ count)
+front_reads count =
+    record { takes = λ bytes text rest fits e. (front_takes count bytes text rest fits e).0; again = λ text rest len. front_again count text rest len }
+
+short_text_takes : (bytes text rest : List ℕ) → IsBytes bytes → short_text_at bytes ≡ Some (text, rest) → Takes bytes (short_text text) rest
 unfolding short_text_at
 short_text_takes bytes text rest fits e =
-    let b = bind_some (byte_at bytes) (λ n. cond (ltb (length n.1) n.0) None (Some (take n.0 n.1, drop n.0 n.1))) (text, rest) e in
-    let n = b.0 in
-    let t = byte_takes bytes n.0 n.1 fits b.1 in
-    let g = guard_false (ltb (length n.1) n.0) (take n.0 n.1, drop n.0 n.1) (text, rest) b.2 in
-    let long : n.0 ≤ length n.1 = ltb-false _ _ g.0 in
-    let len : length (take n.0 n.1) ≡ n.0 = omega (arith, length-take n.0 n.1) in
-    let second : Takes n.1 (take n.0 n.1) (drop n.0 n.1) = record { parts = sym (take-append-drop n.0 n.1); rest_fits = IsBytes-drop n.0 n.1 t.rest_fits } in
-    let both : Takes bytes (n.0 ∷ take n.0 n.1) (drop n.0 n.1) = Takes-then bytes (n.0 ∷ []) n.1 (take n.0 n.1) (drop n.0 n.1) t second in
-    let whole : Takes bytes (short_text (take n.0 n.1)) (drop n.0 n.1) = subst (λ (k : ℕ). Takes bytes (k ∷ take n.0 n.1) (drop n.0 n.1)) (sym len) both in
-    subst (λ (p : List ℕ × List ℕ). Takes bytes (short_text p.0) p.1) g.1 whole
+    let b = bind_some (byte_at bytes) (λ n. front_at n.0 n.1) (text, rest) e in
+    let t = byte_takes bytes b.0.0 b.0.1 fits b.1 in
+    let u = front_takes b.0.0 b.0.1 text rest t.rest_fits b.2 in
+    let both : Takes bytes (b.0.0 ∷ text) rest = Takes-then bytes (b.0.0 ∷ []) b.0.1 text rest t u.0 in
+    subst (λ (k : ℕ). Takes bytes (k ∷ text) rest) (sym u.1) both
 
-pub short_text_again : (text rest : List ℕ) → short_text_at (short_text text ++ rest) ≡ Some (text, rest)
+short_text_again : (text rest : List ℕ) → short_text_at (short_text text ++ rest) ≡ Some (text, rest)
 unfolding short_text_at
-short_text_again text rest =
-    let long : ltb (length (text ++ rest)) (length text) ≡ false = le-ltb _ _ (omega (arith, length-append text rest)) in
-    rw (byte_again (length text) (text ++ rest), long, take_at text rest (length text) refl, drop_at text rest (length text) refl) refl
+short_text_again text rest = rw (byte_again (length text) (text ++ rest)) (front_again (length text) text rest refl)
 
-pub site_number_takes : (bytes : List ℕ) (site : SiteNumber) (rest : List ℕ) → IsBytes bytes → site_number_at bytes ≡ Some (site, rest) → Takes bytes (site_number site) rest × (site.value < 2 ^ 64)
+pub short_reads : Reads (List ℕ) short_text_at short_text IsAny
+short_reads = record { takes = short_text_takes; again = λ text rest fits. short_text_again text rest }
+
+abbrev site_of : ℕ × ℕ → SiteNumber
+site_of s = record { digits = s.0; value = s.1 }
+
+abbrev site_parts : List ℕ → Option ((ℕ × ℕ) × List ℕ)
+site_parts bytes = both_at byte_at (number_at w64) bytes
+
+site_parts_read : Reads (ℕ × ℕ) site_parts (λ p. (p.0 ∷ []) ++ to_le_bytes w64 p.1) (λ p. IsAny p.0 × (p.1 < 2 ^ 64))
+site_parts_read = both_reads ℕ ℕ byte_at (λ b. b ∷ []) IsAny (number_at w64) (to_le_bytes w64) (λ n. n < 2 ^ 64) byte_reads (number_reads w64 (2 ^ 64) wide64)
+
+site_number_takes : (bytes : List ℕ) (site : SiteNumber) (rest : List ℕ) → IsBytes bytes → site_number_at bytes ≡ Some (site, rest) → Takes bytes (site_number site) rest
 unfolding site_number_at
 site_number_takes bytes site rest fits e =
-    let a = bind_some (byte_at bytes) (λ d. number_at w64 d.1 >>= λ v. Some (record { digits = d.0; value = v.0 }, v.1)) (site, rest) e in
-    let b = bind_some (number_at w64 a.0.1) (λ v. Some (record { digits = a.0.0; value = v.0 }, v.1)) (site, rest) a.2 in
-    let t0 = byte_takes bytes a.0.0 a.0.1 fits a.1 in
-    let t1 = number_takes w64 (2 ^ 64) wide64 a.0.1 b.0.0 b.0.1 t0.rest_fits b.1 in
-    let both = Takes-then bytes (a.0.0 ∷ []) a.0.1 (to_le_bytes w64 b.0.0) b.0.1 t0 t1.0 in
-    let made : SiteNumber × List ℕ = (record { digits = a.0.0; value = b.0.0 }, b.0.1) in
-    subst (λ (x : SiteNumber × List ℕ). Takes bytes (site_number x.0) x.1 × (x.0.value < 2 ^ 64)) (some_is made (site, rest) b.2) (both, t1.1)
+    let m = made_takes (ℕ × ℕ) SiteNumber site_of site_parts (λ p. (p.0 ∷ []) ++ to_le_bytes w64 p.1) (λ p. IsAny p.0 × (p.1 < 2 ^ 64)) site_parts_read bytes site rest fits e in
+    subst (λ (s : SiteNumber). Takes bytes (site_number s) rest) m.1 m.2
 
-pub site_number_again : (site : SiteNumber) (rest : List ℕ) → site.value < 2 ^ 64 → site_number_at (site_number site ++ rest) ≡ Some (site, rest)
+site_number_again : (site : SiteNumber) (rest : List ℕ) → site.value < 2 ^ 64 → site_number_at (site_number site ++ rest) ≡ Some (site, rest)
 unfolding site_number_at
 site_number_again site rest lt =
-    rw (byte_again site.digits (to_le_bytes w64 site.value ++ rest), number_again w64 (2 ^ 64) wide64 site.value rest lt) refl
+    made_again (ℕ × ℕ) SiteNumber site_of site_parts (λ p. (p.0 ∷ []) ++ to_le_bytes w64 p.1) (λ p. IsAny p.0 × (p.1 < 2 ^ 64)) site_parts_read (site.digits, site.value) rest (tt, lt)
+
+pub site_reads : Reads SiteNumber site_number_at site_number (λ s. s.value < 2 ^ 64)
+site_reads = record { takes = site_number_takes; again = site_number_again }

@@ -1,78 +1,58 @@
--- The laws of the spelling.
-use Rattle.std.proofs.Common.{◌≡◌, ℕ, ◌+◌, ◌^◌, ◌<◌, ◌≤◌, ◌%◌, ◌/◌, List, true, ◌||◌, get_or, [], ◌∷◌, ◌++◌, length, take, drop, Option, Some, refl, sym, ap, subst, ◌∙◌, length-append, arith, w64}
-use Rattle.std.specs.Prelude.{ℤ, All, ◌==◌}
+-- The laws of the spelling: lengths, bytes, and that no record begins another.
+use Rattle.std.proofs.Common.{◌≡◌, ℕ, ◌^◌, ◌<◌, ◌≤◌, ◌%◌, ◌/◌, List, true, ◌||◌, get_or, [], ◌∷◌, ◌++◌, length, take, drop, Option, Some, refl, sym, ap, subst, ◌∙◌, length-append, arith, w64}
+use Rattle.std.specs.Prelude.{All, ◌==◌, flat_map}
 use Rattle.std.specs.Int.{w32, to_le_bytes, cast_unsigned}
-use Rattle.std.proofs.Props.{props}
+use Rattle.std.specs.List.{list_all}
+use Rattle.std.specs.Char.{is_ascii_digit}
 use Rattle.std.proofs.lemmas.Bool.Decides.{nat_tests}
-use Rattle.std.proofs.lemmas.Fmt.{length-decimal-le}
 use Rattle.std.proofs.lemmas.List.{take_at, drop_at}
+use Rattle.std.proofs.lemmas.List.Concat.{flat_map-cons}
+use Rattle.std.proofs.lemmas.List.Sums.{AllPass-from_list_all}
 use Rattle.std.proofs.lemmas.List.Elements.{All-nil, All-cons, All-append}
+use Rattle.edits.specs.Lawful.{IsLawful}
+use Rattle.edits.specs.Texts.{is_letter, is_digit, is_printed, AreInitials, IsReference, IsName}
+use Rattle.edits.specs.declared.content.What.{What}
+use Rattle.edits.specs.declared.content.What.TheVariants.{AddStation, SetStation, PutReadings}
 use Rattle.fixed_units.specs.Quantities.{SiteNumber, IsSite}
-use Rattle.records.specs.Edits.{IsWhat, is_letter, is_digit, AreInitials, IsReference, instant, raw_stage}
-use Rattle.records.specs.FirstPath.{IsBuiltIn}
-use Rattle.records.specs.Payloads.{short_text, signed_number, site_number, payload, encoded, IsInGrammar}
-use Rattle.records.specs.Reading.{Parts, parts_at, number_at}
-use Rattle.records.specs.declared.edits.Edit.{Edit}
-use Rattle.records.specs.declared.edits.Record.{Record}
-use Rattle.records.specs.declared.edits.What.{What}
-use Rattle.records.specs.declared.edits.What.TheVariants.{PutReadings}
+use Rattle.fixed_units.specs.RoundingArray.{IsRoundingArray}
+use Rattle.fixed_units.specs.declared.readings.Flag.{Flag}
+use Rattle.fixed_units.specs.declared.readings.Flag.TheVariants.{Usable, Erroneous, Affected}
+use Rattle.fixed_units.specs.declared.readings.Reading.{Reading}
+use Rattle.records.specs.Payloads.{short_text, signed_number, site_number, flag_number, reading_bytes, kind, fields, payload, encoded, IsInGrammar}
+use Rattle.records.specs.Reading.{number_at}
+use Rattle.records.specs.declared.payloads.Record.{Record}
 use Rattle.records.proofs.Fields.{some_is, wide32, number_again}
-use Rattle.records.proofs.Parts.{parts_bytes, reading_bytes}
-use Rattle.records.proofs.Records.{parts_of, what_is, edit_spelling, read_again, lawful_parts}
+use Rattle.records.proofs.PutLemmas.{length-readings}
+use Rattle.records.proofs.Records.{one_record}
 
--- ---- records of the same parts are the same
+-- ---- lengths
 
-abbrev edit_with : (by reference : List ℕ) (site : SiteNumber) (what : What) → IsWhat what → Edit
-edit_with by reference site what law = record { by = by; reference = reference; site = site; what = what; lawful = law }
+few_fields : (what : What) → IsLawful what → length (fields what) ≤ 146
+few_fields (AddStation name zone gap stages discharges) law =
+    let set = law.0 in
+    let a = length-append (short_text name) (short_text zone) in
+    let b = length-append (short_text name ++ short_text zone) (to_le_bytes w32 gap) in
+    let c = length-append (short_text name ++ short_text zone ++ to_le_bytes w32 gap) stages in
+    let d = length-append (short_text name ++ short_text zone ++ to_le_bytes w32 gap ++ stages) discharges in
+    omega (arith, a, b, c, d, set.named.longest, law.1.printed.longest, set.stages.ten, set.discharges.ten)
+few_fields (SetStation name gap stages discharges) set =
+    let a = length-append (short_text name) (to_le_bytes w32 gap) in
+    let b = length-append (short_text name ++ to_le_bytes w32 gap) stages in
+    let c = length-append (short_text name ++ to_le_bytes w32 gap ++ stages) discharges in
+    omega (arith, a, b, c, set.named.longest, set.stages.ten, set.discharges.ten)
+few_fields (PutReadings readings) are =
+    let a = length-append (to_le_bytes w32 (length readings)) (flat_map reading_bytes readings) in
+    omega (arith, a, length-readings readings, are.most)
 
-what_prop : (what : What) → IsProp (IsWhat what)
-what_prop what = Prim.hlevel props
-
-same_what : (v w : What) → instant v ≡ instant w → raw_stage v ≡ raw_stage w → v ≡ w
-same_what v w at raw =
-    what_is v ∙ ap (λ (t : ℤ). PutReadings t (raw_stage v)) at ∙ ap (λ (t : ℤ). PutReadings (instant w) t) raw
-    ∙ sym (what_is w)
-
-same_lawful : (by reference : List ℕ) (site : SiteNumber) (v w : What) (l : IsWhat v) (m : IsWhat w) → v ≡ w → edit_with by reference site v l ≡ edit_with by reference site w m
-same_lawful by reference site v w l m e =
-    subst (λ (u : What). (n : IsWhat u) → edit_with by reference site v l ≡ edit_with by reference site u n) e
-    (λ n. ap (λ (k : IsWhat v). edit_with by reference site v k) (what_prop v l n)) m
-
-same_edit_with : (b c : List ℕ) (r s : List ℕ) (m n : SiteNumber) (v w : What) (l : IsWhat v) (k : IsWhat w) → b ≡ c → r ≡ s → m ≡ n → v ≡ w → edit_with b r m v l ≡ edit_with c s n w k
-same_edit_with b c r s m n v w l k h i j e = rw (h, i, j) (same_lawful c s n v w l k e)
-
-same_edit : (e f : Edit) → parts_of e ≡ parts_of f → e ≡ f
-same_edit e f h =
-    same_edit_with e.by f.by e.reference f.reference e.site f.site e.what f.what e.lawful f.lawful
-    (ap (λ (p : Parts). p.by) h) (ap (λ (p : Parts). p.reference) h) (ap (λ (p : Parts). p.site) h)
-    (same_what e.what f.what (ap (λ (p : Parts). p.at) h) (ap (λ (p : Parts). p.raw) h))
-
-same_record : (a b : Record) → a.edit ≡ b.edit → a ≡ b
-same_record a b e = ap (λ (f : Edit). record { edit = f }) e
-
-pub one_record : (a b : Record) → IsInGrammar a.edit → IsInGrammar b.edit → payload a ≡ payload b → a ≡ b
-one_record a b g h e =
-    let one : parts_of a.edit ≡ parts_of b.edit = some_is (parts_of a.edit) (parts_of b.edit) (sym (read_again a.edit g.station) ∙ ap parts_at e ∙ read_again b.edit h.station) in
-    same_record a b (same_edit a.edit b.edit one)
-
--- ---- lengths and bytes
-
-parts_length : (p : Parts) → length (parts_bytes p) ≡ 33 + length p.by + length p.reference
-parts_length p =
-    omega (arith, length-append p.by (short_text p.reference ++ (site_number p.site ++ reading_bytes p.at p.raw)), length-append p.reference (site_number p.site ++ reading_bytes p.at p.raw))
-
-payload_length : (piece : Record) → length (payload piece) ≡ 33 + length piece.edit.by + length piece.edit.reference
-payload_length piece = ap length (edit_spelling piece.edit) ∙ parts_length (parts_of piece.edit)
-
-pub few_bytes : (piece : Record) → IsInGrammar piece.edit → length (payload piece) ≤ 81
+pub few_bytes : (piece : Record) → IsInGrammar piece.edit → length (payload piece) ≤ 206
 few_bytes piece g =
-    let len = payload_length piece in
-    rw len (omega (arith, g.initials.longest, g.code.longest))
+    let e = piece.edit in
+    let a = length-append (short_text e.by) (short_text e.reference) in
+    let b = length-append (short_text e.by ++ short_text e.reference) (site_number e.site) in
+    let c = length-append (short_text e.by ++ short_text e.reference ++ site_number e.site) (fields e.what) in
+    omega (arith, a, b, c, few_fields e.what e.lawful, g.initials.longest, g.code.longest)
 
-pub few_built_in : (piece : Record) → IsBuiltIn piece → length (payload piece) ≤ 56
-few_built_in piece built =
-    let len = payload_length piece in
-    rw (len, built.is.0, built.is.1) (omega (arith, length-decimal-le 20 built.number, built.within))
+-- ---- bytes
 
 abbrev is_byte : ℕ → Type 0
 is_byte b = b < 256
@@ -99,34 +79,77 @@ letter_byte code e = grind (arith, nat_tests)
 code_byte : (code : ℕ) → (is_letter code || (is_digit code || (code == 45))) ≡ true → code < 256
 code_byte code e = grind (arith, nat_tests)
 
+printed_byte : (code : ℕ) → is_printed code ≡ true → code < 256
+printed_byte code e = grind (arith, nat_tests)
+
 by_bytes : (text : List ℕ) → AreInitials text → All is_byte (short_text text)
 by_bytes text is = All-cons is_byte (length text) text (omega (arith, is.longest)) (λ k d lt. letter_byte (get_or text k d) (is.letters k d lt))
 
 reference_bytes : (text : List ℕ) → IsReference text → All is_byte (short_text text)
 reference_bytes text is = All-cons is_byte (length text) text (omega (arith, is.longest)) (λ k d lt. code_byte (get_or text k d) (is.codes k d lt))
 
+name_bytes : (text : List ℕ) → IsName text → All is_byte (short_text text)
+name_bytes text is = All-cons is_byte (length text) text (omega (arith, is.longest)) (λ k d lt. printed_byte (get_or text k d) (is.codes k d lt))
+
 site_bytes : (site : SiteNumber) → IsSite site → All is_byte (site_number site)
 site_bytes site is = All-cons is_byte site.digits (to_le_bytes w64 site.value) (omega (arith, is.longest)) (bytes_64 site.value)
 
-reading_are_bytes : (at raw : ℤ) → All is_byte (reading_bytes at raw)
-reading_are_bytes at raw =
-    All-append is_byte (to_le_bytes w32 1 ++ signed_number at ++ signed_number raw) (0 ∷ [])
-    (All-append is_byte (to_le_bytes w32 1 ++ signed_number at) (signed_number raw)
-    (All-append is_byte (to_le_bytes w32 1) (signed_number at) (bytes_32 1) (bytes_64 (cast_unsigned w64 at)))
-    (bytes_64 (cast_unsigned w64 raw)))
-    (All-cons is_byte 0 [] (omega arith) (All-nil is_byte))
+digit_byte : (code : ℕ) → is_ascii_digit code ≡ true → code < 256
+digit_byte code e = grind (arith, nat_tests)
 
-parts_are_bytes : (p : Parts) → AreInitials p.by → IsReference p.reference → IsSite p.site → All is_byte (parts_bytes p)
-parts_are_bytes p i r s =
-    let site = All-append is_byte (site_number p.site) (reading_bytes p.at p.raw) (site_bytes p.site s) (reading_are_bytes p.at p.raw) in
-    let reference = All-append is_byte (short_text p.reference) (site_number p.site ++ reading_bytes p.at p.raw) (reference_bytes p.reference r) site in
-    let by = All-append is_byte (short_text p.by) (short_text p.reference ++ (site_number p.site ++ reading_bytes p.at p.raw)) (by_bytes p.by i) reference in
-    All-cons is_byte 3 (short_text p.by ++ (short_text p.reference ++ (site_number p.site ++ reading_bytes p.at p.raw))) (omega arith) by
+digits_are_bytes : (digits : List ℕ) → list_all is_ascii_digit digits ≡ true → All is_byte digits
+digits_are_bytes digits e = let pass = AllPass-from_list_all is_ascii_digit digits e in λ k d lt. digit_byte (get_or digits k d) (pass k d lt)
+
+array_bytes : (digits : List ℕ) → IsRoundingArray digits → All is_byte digits
+array_bytes digits is = digits_are_bytes digits is.digits
+
+flag_byte : (flag : Flag) → flag_number flag < 256
+flag_byte Usable = omega arith
+flag_byte Erroneous = omega arith
+flag_byte Affected = omega arith
+
+one_bytes : (r : Reading) → All is_byte (reading_bytes r)
+one_bytes r =
+    All-append is_byte (signed_number r.at ++ signed_number r.raw) (flag_number r.flag ∷ [])
+    (All-append is_byte (signed_number r.at) (signed_number r.raw) (bytes_64 (cast_unsigned w64 r.at)) (bytes_64 (cast_unsigned w64 r.raw)))
+    (All-cons is_byte (flag_number r.flag) [] (flag_byte r.flag) (All-nil is_byte))
+
+readings_are_bytes : (readings : List Reading) → All is_byte (flat_map reading_bytes readings)
+readings_are_bytes [] = All-nil is_byte
+readings_are_bytes (r ∷ rest) =
+    subst (λ (t : List ℕ). All is_byte t) (sym (flat_map-cons reading_bytes r rest))
+    (All-append is_byte (reading_bytes r) (flat_map reading_bytes rest) (one_bytes r) (readings_are_bytes rest))
+
+fields_are_bytes : (what : What) → IsLawful what → All is_byte (fields what)
+fields_are_bytes (AddStation name zone gap stages discharges) law =
+    let set = law.0 in
+    let a = All-append is_byte (short_text name) (short_text zone) (name_bytes name set.named) (name_bytes zone law.1.printed) in
+    let b = All-append is_byte (short_text name ++ short_text zone) (to_le_bytes w32 gap) a (bytes_32 gap) in
+    let c = All-append is_byte (short_text name ++ short_text zone ++ to_le_bytes w32 gap) stages b (array_bytes stages set.stages) in
+    All-append is_byte (short_text name ++ short_text zone ++ to_le_bytes w32 gap ++ stages) discharges c (array_bytes discharges set.discharges)
+fields_are_bytes (SetStation name gap stages discharges) set =
+    let a = All-append is_byte (short_text name) (to_le_bytes w32 gap) (name_bytes name set.named) (bytes_32 gap) in
+    let b = All-append is_byte (short_text name ++ to_le_bytes w32 gap) stages a (array_bytes stages set.stages) in
+    All-append is_byte (short_text name ++ to_le_bytes w32 gap ++ stages) discharges b (array_bytes discharges set.discharges)
+fields_are_bytes (PutReadings readings) are =
+    All-append is_byte (to_le_bytes w32 (length readings)) (flat_map reading_bytes readings) (bytes_32 (length readings)) (readings_are_bytes readings)
+
+kind_byte : (what : What) → kind what < 256
+kind_byte (AddStation name zone gap stages discharges) = omega arith
+kind_byte (SetStation name gap stages discharges) = omega arith
+kind_byte (PutReadings readings) = omega arith
+
+payload_bytes : (piece : Record) → IsInGrammar piece.edit → All is_byte (payload piece)
+payload_bytes piece g =
+    let e = piece.edit in
+    let first = All-cons is_byte (kind e.what) (short_text e.by) (kind_byte e.what) (by_bytes e.by g.initials) in
+    let a = All-append is_byte (kind e.what ∷ short_text e.by) (short_text e.reference) first (reference_bytes e.reference g.code) in
+    let b = All-append is_byte (kind e.what ∷ short_text e.by ++ short_text e.reference) (site_number e.site) a (site_bytes e.site g.station) in
+    All-append is_byte (kind e.what ∷ short_text e.by ++ short_text e.reference ++ site_number e.site) (fields e.what) b (fields_are_bytes e.what e.lawful)
 
 pub encoded_bytes : (piece : Record) → IsInGrammar piece.edit → All is_byte (encoded piece)
 encoded_bytes piece g =
-    All-append is_byte (to_le_bytes w32 (length (payload piece))) (payload piece) (bytes_32 (length (payload piece)))
-    (subst (λ (xs : List ℕ). All is_byte xs) (sym (edit_spelling piece.edit)) (parts_are_bytes (parts_of piece.edit) g.initials g.code g.station))
+    All-append is_byte (to_le_bytes w32 (length (payload piece))) (payload piece) (bytes_32 (length (payload piece))) (payload_bytes piece g)
 
 -- ---- none begins another
 
@@ -155,15 +178,3 @@ no_prefix a b x y g h e =
     let fits-b : length (payload b) < 2 ^ 32 = omega (arith, few_bytes b h) in
     let same = prefix_free (payload a) (payload b) x y fits-a fits-b e in
     (one_record a b g h same.0, same.1)
-
--- ---- the first path is in the grammar
-
-pub built_in_grammar : (piece : Record) → IsBuiltIn piece → IsInGrammar piece.edit
-built_in_grammar piece built =
-    let law = lawful_parts piece built in
-    record { initials = law.by_range; code = law.reference_range; station = law.site_range }
-
--- what has the payload of a record of the first path is that record
-pub found_again : (bytes : List ℕ) (found piece : Record) → (bytes ≡ payload found) × IsBuiltIn found → IsBuiltIn piece → bytes ≡ payload piece → found ≡ piece
-found_again bytes found piece here built e =
-    one_record found piece (built_in_grammar found here.1) (built_in_grammar piece built) (sym here.0 ∙ e)

@@ -1,5 +1,5 @@
-pub mod References
 pub mod Fields
-pub mod Parts
-pub mod Records
+pub mod KindLemmas
 pub mod LawLemmas
+pub mod PutLemmas
+pub mod Records

@@ -1,4 +1,4 @@
-use Rattle.records.proofs.LawLemmas.{one_record}
+use Rattle.records.proofs.Records.{one_record}
 use Rattle.records.proofs.laws.payload_of_one_record.Goals as goal
 
 pub returns : goal.returns

@@ -1,11 +1,12 @@
-use Rattle.records.proofs.LawLemmas.{few_bytes, few_built_in, encoded_bytes}
+use Rattle.std.proofs.Common.{arith}
+use Rattle.records.proofs.LawLemmas.{few_bytes, encoded_bytes}
 use Rattle.records.proofs.laws.sizes.Goals as goal
-
-pub returns-clause-built_in : goal.returns-clause-built_in
-returns-clause-built_in c piece built = few_built_in piece built
 
 pub returns-clause-bytes : goal.returns-clause-bytes
 returns-clause-bytes c piece g = encoded_bytes piece g
 
 pub returns-clause-few : goal.returns-clause-few
 returns-clause-few c piece g = few_bytes piece g
+
+pub returns-clause-most : goal.returns-clause-most
+returns-clause-most c piece g = let few = few_bytes piece g in omega (arith, few)

@@ -1,0 +1,3 @@
+pub mod EditLemmas
+pub mod TestLemmas
+pub mod TextLemmas

@@ -1,0 +1,11 @@
+//! Worked rows of edits and of their records: what no clause says, over bytes written out by hand.
+#![tactic(auto)]
+
+#[cfg(test)]
+mod edits_rows;
+#[cfg(test)]
+mod fixtures;
+#[cfg(test)]
+mod payloads;
+#[cfg(test)]
+mod refusals;

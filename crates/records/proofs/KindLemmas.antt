@@ -1,0 +1,193 @@
+-- The fields of each kind of edit and their bytes, both ways.
+use Rattle.std.proofs.Common.{◌≡◌, ℕ, ◌^◌, ◌<◌, Bool, true, false, cond, eqb, List, ◌++◌, length, Option, Some, None, refl, sym, ap, subst, ◌∙◌, arith, append_assoc, inl, inr}
+use Rattle.std.specs.Prelude.{ℤ, ◌⊎◌}
+use Rattle.std.specs.Int.{w32, to_le_bytes}
+use Rattle.std.proofs.lemmas.Bool.{eqb-true}
+use Rattle.edits.specs.Lawful.{IsLawful, ArePutReadings}
+use Rattle.edits.specs.declared.content.What.{What}
+use Rattle.edits.specs.declared.content.What.TheVariants.{AddStation, SetStation, PutReadings}
+use Rattle.fixed_units.specs.Quantities.{SiteNumber}
+use Rattle.fixed_units.specs.declared.readings.Reading.{Reading}
+use Rattle.records.specs.Payloads.{short_text, site_number, kind, fields}
+use Rattle.records.specs.Reading.{both_at, number_at, front_at, short_text_at, site_number_at, sender_at, arrays_at, addition, addition_at, setting, setting_at, put_one, put_at, reading_at, fields_at}
+use Rattle.records.proofs.Fields.{IsBytes, Takes, Reads, IsAny, both_reads, made_takes, made_again, number_reads, wide32, front_reads, short_reads, site_reads}
+use Rattle.records.proofs.PutLemmas.{one_reading, FitsReading, reading_reads, one_is, one_fits, one_spelling}
+
+-- ---- who makes an edit
+
+abbrev pub Sender : Type 0
+Sender = List ℕ × (List ℕ × SiteNumber)
+
+abbrev pub sender_bytes : Sender → List ℕ
+sender_bytes s = short_text s.0 ++ (short_text s.1.0 ++ site_number s.1.1)
+
+abbrev pub FitsSender : Sender → Type 0
+FitsSender s = IsAny s.0 × (IsAny s.1.0 × (s.1.1.value < 2 ^ 64))
+
+pub sender_reads : Reads Sender sender_at sender_bytes FitsSender
+unfolding sender_at
+sender_reads =
+    both_reads (List ℕ) (List ℕ × SiteNumber) short_text_at short_text IsAny (both_at short_text_at site_number_at) (λ p. short_text p.0 ++ site_number p.1) (λ p. IsAny p.0 × (p.1.value < 2 ^ 64)) short_reads
+    (both_reads (List ℕ) SiteNumber short_text_at short_text IsAny site_number_at site_number (λ s. s.value < 2 ^ 64) short_reads site_reads)
+
+-- ---- a gap tolerance and two arrays
+
+abbrev Arrays : Type 0
+Arrays = ℕ × (List ℕ × List ℕ)
+
+abbrev arrays_bytes : Arrays → List ℕ
+arrays_bytes f = to_le_bytes w32 f.0 ++ (f.1.0 ++ f.1.1)
+
+abbrev FitsArrays : Arrays → Type 0
+FitsArrays f = (f.0 < 2 ^ 32) × ((length f.1.0 ≡ 10) × (length f.1.1 ≡ 10))
+
+arrays_reads : Reads Arrays arrays_at arrays_bytes FitsArrays
+unfolding arrays_at
+arrays_reads =
+    both_reads ℕ (List ℕ × List ℕ) (number_at w32) (to_le_bytes w32) (λ n. n < 2 ^ 32) (both_at (front_at 10) (front_at 10)) (λ p. p.0 ++ p.1) (λ p. (length p.0 ≡ 10) × (length p.1 ≡ 10)) (number_reads w32 (2 ^ 32) wide32)
+    (both_reads (List ℕ) (List ℕ) (front_at 10) (λ t. t) (λ t. length t ≡ 10) (front_at 10) (λ t. t) (λ t. length t ≡ 10) (front_reads 10) (front_reads 10))
+
+-- ---- a station that is set
+
+abbrev Setting : Type 0
+Setting = List ℕ × Arrays
+
+abbrev setting_parts : List ℕ → Option (Setting × List ℕ)
+setting_parts bytes = both_at short_text_at arrays_at bytes
+
+abbrev setting_bytes : Setting → List ℕ
+setting_bytes f = short_text f.0 ++ arrays_bytes f.1
+
+abbrev FitsSetting : Setting → Type 0
+FitsSetting f = IsAny f.0 × FitsArrays f.1
+
+setting_reads : Reads Setting setting_parts setting_bytes FitsSetting
+setting_reads = both_reads (List ℕ) Arrays short_text_at short_text IsAny arrays_at arrays_bytes FitsArrays short_reads arrays_reads
+
+three_grouped : (a b c d : List ℕ) → ((a ++ b) ++ c) ++ d ≡ a ++ (b ++ (c ++ d))
+three_grouped a b c d = simp append_assoc
+
+setting_spelling : (f : Setting) → fields (setting f) ≡ setting_bytes f
+setting_spelling f = three_grouped (short_text f.0) (to_le_bytes w32 f.1.0) f.1.1.0 f.1.1.1
+
+-- ---- a station that is added
+
+abbrev Addition : Type 0
+Addition = List ℕ × Setting
+
+abbrev addition_parts : List ℕ → Option (Addition × List ℕ)
+addition_parts bytes = both_at short_text_at (both_at short_text_at arrays_at) bytes
+
+abbrev addition_bytes : Addition → List ℕ
+addition_bytes f = short_text f.0 ++ setting_bytes f.1
+
+abbrev FitsAddition : Addition → Type 0
+FitsAddition f = IsAny f.0 × FitsSetting f.1
+
+addition_reads : Reads Addition addition_parts addition_bytes FitsAddition
+addition_reads = both_reads (List ℕ) Setting short_text_at short_text IsAny setting_parts setting_bytes FitsSetting short_reads setting_reads
+
+four_grouped : (a b c d e : List ℕ) → (((a ++ b) ++ c) ++ d) ++ e ≡ a ++ (b ++ (c ++ (d ++ e)))
+four_grouped a b c d e = simp append_assoc
+
+addition_spelling : (f : Addition) → fields (addition f) ≡ addition_bytes f
+addition_spelling f = four_grouped (short_text f.0) (short_text f.1.0) (to_le_bytes w32 f.1.1.0) f.1.1.1.0 f.1.1.1.1
+
+-- ---- each kind is read
+
+-- what a reader of one kind took
+abbrev TakesKind : ℕ → List ℕ → What → List ℕ → Type 0
+TakesKind number bytes what rest = Takes bytes (fields what) rest × (number ≡ kind what)
+
+took : (number : ℕ) (bytes text rest : List ℕ) (v w : What) → v ≡ w → fields v ≡ text → number ≡ kind v → Takes bytes text rest → TakesKind number bytes w rest
+took number bytes text rest v w same spelled of t =
+    subst (λ (u : What). TakesKind number bytes u rest) same (subst (λ (x : List ℕ). Takes bytes x rest) (sym spelled) t, of)
+
+addition_takes : (bytes : List ℕ) (what : What) (rest : List ℕ) → IsBytes bytes → addition_at bytes ≡ Some (what, rest) → TakesKind 1 bytes what rest
+unfolding addition_at
+addition_takes bytes what rest fits e =
+    let m = made_takes Addition What addition addition_parts addition_bytes FitsAddition addition_reads bytes what rest fits e in
+    took 1 bytes (addition_bytes m.0) rest (addition m.0) what m.1 (addition_spelling m.0) refl m.2
+
+setting_takes : (bytes : List ℕ) (what : What) (rest : List ℕ) → IsBytes bytes → setting_at bytes ≡ Some (what, rest) → TakesKind 2 bytes what rest
+unfolding setting_at
+setting_takes bytes what rest fits e =
+    let m = made_takes Setting What setting setting_parts setting_bytes FitsSetting setting_reads bytes what rest fits e in
+    took 2 bytes (setting_bytes m.0) rest (setting m.0) what m.1 (setting_spelling m.0) refl m.2
+
+put_takes : (bytes : List ℕ) (what : What) (rest : List ℕ) → IsBytes bytes → put_at bytes ≡ Some (what, rest) → TakesKind 3 bytes what rest
+unfolding put_at
+put_takes bytes what rest fits e =
+    let m = made_takes (ℤ × ℤ) What put_one reading_at one_reading FitsReading reading_reads bytes what rest fits e in
+    took 3 bytes (one_reading m.0) rest (put_one m.0) what m.1 (one_spelling m.0.0 m.0.1) refl m.2
+
+-- which way a test went
+which : {A : Type 0} (b : Bool) (x y z : A) → cond b x y ≡ z → ((b ≡ true) × (x ≡ z)) ⊎ ((b ≡ false) × (y ≡ z))
+which true x y z e = inl (refl, e)
+which false x y z e = inr (refl, e)
+
+along : (m n : ℕ) (bytes : List ℕ) (what : What) (rest : List ℕ) → m ≡ n → TakesKind n bytes what rest → TakesKind m bytes what rest
+along m n bytes what rest e t = subst (λ (k : ℕ). TakesKind k bytes what rest) (sym e) t
+
+pub fields_take : (number : ℕ) (bytes : List ℕ) (what : What) (rest : List ℕ) → IsBytes bytes → fields_at number bytes ≡ Some (what, rest) → Takes bytes (fields what) rest × (number ≡ kind what)
+unfolding fields_at
+fields_take number bytes what rest fits e =
+    elim (which (eqb number 1) (addition_at bytes) _ _ e) [
+      | inl h ↦ along number 1 bytes what rest (eqb-true _ _ h.0) (addition_takes bytes what rest fits h.1)
+      | inr h ↦ elim (which (eqb number 2) (setting_at bytes) _ _ h.1) [
+        | inl i ↦ along number 2 bytes what rest (eqb-true _ _ i.0) (setting_takes bytes what rest fits i.1)
+        | inr i ↦ elim (which (eqb number 3) (put_at bytes) None _ i.1) [
+          | inl j ↦ along number 3 bytes what rest (eqb-true _ _ j.0) (put_takes bytes what rest fits j.1)
+          | inr j ↦ absurd (let no : None ≡ Some (what, rest) = j.1 in cc)
+        ]
+      ]
+    ]
+
+addition_again : (f : Addition) (rest : List ℕ) → FitsAddition f → addition_at (addition_bytes f ++ rest) ≡ Some (addition f, rest)
+unfolding addition_at
+addition_again f rest fits =
+    made_again Addition What addition addition_parts addition_bytes FitsAddition addition_reads f rest fits
+
+setting_again : (f : Setting) (rest : List ℕ) → FitsSetting f → setting_at (setting_bytes f ++ rest) ≡ Some (setting f, rest)
+unfolding setting_at
+setting_again f rest fits =
+    made_again Setting What setting setting_parts setting_bytes FitsSetting setting_reads f rest fits
+
+put_again : (p : ℤ × ℤ) (rest : List ℕ) → FitsReading p → put_at (one_reading p ++ rest) ≡ Some (put_one p, rest)
+unfolding put_at
+put_again p rest fits = made_again (ℤ × ℤ) What put_one reading_at one_reading FitsReading reading_reads p rest fits
+
+first_kind : (bytes : List ℕ) → fields_at 1 bytes ≡ addition_at bytes
+unfolding fields_at
+first_kind bytes = refl
+
+second_kind : (bytes : List ℕ) → fields_at 2 bytes ≡ setting_at bytes
+unfolding fields_at
+second_kind bytes = refl
+
+third_kind : (bytes : List ℕ) → fields_at 3 bytes ≡ put_at bytes
+unfolding fields_at
+third_kind bytes = refl
+
+addition_back : (f : Addition) (rest : List ℕ) → FitsAddition f → fields_at 1 (fields (addition f) ++ rest) ≡ Some (addition f, rest)
+addition_back f rest fits =
+    first_kind (fields (addition f) ++ rest) ∙ ap (λ (t : List ℕ). addition_at (t ++ rest)) (addition_spelling f) ∙ addition_again f rest fits
+
+setting_back : (f : Setting) (rest : List ℕ) → FitsSetting f → fields_at 2 (fields (setting f) ++ rest) ≡ Some (setting f, rest)
+setting_back f rest fits =
+    second_kind (fields (setting f) ++ rest) ∙ ap (λ (t : List ℕ). setting_at (t ++ rest)) (setting_spelling f) ∙ setting_again f rest fits
+
+put_back : (p : ℤ × ℤ) (rest : List ℕ) → FitsReading p → fields_at 3 (fields (put_one p) ++ rest) ≡ Some (put_one p, rest)
+put_back p rest fits =
+    third_kind (fields (put_one p) ++ rest) ∙ ap (λ (t : List ℕ). put_at (t ++ rest)) (one_spelling p.0 p.1) ∙ put_again p rest fits
+
+pub fields_again : (what : What) (rest : List ℕ) → IsLawful what → fields_at (kind what) (fields what ++ rest) ≡ Some (what, rest)
+fields_again (AddStation name zone gap stages discharges) rest law =
+    let set = law.0 in
+    addition_back (name, (zone, (gap, (stages, discharges)))) rest (tt, (tt, (omega (arith, set.near.high), (set.stages.ten, set.discharges.ten))))
+fields_again (SetStation name gap stages discharges) rest set =
+    setting_back (name, (gap, (stages, discharges))) rest (tt, (omega (arith, set.near.high), (set.stages.ten, set.discharges.ten)))
+fields_again (PutReadings readings) rest are =
+    let one = one_is readings are in
+    let fits : FitsReading one.0 = one_fits one.0 (subst ArePutReadings one.1 are) in
+    subst (λ (rs : List Reading). fields_at 3 (fields (PutReadings rs) ++ rest) ≡ Some (PutReadings rs, rest)) (sym one.1) (put_back one.0 rest fits)

@@ -1,0 +1,12 @@
+use Rattle.std.proofs.Common.{arith, length-append}
+use Rattle.std.specs.Prelude.{flat_map, length}
+use Rattle.std.specs.Int.{w32, to_le_bytes}
+use Rattle.records.specs.Payloads.{reading_bytes}
+use Rattle.records.proofs.PutLemmas.{length-readings}
+use Rattle.records.proofs.writing.fields_len.Goals as goal
+
+pub returns-in-PutReadings-clause-value : goal.returns-in-PutReadings-clause-value
+returns-in-PutReadings-clause-value c =
+    let readings = c.in-PutReadings.readings in
+    rw (c.in-PutReadings.is, c.as_slice-in-PutReadings.ensures)
+    (omega (arith, length-readings readings, length-append (to_le_bytes w32 (length readings)) (flat_map reading_bytes readings)))

@@ -1,0 +1,6 @@
+pub mod Crossing
+pub mod Gaps
+pub mod Lending
+pub mod Lists
+pub mod Memory
+pub mod Walks

@@ -55,6 +55,9 @@ module _ {X : Type 0} where
   pub same_values : (xs ys : List X) → map Some xs ≡ map Some ys → xs ≡ ys
   same_values xs ys e = sym (somes-map xs) ∙ ap somes e ∙ somes-map ys
 
+  pub one_value : (x y : X) → Some x ≡ Some y → x ∷ [] ≡ y ∷ []
+  one_value x y e = ap (λ o. somes (o ∷ [])) e
+
   -- a filled place is a run of one
   pub run_of_one : (cs : List (Option X)) (p : ℕ) (x : X) → get_or cs p None ≡ Some x → (p + 1 ≤ length cs) × (take 1 (drop p cs) ≡ map Some (x ∷ []))
   run_of_one [] p x e = cc

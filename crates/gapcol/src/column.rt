@@ -1,5 +1,5 @@
 //! The column itself. A contract sees its list, and for how many more values there is room.
-ghost use Rattle.std.specs.Prelude.{◌≡◌, ◌+◌, ◌-◌, ◌*◌, ◌^◌, ◌<◌, ◌≤◌, [], ◌∷◌, ◌++◌, length, take, drop, slice_get, slice_set, slice_range, OnOk, OnErr, IsOk};
+ghost use Rattle.std.specs.Prelude.{◌≡◌, ◌+◌, ◌-◌, ◌*◌, ◌^◌, ◌<◌, ◌≤◌, max, [], ◌∷◌, ◌++◌, length, take, drop, slice_get, slice_set, slice_range, OnOk, OnErr, IsOk};
 ghost use Rattle.std.specs.Mem.{type_size};
 ghost use Rattle.gapcol.specs.Lists.{with_spare};
 
@@ -23,8 +23,7 @@ impl From<AllocError> for NoMemory {
 /// How many places the next block has: twice those of this one, or as many as are needed where that is more.
 fn grown(needed: usize, capacity: usize) -> usize
     requires { capacity < 2 ^ 63 }
-    ensures needed { needed ≤ result }
-    ensures doubled { 2 * capacity ≤ result }
+    ensures { result ≡ max (2 * capacity) needed }
 {
     if needed < 2 * capacity {
         2 * capacity
@@ -81,12 +80,12 @@ impl<T: Copy> Column<T> {
     }
 
     /// Makes room for so many more values. The only call that takes memory, and it takes none where there is room for them
-    /// already; else the whole room is at least doubled, and every value is copied. After `NoMemory` all is as before.
+    /// already; else the block is doubled, or made as large as is needed where that is more, and every value is copied. After `NoMemory` all is as before.
     pub fn reserve(&mut self, n: usize) -> Result<(), NoMemory>
         ensures list { self.new.list ≡ self.old.list }
         ensures room { OnOk result (n ≤ self.new.spare) }
         ensures kept { n ≤ self.old.spare → IsOk result × (self.new ≡ self.old) }
-        ensures doubled { OnOk result (self.old.spare < n → 2 * (length self.old.list + self.old.spare) ≤ length self.new.list + self.new.spare) }
+        ensures grown { OnOk result (self.old.spare < n → length self.new.list + self.new.spare ≡ max (2 * (length self.old.list + self.old.spare)) (length self.old.list + n)) }
         ensures fits { OnOk result (self.old.spare < n → n * type_size T.row < 2 ^ 63) }
         ensures err { OnErr result (self.new ≡ self.old) }
     {

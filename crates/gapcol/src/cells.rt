@@ -72,26 +72,25 @@ unsafe impl<T, A: Allocator + Send> Send for Deed<T, A> {}
 // A lent deed frees nothing.
 unsafe impl<T, A: Allocator> Sync for Deed<T, A> {}
 
-/// A block of `len` empty places.
+/// A block of `len` empty places, which take a byte at least.
 pub(crate) fn allocate<T, A: Allocator>(
     alloc: &A,
     len: usize,
 ) -> Result<(Base<T>, Cells<T>, Deed<T, A>), AllocError>
-    requires { FitsInBlock T.row len }
+    requires { FitsInBlock T.row len × (0 < len * type_size T.row) }
     ensures { IfOk result (λ r. (r.1.at ≡ r.0.ptr) × (r.1.slots ≡ replicate len None) × (r.2.at ≡ r.0.ptr) × (r.2.len ≡ len) × (r.2.alloc ≡ alloc.now)) }
 {
-    match alloc.allocate(len * size_of::<T>(), align_of::<T>()) {
+    let bytes = len * size_of::<T>();
+    match alloc.allocate(bytes, align_of::<T>()) {
         Ok(block) => {
             let base = Base {
                 ptr: block as *mut T,
             };
-            Ok((
-                base,
-                Cells { kind: PhantomData },
-                Deed { kind: PhantomData },
-            ))
+            let cells = Cells { kind: PhantomData };
+            let deed = Deed { kind: PhantomData };
+            Ok((base, cells, deed))
         }
-        Err(error) => Err(error),
+        Err(refused) => Err(refused),
     }
 }
 
@@ -105,11 +104,11 @@ pub(crate) fn deallocate<T, A: Allocator>(
 )
     requires { (cells.at ≡ base.ptr) × (length cells.slots ≡ len) × (deed.at ≡ base.ptr) × (deed.len ≡ len) × (deed.alloc ≡ alloc.now) }
 {
+    let Base { ptr } = base;
     let Cells { kind: _ } = cells;
     let Deed { kind: _ } = deed;
-    unsafe {
-        alloc.deallocate(base.ptr as *mut u8, len * size_of::<T>(), align_of::<T>());
-    }
+    let bytes = len * size_of::<T>();
+    unsafe { alloc.deallocate(ptr as *mut u8, bytes, align_of::<T>()) }
 }
 
 /// Places that take no bytes lie anywhere, and no block has to be asked for.

@@ -73,7 +73,7 @@ allocate_spec 𝓤 𝓛 𝓜 𝓡 wired T A laws freeing g d dd met md =
     let rb = a.0.ref_ptr.0 in let ro = a.0.ref_ptr.1 in let alloc = a.0.now in let len = a.1.0 in
     let others = ‵ (flft κs.1.0 qs.1.0) ⊛ ‵ (flft κs.1.1.0 qs.1.1.0) ⊛ ‵ ftrue in
     let Inner : Type 0 = κs.1.1.0 ⊑ A.lives in
-    let Asks : Type 0 = FitsInBlock (R E) len in
+    let Asks : Type 0 = FitsInBlock (R E) len × (0 < len * sz E) in
     let Made : Out.Denot → Type 0 = λ r. IfOk r (λ t. (t.1.at ≡ t.0.ptr) × (t.1.slots ≡ replicate len None) × (t.2.at ≡ t.0.ptr) × (t.2.len ≡ len) × (t.2.alloc ≡ alloc)) in
     -- what both answers end with
     let out : (r : Out.Denot) (v : Val) → Made r → Sq 𝓛 (‵ (Out.own_val r (v ∷ [])) ∷ ‵ (flft κ q) ∷ others ∷ []) (prop (Post v)) = λ r v made.
@@ -88,7 +88,7 @@ allocate_spec 𝓤 𝓛 𝓜 𝓡 wired T A laws freeing g d dd met md =
     let En : Env 𝓤 H = env fn.locals l in
     let both : Body = head (after 2 fn.body) in
     let Then : After 𝓤 H = any_q (after_seq 𝓤 H (Wp 𝓤 H 𝓣.C 𝓣.Λ En (after 3 fn.body) (at_return 𝓤 H En Post)) (at_return 𝓤 H En Post)) in
-    let s = sz E in let small : len * s < 2 ^ 63 = asked.0 in let bytes : len * s < 2 ^ 64 = omega arith in
+    let s = sz E in let small : len * s < 2 ^ 63 = asked.0.0 in let bytes : len * s < 2 ^ 64 = omega arith in
     let al : ℕ = capped (align (elτ E)) in
     let y : (Takes Z 𝓛 𝓜.mem 𝓡.returns).Ghost = at_takes Z 𝓛 𝓜.mem 𝓡.returns κ q (rb, ro) alloc (len * s) al (block_ty E len) in
     -- [the allocator, lent; the lifetime's token; the other tokens]
@@ -111,7 +111,7 @@ allocate_spec 𝓤 𝓛 𝓜 𝓡 wired T A laws freeing g d dd met md =
     sets ! (of_opd ! (get_in ! (vrt ! refl (fld ! refl (stop !))) (in_variant ! 0 0 refl refl (whole !)))) refl (tt, tt) $ sets ! (of_opd ! (get ! refl)) refl (tt, tt) $
     sets ! (agg ! (and_then ! (get ! refl) (no_more !))) refl (word-Good [] p) $
     sets ! (agg ! (no_more !)) refl (tt, tt) $ sets ! (agg ! (and_then ! (get ! refl) (no_more !))) refl (tt, (tt, tt)) $
-    sets ! (agg ! (no_more !)) refl (tt, tt) $ sets ! (agg ! (and_then ! (get ! refl) (no_more !))) refl (tt, (tt, tt)) $
+    sets ! (agg ! (no_more !)) refl (tt, tt) $ sets ! (agg ! (and_then ! (get ! refl) (no_more !))) refl (tt, (tt, tt)) $ sets ! (of_opd ! (get ! refl)) refl (tt, (tt, tt)) $
     sets ! (agg ! (and_then ! (get ! refl) (and_then ! (get ! refl) (and_then ! (get ! refl) (no_more !))))) refl typed $
     sets_last ! (agg ! (and_then ! (lit ! tt) (and_then ! (get ! refl) (no_more !)))) refl ok $
     exec ! 𝓣.C 𝓣.Λ En (after 3 fn.body) (at_ret En Post) $ sets ! (of_opd ! (get ! refl)) refl ok $

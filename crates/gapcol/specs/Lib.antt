@@ -1,0 +1,4 @@
+pub mod Gaps
+pub mod Lists
+pub mod Memory
+pub mod Places

@@ -1,0 +1,202 @@
+-- The inputs of a day of a station: whether there are any, what they keep to, and what leaves them as they are.
+use Rattle.std.specs.Prelude.{◌≡◌, ◌≢◌, ◌≤◌, ◌*◌, ℕ, Bool, true, false, not, ◌&&◌, ◌==◌, cond, List, [], ◌∷◌, ◌++◌, filter, find, is_some, Option, Some, None, option_to_list, All, ℤ, pos, ◌+ℤ◌}
+use Rattle.std.specs.Bool.{Decides}
+use Rattle.std.proofs.Common.{arith, refl, ap, sym, subst, ◌∙◌}
+use Rattle.std.proofs.lemmas.Int.{ints}
+use Rattle.std.proofs.lemmas.List.Elements.{All-head, All-tail}
+use Rattle.fixed_units.specs.Quantities.{IsStage, IsStamp}
+use Rattle.edits.specs.Lawful.{IsPutReading}
+use Rattle.fixed_units.specs.declared.readings.Reading.{Reading}
+use Rattle.readings.specs.Readings.{IsRising, is_used, put, put_all}
+use Rattle.readings.specs.Window.{inner, of_day, window, with_neighbours, neighbour_before, neighbour_after}
+use Rattle.readings.proofs.WindowLemmas.{window_keeps, window_rises, put_keeps, put_rises}
+use Rattle.readings.proofs.WindowParts.{inner_found}
+use Rattle.civil_days.specs.Starts.{IsDayLength}
+use Rattle.day_inputs.specs.DayInputs.{AreParts, day_inputs, with_window, most_gap}
+use Rattle.day_inputs.specs.Equality.{same_inputs}
+use Rattle.day_inputs.proofs.EqualityLemmas.{Decides-same_inputs}
+use Rattle.day_inputs.specs.declared.day_inputs.DayInputs.{DayInputs}
+use Rattle.day_inputs.specs.declared.day_inputs.DayInputs.TheVariants.{Empty, Day}
+use Rattle.office_inputs.specs.Stations.{StationRecord, station_day, day_start, described, with_readings}
+use Rattle.office_inputs.specs.KeptStation.{AreReadings, KeptStation}
+use Rattle.office_inputs.specs.Touched.{has_inputs}
+
+-- the inputs of a day keep to what they must, where the station does
+pub parts_kept : (gap : ℕ) (stages discharges : List ℕ) (from until : ℤ) (readings items : List Reading) → 1 ≤ gap → gap ≤ most_gap
+    → IsDayLength from until → AreReadings readings → items ≡ window from until (pos (60 * gap)) readings
+    → AreParts (record { gap = gap; stage_array = stages; discharge_array = discharges; from = from; until = until; window = items })
+parts_kept gap stages discharges from until readings items low high l h w = record {
+  gap_low = low;
+  gap_high = high;
+  shortest = l.shortest;
+  longest = l.longest;
+  rising = subst IsRising (sym w) (window_rises from until (pos (60 * gap)) readings h.rising);
+  stages =
+      subst (λ (rs : List Reading). All (λ r. IsStage r.raw) rs) (sym w)
+      (window_keeps (λ r. IsStage r.raw) from until (pos (60 * gap)) readings h.stages);
+}
+
+-- whether a list has an element
+is_any : {X : Type 0} → List X → Bool
+is_any [] = false
+is_any (x ∷ xs) = true
+
+window_any : (gap : ℕ) (stages discharges : List ℕ) (from until : ℤ) (rs : List Reading)
+    → has_inputs (with_window gap stages discharges from until rs) ≡ is_any rs
+unfolding is_any
+window_any gap stages discharges from until [] = refl
+window_any gap stages discharges from until (r ∷ rs) = refl
+
+neighbours_any : (before : Option Reading) (rs : List Reading) (after : Option Reading) → is_any (with_neighbours before rs after) ≡ is_any rs
+unfolding is_any
+neighbours_any before [] after = refl
+neighbours_any None (r ∷ rs) after = refl
+neighbours_any (Some s) (r ∷ rs) after = refl
+
+found_step : {X : Type 0} (x : X) (xs : List X) (found : Option X) (b : Bool) → is_some found ≡ is_any xs
+    → is_some (cond b (Some x) found) ≡ is_any (cond b (x ∷ xs) xs)
+unfolding is_any
+found_step x xs found true h = refl
+found_step x xs found false h = h
+
+found_any : {X : Type 0} (p : X → Bool) (xs : List X) → is_some (find p xs) ≡ is_any (filter p xs)
+unfolding is_any
+found_any p [] = refl
+found_any p (x ∷ xs) = found_step x (filter p xs) (find p xs) (p x) (found_any p xs)
+
+-- a day has inputs where some reading of it is used
+pub filled_told : (s : StationRecord) (day : ℤ) (rs : List Reading) → rs ≡ of_day (day_start s day) (day_start s (day +ℤ pos 1)) s.readings
+    → is_some (find is_used rs) ≡ has_inputs (station_day s day)
+filled_told s day rs e =
+    let a = day_start s day in
+    let b = day_start s (day +ℤ pos 1) in
+    let used : filter is_used rs ≡ inner a b s.readings = ap (filter is_used) e ∙ inner_found a b s.readings in
+    found_any is_used rs ∙ ap is_any used
+    ∙ sym (window_any s.gap s.stage_array s.discharge_array a b (window a b (pos (60 * s.gap)) s.readings)
+    ∙ neighbours_any (neighbour_before a (pos (60 * s.gap)) s.readings) (inner a b s.readings) (neighbour_after b (pos (60 * s.gap)) s.readings))
+
+-- the inputs of a day tell its window
+window_of : DayInputs → List Reading
+window_of Empty = []
+window_of (Day p) = p.window
+
+window_told : (gap : ℕ) (stages discharges : List ℕ) (from until : ℤ) (rs : List Reading) → window_of (with_window gap stages discharges from until rs) ≡ rs
+unfolding window_of
+window_told gap stages discharges from until [] = refl
+window_told gap stages discharges from until (r ∷ rs) = refl
+
+same_of : (p q : DayInputs) → p ≡ q → same_inputs p q ≡ true
+same_of p q e = (Decides-same_inputs p q).1 e
+
+other_step : (p q : DayInputs) (b : Bool) → (p ≢ q) → same_inputs p q ≡ b → b ≡ false
+other_step p q true n e = absurd (n ((Decides-same_inputs p q).0 e))
+other_step p q false n e = refl
+
+other_of : (p q : DayInputs) → p ≢ q → same_inputs p q ≡ false
+other_of p q n = other_step p q (same_inputs p q) n refl
+
+-- a test that tells whether the window of a day alters tells whether its inputs do
+pub altered_told : (gap : ℕ) (stages discharges : List ℕ) (from until : ℤ) (old new : List Reading) (altered : Bool)
+    → (altered ≡ true → new ≢ old) → (altered ≡ false → new ≡ old)
+    → not altered ≡ same_inputs (with_window gap stages discharges from until old) (with_window gap stages discharges from until new)
+altered_told gap stages discharges from until old new true changed same =
+    let before = with_window gap stages discharges from until old in
+    let after = with_window gap stages discharges from until new in
+    sym (other_of before after (λ e. changed refl (sym (window_told gap stages discharges from until new) ∙ ap window_of (sym e) ∙ window_told gap stages discharges from until old)))
+altered_told gap stages discharges from until old new false changed same =
+    let before = with_window gap stages discharges from until old in
+    let after = with_window gap stages discharges from until new in
+    sym (same_of before after (ap (with_window gap stages discharges from until) (sym (same refl))))
+
+-- the same as it is asked at the instants of a day
+pub altered_day : (s : StationRecord) (day : ℤ) (r : Reading) (from until : ℤ) (altered : Bool)
+    → from ≡ day_start s day → until ≡ day_start s (day +ℤ pos 1)
+    → (altered ≡ true → window from until (pos (60 * s.gap)) (put r s.readings) ≢ window from until (pos (60 * s.gap)) s.readings)
+    → (altered ≡ false → window from until (pos (60 * s.gap)) (put r s.readings) ≡ window from until (pos (60 * s.gap)) s.readings)
+    → not altered ≡ same_inputs (station_day s day) (station_day (with_readings (r ∷ []) s) day)
+altered_day s day r from until altered e f changed same =
+    let told : not altered ≡ same_inputs (day_inputs s.gap s.stage_array s.discharge_array from until s.readings)
+        (day_inputs s.gap s.stage_array s.discharge_array from until (put r s.readings)) =
+    altered_told s.gap s.stage_array s.discharge_array from until
+    (window from until (pos (60 * s.gap)) s.readings) (window from until (pos (60 * s.gap)) (put r s.readings)) altered changed same in
+    rw (sym e, sym f) told
+
+-- readings that are put leave stages at stamps, rising by instant
+pub put_all_are : (rs xs : List Reading) → All IsPutReading rs → AreReadings xs → AreReadings (put_all rs xs)
+put_all_are [] xs h k = k
+put_all_are (r ∷ rs) xs h k =
+    let own = All-head IsPutReading r rs h in
+    put_all_are rs (put r xs) (All-tail IsPutReading r rs h) (record {
+      rising = put_rises r xs k.rising;
+      stages = put_keeps (λ r. IsStage r.raw) r xs k.stages own.stage;
+      stamps = put_keeps (λ r. IsStamp r.at) r xs k.stamps own.stamp;
+    })
+
+-- a station described as it is keeps each day
+pub described_same : (s : StationRecord) (day : ℤ) (name : List ℕ) (gap : ℕ) (stages discharges : List ℕ)
+    → s.gap ≡ gap → s.stage_array ≡ stages → s.discharge_array ≡ discharges
+    → true ≡ same_inputs (station_day s day) (station_day (described name gap stages discharges s) day)
+described_same s day name gap stages discharges e f g =
+    sym (same_of (station_day s day) (station_day (described name gap stages discharges s) day) (rw (sym e, sym f, sym g) refl))
+
+-- what the inputs of a day tell of the station
+gap_of : DayInputs → ℕ
+gap_of Empty = 0
+gap_of (Day p) = p.gap
+
+stages_of : DayInputs → List ℕ
+stages_of Empty = []
+stages_of (Day p) = p.stage_array
+
+discharges_of : DayInputs → List ℕ
+discharges_of Empty = []
+discharges_of (Day p) = p.discharge_array
+
+filled_gap : (g : ℕ) (s d : List ℕ) (a b : ℤ) (before after : Option Reading) (r : Reading) (rs : List Reading)
+    → (gap_of (with_window g s d a b (with_neighbours before (r ∷ rs) after)) ≡ g)
+    × ((stages_of (with_window g s d a b (with_neighbours before (r ∷ rs) after)) ≡ s)
+    × (discharges_of (with_window g s d a b (with_neighbours before (r ∷ rs) after)) ≡ d))
+unfolding gap_of stages_of discharges_of
+filled_gap g s d a b None after r rs = (refl, (refl, refl))
+filled_gap g s d a b (Some x) after r rs = (refl, (refl, refl))
+
+-- a station described otherwise keeps the days without inputs alone
+abbrev pub Differs : ℕ → List ℕ → List ℕ → ℕ → List ℕ → List ℕ → Type 0
+Differs g s d g' s' d' = (g ≡ g' → s ≡ s' → d ≡ d' → ⊥)
+
+with_window_empty : (before after before' after' : Option Reading) (inner : List Reading) (g g' : ℕ) (s s' d d' : List ℕ) (a b : ℤ)
+    → Differs g s d g' s' d'
+    → not (is_any inner) ≡ same_inputs (with_window g s d a b (with_neighbours before inner after)) (with_window g' s' d' a b (with_neighbours before' inner after'))
+unfolding is_any
+with_window_empty before after before' after' [] g g' s s' d d' a b n = refl
+with_window_empty before after before' after' (r ∷ rs) g g' s s' d d' a b n =
+    sym (other_of (with_window g s d a b (with_neighbours before (r ∷ rs) after)) (with_window g' s' d' a b (with_neighbours before' (r ∷ rs) after')) (λ e.
+      let one = filled_gap g s d a b before after r rs in
+      let two = filled_gap g' s' d' a b before' after' r rs in
+      n (sym one.0 ∙ ap gap_of e ∙ two.0) (sym one.1.0 ∙ ap stages_of e ∙ two.1.0) (sym one.1.1 ∙ ap discharges_of e ∙ two.1.1)))
+
+pub described_other : (s : StationRecord) (day : ℤ) (name : List ℕ) (gap : ℕ) (stages discharges : List ℕ)
+    → Differs s.gap s.stage_array s.discharge_array gap stages discharges
+    → not (has_inputs (station_day s day)) ≡ same_inputs (station_day s day) (station_day (described name gap stages discharges s) day)
+described_other s day name gap stages discharges n =
+    let a = day_start s day in
+    let b = day_start s (day +ℤ pos 1) in
+    let before = neighbour_before a (pos (60 * s.gap)) s.readings in
+    let after = neighbour_after b (pos (60 * s.gap)) s.readings in
+    ap not (window_any s.gap s.stage_array s.discharge_array a b (window a b (pos (60 * s.gap)) s.readings)
+    ∙ neighbours_any before (inner a b s.readings) after)
+    ∙ with_window_empty before after (neighbour_before a (pos (60 * gap)) s.readings) (neighbour_after b (pos (60 * gap)) s.readings)
+      (inner a b s.readings) s.gap gap s.stage_array stages s.discharge_array discharges a b n
+
+-- the same of a station that is kept with room
+abbrev AlteredDay : ℤ → Reading → ℤ → ℤ → Bool → KeptStation → KeptStation → Type 0
+AlteredDay day r from until altered view kept =
+    from ≡ day_start kept.station day → until ≡ day_start kept.station (day +ℤ pos 1)
+    → (altered ≡ true → window from until (pos (60 * view.station.gap)) (put r view.station.readings) ≢ window from until (pos (60 * view.station.gap)) view.station.readings)
+    → (altered ≡ false → window from until (pos (60 * view.station.gap)) (put r view.station.readings) ≡ window from until (pos (60 * view.station.gap)) view.station.readings)
+    → not altered ≡ same_inputs (station_day kept.station day) (station_day (with_readings (r ∷ []) kept.station) day)
+
+pub altered_kept : (kept view : KeptStation) → view ≡ kept → (day : ℤ) (r : Reading) (from until : ℤ) (altered : Bool)
+    → AlteredDay day r from until altered view kept
+altered_kept kept view e day r from until altered =
+    subst (λ (k : KeptStation). AlteredDay day r from until altered view k) e (altered_day view.station day r from until altered)

@@ -1,0 +1,7 @@
+pub mod Calendar
+pub mod Changes
+pub mod Kept
+pub mod KeptStation
+pub mod Refusals
+pub mod Stations
+pub mod Touched

@@ -1,0 +1,300 @@
+//! A station that is kept: what is said of it, and its readings.
+
+ghost use Rattle.std.specs.Prelude.{◌≡◌, ◌↔◌, true, false, ◌≤◌, ◌<◌, ◌+◌, ℕ, List, [], ◌∷◌, pos, ◌+ℤ◌, length, All, find, is_some, IfOk, OnOk, OnErr, IfSome, IfNone};
+ghost use Rattle.std.specs.Arc.{arc_value};
+ghost use Rattle.civil_days.specs.Starts.{IsZone, IsDayLength};
+ghost use Rattle.readings.specs.Readings.{is_used, put_all};
+ghost use Rattle.readings.specs.Window.{of_day};
+ghost use Rattle.day_inputs.specs.DayInputs.{AreInputs, most_gap};
+ghost use Rattle.day_inputs.specs.Equality.{same_inputs};
+ghost use Rattle.edits.specs.Lawful.{IsPutReading};
+ghost use Rattle.office_inputs.specs.Stations.{new_station, described, with_readings, station_day, day_start};
+ghost use Rattle.office_inputs.specs.Touched.{has_inputs};
+
+use civil_days::StationZone;
+use day_inputs::{DayInputs, DayParts};
+use edits::Name;
+use fixed_units::{Day, Flag, NoMemory, Reading, RoundingArray, Second, Site};
+use readings::{ReadingList, Readings};
+use rising::Keyed;
+use std::alloc::Global;
+use std::marker::Model;
+use std::sync::Arc;
+
+/// A station in force. Contracts see its record, and for how many more readings there is room beside it.
+#[derive(Debug, Drop)]
+pub struct Station {
+    site: Site,
+    name: Name,
+    zone: Arc<StationZone>,
+    gap: u32,
+    stage_array: RoundingArray,
+    discharge_array: RoundingArray,
+    readings: Readings,
+}
+
+impl Model for Station {
+    ghost use Rattle.std.specs.Arc.{arc_value};
+    ghost use Rattle.office_inputs.specs.KeptStation.{KeptStation, IsStation};
+
+    ghost Value = { KeptStation };
+
+    ghost view = { λ s. record {
+        station = record { site = s.site; name = s.name; zone = arc_value s.zone; gap = s.gap; stage_array = s.stage_array; discharge_array = s.discharge_array; readings = s.readings.list };
+        spare = s.readings.spare
+    } };
+
+    ghost invariant = { λ s. IsStation (record { site = s.site; name = s.name; zone = arc_value s.zone; gap = s.gap; stage_array = s.stage_array; discharge_array = s.discharge_array; readings = s.readings.list }) };
+}
+
+impl Keyed for Station {
+    ghost use Rattle.fixed_units.specs.Quantities.{site_place};
+
+    type Key = Site;
+
+    ghost place = { λ s. site_place s.station.site };
+
+    ghost number = { λ s. site_place s };
+
+    fn key(&self) -> Site {
+        self.site
+    }
+
+    fn is_before(&self, key: Site) -> bool {
+        self.site.is_before(key)
+    }
+
+    fn is_at(&self, key: Site) -> bool {
+        self.site.is_at(key)
+    }
+}
+
+impl Station {
+    /// The site.
+    pub fn site(&self) -> Site
+        ensures { result ≡ self.now.station.site }
+    {
+        self.site
+    }
+
+    /// What the station is called: 1 to 60 characters from space to `~`.
+    pub fn name(&self) -> &[u8]
+        ensures { result.now ≡ self.now.station.name }
+    {
+        self.name.as_slice()
+    }
+
+    /// The text of its zone, as it was given.
+    pub fn zone_text(&self) -> &[u8]
+        ensures { result.now ≡ self.now.station.zone }
+    {
+        self.zone.text()
+    }
+
+    /// Its zone.
+    pub fn zone(&self) -> &StationZone
+        ensures { result.now ≡ self.now.station.zone }
+    {
+        &self.zone
+    }
+
+    /// The gap tolerance in minutes, 1 to 720.
+    pub fn gap(&self) -> u32
+        ensures { result ≡ self.now.station.gap }
+    {
+        self.gap
+    }
+
+    /// The rounding array for stages.
+    pub fn stage_array(&self) -> &RoundingArray
+        ensures { result.now ≡ self.now.station.stage_array }
+    {
+        &self.stage_array
+    }
+
+    /// The rounding array for discharges.
+    pub fn discharge_array(&self) -> &RoundingArray
+        ensures { result.now ≡ self.now.station.discharge_array }
+    {
+        &self.discharge_array
+    }
+}
+
+impl Station {
+    /// A station without readings, which takes no memory of its own.
+    pub(crate) fn new(
+        alloc: Global,
+        site: Site,
+        name: Name,
+        zone: Arc<StationZone>,
+        gap: u32,
+        stage_array: RoundingArray,
+        discharge_array: RoundingArray,
+    ) -> Station
+        requires gap_low { 1 ≤ gap }
+        requires gap_high { gap ≤ most_gap }
+        requires zone { IsZone (arc_value zone) }
+        ensures { result.station ≡ new_station site name (arc_value zone) gap stage_array discharge_array }
+    {
+        let _range = site.digits();
+        Station {
+            site,
+            name,
+            zone,
+            gap,
+            stage_array,
+            discharge_array,
+            readings: Readings::new(alloc),
+        }
+    }
+
+    /// Makes room for so many readings more. The record is as before, also after `NoMemory`.
+    pub(crate) fn reserve(&mut self, count: usize) -> Result<(), NoMemory>
+        ensures station { self.new.station ≡ self.old.station }
+        ensures room { OnOk result (count ≤ self.new.spare) }
+    {
+        self.readings.reserve(count)
+    }
+
+    /// When a day begins and when it ends.
+    fn bounds(&self, day: Day) -> (Second, Second)
+        ensures start { result.0 ≡ day_start self.now.station day }
+        ensures end { result.1 ≡ day_start self.now.station (day +ℤ pos 1) }
+        ensures length { IsDayLength result.0 result.1 }
+    {
+        self.zone.bounds(day)
+    }
+
+    /// What the readings of a day are, erroneous ones among them.
+    pub(crate) fn of_day(&self, day: Day) -> &[Reading]
+        ensures { result.now ≡ of_day (day_start self.now.station day) (day_start self.now.station (day +ℤ pos 1)) self.now.station.readings }
+    {
+        let (from, until) = self.bounds(day);
+        self.readings.window(from, until, self.gap).inner
+    }
+
+    /// The inputs of a day.
+    pub fn day_inputs(&self, alloc: Global, day: Day) -> Result<DayInputs, NoMemory>
+        ensures inputs { IfOk result (λ inputs. inputs ≡ station_day self.now.station day) }
+        ensures kept { IfOk result AreInputs }
+    {
+        let (from, until) = self.bounds(day);
+        let window = self.readings.to_list(alloc, from, until, self.gap)?;
+        if window.is_empty() {
+            return Ok(DayInputs::Empty);
+        }
+        Ok(DayInputs::Day(DayParts {
+            gap: self.gap,
+            stage_array: self.stage_array,
+            discharge_array: self.discharge_array,
+            from,
+            until,
+            window: ReadingList::from_vec(window),
+        }))
+    }
+
+    /// Whether putting a usable reading keeps the inputs of a day.
+    pub(crate) fn keeps_day_with(&self, reading: Reading, day: Day) -> bool
+        requires used { is_used reading ≡ true }
+        ensures { result ≡ same_inputs (station_day self.now.station day) (station_day (with_readings (reading ∷ []) self.now.station) day) }
+    {
+        let (from, until) = self.bounds(day);
+        !self.readings.alters_window(reading, from, until, self.gap)
+    }
+
+    /// Whether describing the station anew keeps the inputs of a day.
+    pub(crate) fn keeps_day_described(
+        &self,
+        gap: u32,
+        stage_array: RoundingArray,
+        discharge_array: RoundingArray,
+        day: Day,
+    ) -> bool
+        ensures { (name : List ℕ) → result ≡ same_inputs (station_day self.now.station day) (station_day (described name gap stage_array discharge_array self.now.station) day) }
+    {
+        if self.has_settings(gap, stage_array, discharge_array) {
+            return true;
+        }
+        !self.is_filled(day)
+    }
+
+    /// Whether the station has this gap tolerance and these arrays.
+    fn has_settings(
+        &self,
+        gap: u32,
+        stage_array: RoundingArray,
+        discharge_array: RoundingArray,
+    ) -> bool
+        ensures { result ≡ true ↔ (self.now.station.gap ≡ gap) × (self.now.station.stage_array ≡ stage_array) × (self.now.station.discharge_array ≡ discharge_array) }
+    {
+        self.gap == gap
+            && self.stage_array == stage_array
+            && self.discharge_array == discharge_array
+    }
+
+    /// Whether a day has a reading that is used, and so has inputs.
+    pub(crate) fn is_filled(&self, day: Day) -> bool
+        ensures { result ≡ has_inputs (station_day self.now.station day) }
+    {
+        has_used(self.of_day(day))
+    }
+
+    /// Puts readings, each in place of the one at its instant. There is room for them, so no memory is taken.
+    pub(crate) fn put(&mut self, readings: &[Reading])
+        requires room { length readings.now ≤ self.old.spare }
+        requires lawful { All IsPutReading readings.now }
+        ensures { self.new.station ≡ with_readings readings.now self.old.station }
+    {
+        put_each(&mut self.readings, readings);
+    }
+
+    /// Describes the station anew: its zone and its readings stay.
+    pub(crate) fn describe(
+        &mut self,
+        name: Name,
+        gap: u32,
+        stage_array: RoundingArray,
+        discharge_array: RoundingArray,
+    )
+        requires gap_low { 1 ≤ gap }
+        requires gap_high { gap ≤ most_gap }
+        ensures station { self.new.station ≡ described name gap stage_array discharge_array self.old.station }
+        ensures spare { self.new.spare ≡ self.old.spare }
+    {
+        self.name = name;
+        self.gap = gap;
+        self.stage_array = stage_array;
+        self.discharge_array = discharge_array;
+    }
+}
+
+/// Whether some reading is used.
+fn has_used(readings: &[Reading]) -> bool
+    ensures { result ≡ is_some (find is_used readings.now) }
+{
+    first_used(readings).is_some()
+}
+
+/// The first reading that is used.
+fn first_used(readings: &[Reading]) -> Option<Reading>
+    ensures { result ≡ find is_used readings.now }
+{
+    readings.iter().copied().find(|reading| is_usable(reading))
+}
+
+/// Whether a reading may be used: it is not erroneous.
+fn is_usable(reading: &Reading) -> bool
+    ensures { result ≡ is_used reading.now }
+{
+    reading.flag != Flag::Erroneous
+}
+
+/// Puts readings, for which there is room.
+fn put_each(kept: &mut Readings, readings: &[Reading])
+    requires { length readings.now ≤ kept.old.spare }
+    ensures { kept.new.list ≡ put_all readings.now kept.old.list }
+{
+    for reading in readings {
+        kept.put(*reading);
+    }
+}

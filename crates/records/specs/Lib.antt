@@ -1,5 +1,3 @@
-pub mod Edits
-pub mod FirstPath
 pub mod Payloads
 pub mod Reading
 pub mod Drafts

@@ -1,12 +1,15 @@
 -- The bytes of a record, one spelling for each. Numbers stand with their lowest byte first.
-use Rattle.std.specs.Prelude.{ℕ, List, [], ◌∷◌, ◌++◌, length, ℤ}
+use Rattle.std.specs.Prelude.{ℕ, ◌^◌, List, [], ◌∷◌, ◌++◌, length, flat_map, ℤ}
 use Rattle.std.specs.Int.{w32, w64, to_le_bytes, cast_unsigned}
+use Rattle.edits.specs.Texts.{AreInitials, IsReference}
+use Rattle.edits.specs.declared.content.Edit.{Edit}
+use Rattle.edits.specs.declared.content.What.{What}
+use Rattle.edits.specs.declared.content.What.TheVariants.{AddStation, SetStation, PutReadings}
 use Rattle.fixed_units.specs.Quantities.{SiteNumber, IsSite}
-use Rattle.records.specs.Edits.{AreInitials, IsReference}
-use Rattle.records.specs.declared.edits.Edit.{Edit}
-use Rattle.records.specs.declared.edits.Record.{Record}
-use Rattle.records.specs.declared.edits.What.{What}
-use Rattle.records.specs.declared.edits.What.TheVariants.{PutReadings}
+use Rattle.fixed_units.specs.declared.readings.Flag.{Flag}
+use Rattle.fixed_units.specs.declared.readings.Flag.TheVariants.{Usable, Erroneous, Affected}
+use Rattle.fixed_units.specs.declared.readings.Reading.{Reading}
+use Rattle.records.specs.declared.payloads.Record.{Record}
 
 -- a byte of length, and that many bytes
 abbrev pub short_text : List ℕ → List ℕ
@@ -19,28 +22,52 @@ signed_number n = to_le_bytes w64 (cast_unsigned w64 n)
 abbrev pub site_number : SiteNumber → List ℕ
 site_number site = site.digits ∷ to_le_bytes w64 site.value
 
--- the kind of an edit, and its own fields: how many readings, and of each its instant, its stage and its flag
+-- a reading: its instant, its stage and its flag
+abbrev pub flag_number : Flag → ℕ
+flag_number Usable = 0
+flag_number Erroneous = 1
+flag_number Affected = 2
+
+abbrev pub reading_bytes : Reading → List ℕ
+reading_bytes reading = signed_number reading.at ++ signed_number reading.raw ++ flag_number reading.flag ∷ []
+
+-- the kind of an edit
 abbrev pub kind : What → ℕ
-kind (PutReadings at raw) = 3
+kind (AddStation name zone gap stage_array discharge_array) = 1
+kind (SetStation name gap stage_array discharge_array) = 2
+kind (PutReadings readings) = 3
 
+-- the fields of each kind
 abbrev pub fields : What → List ℕ
-fields (PutReadings at raw) = to_le_bytes w32 1 ++ signed_number at ++ signed_number raw ++ 0 ∷ []
+fields (AddStation name zone gap stage_array discharge_array) =
+    short_text name ++ short_text zone ++ to_le_bytes w32 gap ++ stage_array ++ discharge_array
+fields (SetStation name gap stage_array discharge_array) =
+    short_text name ++ to_le_bytes w32 gap ++ stage_array ++ discharge_array
+fields (PutReadings readings) = to_le_bytes w32 (length readings) ++ flat_map reading_bytes readings
 
--- an edit by its parts: who makes it, under which reference, of which station, and what it is
-abbrev pub bytes_of_parts : List ℕ → List ℕ → SiteNumber → What → List ℕ
-bytes_of_parts by reference site what = kind what ∷ short_text by ++ short_text reference ++ site_number site ++ fields what
-
+-- an edit: its kind, who makes it, under which reference, of which station, and the fields of its kind
 abbrev pub edit_bytes : Edit → List ℕ
-edit_bytes edit = bytes_of_parts edit.by edit.reference edit.site edit.what
+edit_bytes edit = kind edit.what ∷ short_text edit.by ++ short_text edit.reference ++ site_number edit.site ++ fields edit.what
 
 abbrev pub payload : Record → List ℕ
 payload piece = edit_bytes piece.edit
+
+-- a payload has at most so many bytes
+abbrev pub most_payload : ℕ
+most_payload = 8_388_608
 
 -- the length of the payload in four bytes, and the payload
 abbrev pub encoded : Record → List ℕ
 encoded piece = to_le_bytes w32 (length (payload piece)) ++ payload piece
 
--- an edit in the grammar: each of its parts keeps to its range, what it changes among them
+-- a record as it is added to a journal: with a closed gate behind it
+abbrev pub closed_gate : ℕ
+closed_gate = 0
+
+abbrev pub encoded_and_closed : Record → List ℕ
+encoded_and_closed piece = encoded piece ++ closed_gate ∷ []
+
+-- an edit in the grammar: each of its parts keeps to its range; what it changes is lawful, as with every edit
 pub record IsInGrammar (edit : Edit) : Type 0 where
   pub initials : AreInitials edit.by
   pub code : IsReference edit.reference

@@ -1,14 +1,18 @@
 //! The parts of a payload that was read: their ranges, and the record that they make.
 
-ghost use Rattle.std.specs.Prelude.{◌≡◌, ◌↔◌, true, IfOk};
+ghost use Rattle.std.specs.Prelude.{◌≡◌, ◌↔◌, true, IfOk, OnErr, ◌∷◌, []};
+ghost use Rattle.edits.specs.Lawful.{IsLawful, ArePutReadings, IsStationZone};
+ghost use Rattle.edits.specs.Texts.{AreInitials, IsName, IsReference};
+ghost use Rattle.edits.specs.declared.content.What.TheVariants.{PutReadings};
 ghost use Rattle.fixed_units.specs.Quantities.{IsSite, IsStamp, IsStage};
-ghost use Rattle.records.specs.Edits.{AreInitials, IsReference};
-ghost use Rattle.records.specs.Drafts.{parts, AreLawful, AreFirst, HasParts};
-ghost use Rattle.records.specs.declared.edits.What.TheVariants.{PutReadings};
+ghost use Rattle.fixed_units.specs.RoundingArray.{IsRoundingArray};
+ghost use Rattle.records.specs.Drafts.{parts, what_of, AreLawful, HasParts};
+ghost use Rattle.records.specs.Reading.{usable};
 
-use crate::edits::{By, Edit, Record, Ref, What, are_initials, is_reference};
-use crate::first_path::{is_first_by, is_first_site, number_of};
-use fixed_units::{Micro, NoMemory, Second, Site, Text, is_stage, is_stamp};
+use crate::payloads::Record;
+use edits::{By, Edit, Name, Ref, What, are_put_readings, are_settings, is_zone};
+use fixed_units::{Flag, Micro, NoMemory, Reading, RoundingArray, Second, Site, Text, is_stage, is_stamp};
+use readings::ReadingList;
 use std::alloc::Global;
 
 /// The parts of a payload as they stand in its bytes, whatever their ranges.
@@ -18,28 +22,97 @@ pub(crate) struct Draft<'a> {
     pub(crate) reference: &'a [u8],
     pub(crate) digits: u8,
     pub(crate) value: u64,
-    pub(crate) at: i64,
-    pub(crate) raw: i64,
+    pub(crate) fields: Fields<'a>,
 }
 
-/// Whether each part keeps to its range.
-pub(crate) fn is_lawful(draft: &Draft<'_>) -> bool
-    ensures { result ≡ true ↔ AreLawful (parts draft.now) }
+/// The fields of each kind of edit.
+#[derive(Drop)]
+pub(crate) enum Fields<'a> {
+    /// A station that is added.
+    Addition {
+        name: &'a [u8],
+        zone: &'a [u8],
+        gap: u32,
+        stage_array: &'a [u8],
+        discharge_array: &'a [u8],
+    },
+    /// A station that is set.
+    Setting {
+        name: &'a [u8],
+        gap: u32,
+        stage_array: &'a [u8],
+        discharge_array: &'a [u8],
+    },
+    /// One usable reading that is put.
+    Put { at: i64, raw: i64 },
+}
+
+/// Whether each part keeps to its range. `NoMemory` comes only where each does.
+pub(crate) fn is_lawful(alloc: Global, draft: &Draft<'_>) -> Result<bool, NoMemory>
+    ensures told { IfOk result (λ lawful. lawful ≡ true ↔ AreLawful (parts draft.now)) }
+    ensures memory { OnErr result (AreLawful (parts draft.now)) }
 {
-    are_initials(draft.by)
-        && is_reference(draft.reference)
+    if !is_sender(draft) {
+        return Ok(false);
+    }
+    are_lawful(alloc, &draft.fields)
+}
+
+/// Whether initials, reference and site keep to their ranges.
+fn is_sender(draft: &Draft<'_>) -> bool
+    ensures { result ≡ true ↔ (AreInitials draft.now.by.now) × (IsReference draft.now.reference.now) × (IsSite (record { digits = draft.now.digits; value = draft.now.value })) }
+{
+    By::new(draft.by).is_some()
+        && Ref::new(draft.reference).is_some()
         && Site::new(draft.digits, draft.value).is_some()
-        && is_stamp(draft.at)
-        && is_stage(draft.raw)
 }
 
-/// Whether the parts are those of an edit of the first path, of whatever number.
-pub(crate) fn is_first(draft: &Draft<'_>) -> bool
-    ensures { result ≡ true ↔ AreFirst (parts draft.now) }
+/// Whether the fields are those of a lawful edit. `NoMemory` comes only where they are.
+fn are_lawful(alloc: Global, fields: &Fields<'_>) -> Result<bool, NoMemory>
+    ensures told { IfOk result (λ lawful. lawful ≡ true ↔ IsLawful (what_of fields.now)) }
+    ensures memory { OnErr result (IsLawful (what_of fields.now)) }
 {
-    is_first_by(draft.by)
-        && is_first_site(draft.digits, draft.value)
-        && number_of(draft.reference).is_some()
+    match fields {
+        Fields::Addition {
+            name,
+            zone,
+            gap,
+            stage_array,
+            discharge_array,
+        } => {
+            if !are_settings(name, *gap, stage_array, discharge_array) {
+                return Ok(false);
+            }
+            is_zone(alloc, zone)
+        }
+        Fields::Setting {
+            name,
+            gap,
+            stage_array,
+            discharge_array,
+        } => Ok(are_settings(name, *gap, stage_array, discharge_array)),
+        Fields::Put { at, raw } => Ok(is_put(*at, *raw)),
+    }
+}
+
+/// Whether the reading may be put.
+fn is_put(at: i64, raw: i64) -> bool
+    ensures { result ≡ true ↔ ArePutReadings (usable at raw ∷ []) }
+{
+    is_stamp(at) && is_stage(raw) && are_put_readings(&[usable_reading(at, raw)])
+}
+
+/// The usable reading of that stage at that instant.
+fn usable_reading(at: i64, raw: i64) -> Reading
+    requires stamp { IsStamp at }
+    requires stage { IsStage raw }
+    ensures { result ≡ usable at raw }
+{
+    Reading {
+        at: Second::new(at).unwrap(),
+        raw: Micro::new(raw).unwrap(),
+        flag: Flag::Usable,
+    }
 }
 
 /// The record that the parts make.
@@ -47,41 +120,75 @@ pub(crate) fn record_from(alloc: Global, draft: &Draft<'_>) -> Result<Record, No
     requires { AreLawful (parts draft.now) }
     ensures { IfOk result (λ piece. HasParts piece (parts draft.now)) }
 {
+    let what = what_from(alloc, &draft.fields)?;
     Ok(Record {
         edit: Edit {
-            by: by_from(alloc, draft.by)?,
-            reference: reference_from(alloc, draft.reference)?,
+            by: By::new(draft.by).unwrap(),
+            reference: Ref::new(draft.reference).unwrap(),
             site: Site::new(draft.digits, draft.value).unwrap(),
-            what: what_from(draft.at, draft.raw),
+            what,
         },
     })
 }
 
-fn by_from(alloc: Global, letters: &[u8]) -> Result<By, NoMemory>
-    requires { AreInitials letters.now }
-    ensures { IfOk result (λ by. by ≡ letters.now) }
+/// What an edit of these fields changes.
+fn what_from(alloc: Global, fields: &Fields<'_>) -> Result<What, NoMemory>
+    requires { IsLawful (what_of fields.now) }
+    ensures { IfOk result (λ what. what ≡ what_of fields.now) }
 {
-    let mut text = Text::new(alloc);
-    text.push_slice(letters)?;
-    Ok(By::new(text).unwrap())
-}
-
-fn reference_from(alloc: Global, codes: &[u8]) -> Result<Ref, NoMemory>
-    requires { IsReference codes.now }
-    ensures { IfOk result (λ reference. reference ≡ codes.now) }
-{
-    let mut text = Text::new(alloc);
-    text.push_slice(codes)?;
-    Ok(Ref::new(text).unwrap())
-}
-
-pub(crate) fn what_from(at: i64, raw: i64) -> What
-    requires stamp { IsStamp at }
-    requires stage { IsStage raw }
-    ensures { result ≡ PutReadings at raw }
-{
-    What::PutReadings {
-        at: Second::new(at).unwrap(),
-        raw: Micro::new(raw).unwrap(),
+    match fields {
+        Fields::Addition {
+            name,
+            zone,
+            gap,
+            stage_array,
+            discharge_array,
+        } => Ok(What::AddStation {
+            name: name_from(alloc, name)?,
+            zone: name_from(alloc, zone)?,
+            gap: *gap,
+            stage_array: array_from(stage_array),
+            discharge_array: array_from(discharge_array),
+        }),
+        Fields::Setting {
+            name,
+            gap,
+            stage_array,
+            discharge_array,
+        } => Ok(What::SetStation {
+            name: name_from(alloc, name)?,
+            gap: *gap,
+            stage_array: array_from(stage_array),
+            discharge_array: array_from(discharge_array),
+        }),
+        Fields::Put { at, raw } => put_from(alloc, *at, *raw),
     }
+}
+
+/// The put of one usable reading.
+fn put_from(alloc: Global, at: i64, raw: i64) -> Result<What, NoMemory>
+    requires { ArePutReadings (usable at raw ∷ []) }
+    ensures { IfOk result (λ what. what ≡ PutReadings (usable at raw ∷ [])) }
+{
+    let mut readings = Vec::new(alloc);
+    readings.push(usable_reading(at, raw))?;
+    Ok(What::PutReadings {
+        readings: ReadingList::from_vec(readings),
+    })
+}
+
+fn name_from(alloc: Global, bytes: &[u8]) -> Result<Name, NoMemory>
+    requires { IsName bytes.now }
+    ensures { IfOk result (λ name. name ≡ bytes.now) }
+{
+    let mut text = Text::new(alloc);
+    text.push_slice(bytes)?;
+    Ok(Name::new(text).unwrap())
+}
+
+fn array_from(bytes: &[u8]) -> RoundingArray
+    requires { IsRoundingArray bytes.now }
+    ensures { result ≡ bytes.now }
+{
+    RoundingArray::read(bytes).unwrap()
 }

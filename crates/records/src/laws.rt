@@ -1,11 +1,10 @@
 //! What the spelling of records says as a whole, as laws. An edit's types promise that it is in the grammar.
 
 ghost use Rattle.std.specs.Prelude.{◌≡◌, ◌≤◌, ◌<◌, ◌+◌, ◌++◌, ℕ, List, length, All};
-ghost use Rattle.records.specs.FirstPath.{IsBuiltIn};
-ghost use Rattle.records.specs.Payloads.{IsInGrammar, payload, encoded};
-ghost use Rattle.records.specs.declared.edits.Record.{Record};
+ghost use Rattle.records.specs.Payloads.{IsInGrammar, payload, most_payload, encoded};
+ghost use Rattle.records.specs.declared.payloads.Record.{Record};
 
-use crate::edits::Record;
+use crate::payloads::Record;
 
 /// A payload is that of at most one record.
 pub fn payload_of_one_record()
@@ -26,15 +25,10 @@ pub fn keeps_grammar(piece: &Record)
     let _digits = piece.edit.site.digits();
 }
 
-/// A record of the first path is in the grammar.
-pub fn built_in_keeps_grammar()
-    ensures { (piece : Record) → IsBuiltIn piece → IsInGrammar piece.edit }
-{}
-
-/// How long a record's bytes are, and that they are bytes.
+/// How long a record's bytes are, and that they are bytes. No payload passes what the format allows.
 pub fn sizes()
     ensures length { (piece : Record) → length (encoded piece) ≡ 4 + length (payload piece) }
-    ensures few { (piece : Record) → IsInGrammar piece.edit → length (payload piece) ≤ 81 }
-    ensures built_in { (piece : Record) → IsBuiltIn piece → length (payload piece) ≤ 56 }
+    ensures few { (piece : Record) → IsInGrammar piece.edit → length (payload piece) ≤ 206 }
+    ensures most { (piece : Record) → IsInGrammar piece.edit → length (payload piece) ≤ most_payload }
     ensures bytes { (piece : Record) → IsInGrammar piece.edit → All (λ byte. byte < 256) (encoded piece) }
 {}

@@ -1,13 +1,10 @@
-//! Edits of the record, and their bytes in the journal.
+//! The bytes of accepted edits in the journal.
 #![tactic(auto)]
 
 mod drafts;
-pub mod edits;
-pub mod first_path;
 pub mod laws;
 pub mod payloads;
 mod reading;
 mod writing;
 
-pub use edits::{By, Edit, Record, Ref, What};
-pub use payloads::{DecodeFault, decode, encode};
+pub use payloads::{DecodeFault, Record, decode, encode, encode_and_close};

@@ -2,10 +2,10 @@
 
 ghost use Rattle.std.specs.Prelude.{◌≡◌, option_map};
 ghost use Rattle.std.specs.Int.{w32, w64};
-ghost use Rattle.records.specs.Drafts.{parts};
-ghost use Rattle.records.specs.Reading.{byte_at, number_at, short_text_at, signed_number_at, site_number_at, reading_at, parts_at};
+ghost use Rattle.records.specs.Drafts.{parts, what_of};
+ghost use Rattle.records.specs.Reading.{byte_at, number_at, front_at, short_text_at, signed_number_at, site_number_at, sender_at, arrays_at, addition_at, setting_at, reading_at, put_at, fields_at, parts_at};
 
-use crate::drafts::Draft;
+use crate::drafts::{Draft, Fields};
 
 /// The parts of a whole payload, with nothing behind the last.
 #[tactic(auto, unfolding(crate::specs::Reading::parts_at))]
@@ -13,25 +13,100 @@ pub(crate) fn draft_of(bytes: &[u8]) -> Option<Draft<'_>>
     ensures { option_map parts result ≡ parts_at bytes.now }
 {
     let (kind, rest) = byte_of(bytes)?;
-    let (by, rest) = short_text_of(rest)?;
-    let (reference, rest) = short_text_of(rest)?;
-    let ((digits, value), rest) = site_of(rest)?;
-    let ((at, raw), rest) = reading_of(rest)?;
-    if kind == 3 && rest.is_empty() {
+    let ((by, (reference, (digits, value))), rest) = sender_of(rest)?;
+    let (fields, rest) = fields_of(kind, rest)?;
+    if rest.is_empty() {
         Some(Draft {
             by,
             reference,
             digits,
             value,
-            at,
-            raw,
+            fields,
         })
     } else {
         None
     }
 }
 
-/// The fields of one usable reading that is put: its instant and its stage.
+/// Who makes an edit, under which reference, of which station.
+#[tactic(auto, unfolding(crate::specs::Reading::sender_at))]
+fn sender_of(bytes: &[u8]) -> Option<((&[u8], (&[u8], (u8, u64))), &[u8])>
+    ensures { option_map (λ x. ((x.0.0.now, (x.0.1.0.now, record { digits = x.0.1.1.0; value = x.0.1.1.1 })), x.1.now)) result ≡ sender_at bytes.now }
+{
+    let (by, rest) = short_text_of(bytes)?;
+    let (reference, rest) = short_text_of(rest)?;
+    let (site, rest) = site_of(rest)?;
+    Some(((by, (reference, site)), rest))
+}
+
+/// The fields of a kind.
+#[tactic(auto, unfolding(crate::specs::Reading::fields_at))]
+fn fields_of(kind: u8, bytes: &[u8]) -> Option<(Fields<'_>, &[u8])>
+    ensures { option_map (λ x. (what_of x.0, x.1.now)) result ≡ fields_at kind bytes.now }
+{
+    match kind {
+        1 => addition_of(bytes),
+        2 => setting_of(bytes),
+        3 => put_of(bytes),
+        _ => None,
+    }
+}
+
+/// The fields of a station that is added.
+#[tactic(auto, unfolding(crate::specs::Reading::addition_at))]
+fn addition_of(bytes: &[u8]) -> Option<(Fields<'_>, &[u8])>
+    ensures { option_map (λ x. (what_of x.0, x.1.now)) result ≡ addition_at bytes.now }
+{
+    let (name, rest) = short_text_of(bytes)?;
+    let (zone, rest) = short_text_of(rest)?;
+    let ((gap, (stage_array, discharge_array)), rest) = arrays_of(rest)?;
+    let fields = Fields::Addition {
+        name,
+        zone,
+        gap,
+        stage_array,
+        discharge_array,
+    };
+    Some((fields, rest))
+}
+
+/// The fields of a station that is set.
+#[tactic(auto, unfolding(crate::specs::Reading::setting_at))]
+fn setting_of(bytes: &[u8]) -> Option<(Fields<'_>, &[u8])>
+    ensures { option_map (λ x. (what_of x.0, x.1.now)) result ≡ setting_at bytes.now }
+{
+    let (name, rest) = short_text_of(bytes)?;
+    let ((gap, (stage_array, discharge_array)), rest) = arrays_of(rest)?;
+    let fields = Fields::Setting {
+        name,
+        gap,
+        stage_array,
+        discharge_array,
+    };
+    Some((fields, rest))
+}
+
+/// The fields of one usable reading that is put.
+#[tactic(auto, unfolding(crate::specs::Reading::put_at))]
+fn put_of(bytes: &[u8]) -> Option<(Fields<'_>, &[u8])>
+    ensures { option_map (λ x. (what_of x.0, x.1.now)) result ≡ put_at bytes.now }
+{
+    let ((at, raw), rest) = reading_of(bytes)?;
+    Some((Fields::Put { at, raw }, rest))
+}
+
+/// A gap tolerance and two rounding arrays.
+#[tactic(auto, unfolding(crate::specs::Reading::arrays_at))]
+fn arrays_of(bytes: &[u8]) -> Option<((u32, (&[u8], &[u8])), &[u8])>
+    ensures { option_map (λ x. ((x.0.0, (x.0.1.0.now, x.0.1.1.now)), x.1.now)) result ≡ arrays_at bytes.now }
+{
+    let (gap, rest) = u32_of(bytes)?;
+    let (stage_array, rest) = front_of(rest, 10)?;
+    let (discharge_array, rest) = front_of(rest, 10)?;
+    Some(((gap, (stage_array, discharge_array)), rest))
+}
+
+/// The instant and the stage of one usable reading: its count stands before them and its flag behind.
 #[tactic(auto, unfolding(crate::specs::Reading::reading_at))]
 fn reading_of(bytes: &[u8]) -> Option<((i64, i64), &[u8])>
     ensures { option_map (λ x. (x.0, x.1.now)) result ≡ reading_at bytes.now }
@@ -63,7 +138,14 @@ fn short_text_of(bytes: &[u8]) -> Option<(&[u8], &[u8])>
     ensures { option_map (λ x. (x.0.now, x.1.now)) result ≡ short_text_at bytes.now }
 {
     let (len, rest) = byte_of(bytes)?;
-    rest.split_at_checked(usize::from(len))
+    front_of(rest, usize::from(len))
+}
+
+/// So many bytes.
+fn front_of(bytes: &[u8], count: usize) -> Option<(&[u8], &[u8])>
+    ensures { option_map (λ x. (x.0.now, x.1.now)) result ≡ front_at count bytes.now }
+{
+    bytes.split_at_checked(count)
 }
 
 #[tactic(auto, unfolding(crate::specs::Reading::signed_number_at))]

@@ -1,12 +1,12 @@
 //! The bytes of an edit's parts, added to a vector.
 
-ghost use Rattle.std.specs.Prelude.{◌≡◌, ◌≤◌, ◌<◌, ◌++◌, ◌∷◌, [], length, OnOk};
+ghost use Rattle.std.specs.Prelude.{◌≡◌, ◌≤◌, ◌<◌, ◌++◌, ◌∷◌, [], length, flat_map, OnOk};
 ghost use Rattle.std.specs.Int.{w32, w64, to_le_bytes};
-ghost use Rattle.records.specs.Edits.{AreInitials, IsReference};
-ghost use Rattle.records.specs.Payloads.{short_text, signed_number, site_number, kind, fields, edit_bytes};
+ghost use Rattle.edits.specs.Lawful.{IsLawful};
+ghost use Rattle.records.specs.Payloads.{short_text, signed_number, site_number, flag_number, reading_bytes, kind, fields, edit_bytes};
 
-use crate::edits::{Edit, What};
-use fixed_units::{Micro, NoMemory, Second, Site};
+use edits::{Edit, What};
+use fixed_units::{Flag, NoMemory, Reading, RoundingArray, Site};
 
 /// How many bytes the kind, the site and the lengths of the texts take.
 const FRAME: usize = 12;
@@ -14,18 +14,21 @@ const FRAME: usize = 12;
 /// How many bytes an edit takes.
 pub(crate) fn edit_len(edit: &Edit) -> usize
     ensures value { result ≡ length (edit_bytes edit.now) }
-    ensures few { result ≤ 85 }
+    ensures few { result ≤ 206 }
 {
-    FRAME + edit.by.as_slice().len() + edit.reference.as_slice().len() + fields_len(edit.what)
+    FRAME + edit.by.as_slice().len() + edit.reference.as_slice().len() + fields_len(&edit.what)
 }
 
 /// How many bytes the fields of a kind take.
-fn fields_len(what: What) -> usize
-    ensures value { result ≡ length (fields what) }
-    ensures few { result ≤ 21 }
+fn fields_len(what: &What) -> usize
+    requires { IsLawful what.now }
+    ensures value { result ≡ length (fields what.now) }
+    ensures few { result ≤ 146 }
 {
     match what {
-        What::PutReadings { .. } => 21,
+        What::AddStation { name, zone, .. } => 26 + name.as_slice().len() + zone.as_slice().len(),
+        What::SetStation { name, .. } => 25 + name.as_slice().len(),
+        What::PutReadings { readings } => 4 + 17 * readings.as_slice().len(),
     }
 }
 
@@ -33,18 +36,20 @@ fn fields_len(what: What) -> usize
 pub(crate) fn put_edit(out: &mut Vec<u8>, edit: &Edit) -> Result<(), NoMemory>
     ensures { OnOk result (out.new.items ≡ out.old.items ++ edit_bytes edit.now) }
 {
-    out.push(kind_of(edit.what))?;
+    out.push(kind_of(&edit.what))?;
     put_short_text(out, edit.by.as_slice())?;
     put_short_text(out, edit.reference.as_slice())?;
     put_site(out, edit.site)?;
-    put_fields(out, edit.what)
+    put_fields(out, &edit.what)
 }
 
 /// The number of a kind of edit.
-fn kind_of(what: What) -> u8
-    ensures { result ≡ kind what }
+fn kind_of(what: &What) -> u8
+    ensures { result ≡ kind what.now }
 {
     match what {
+        What::AddStation { .. } => 1,
+        What::SetStation { .. } => 2,
         What::PutReadings { .. } => 3,
     }
 }
@@ -69,37 +74,74 @@ fn put_site(out: &mut Vec<u8>, site: Site) -> Result<(), NoMemory>
 }
 
 /// Adds the fields of a kind.
-fn put_fields(out: &mut Vec<u8>, what: What) -> Result<(), NoMemory>
-    ensures { OnOk result (out.new.items ≡ out.old.items ++ fields what) }
+fn put_fields(out: &mut Vec<u8>, what: &What) -> Result<(), NoMemory>
+    requires { IsLawful what.now }
+    ensures { OnOk result (out.new.items ≡ out.old.items ++ fields what.now) }
 {
     match what {
-        What::PutReadings { at, raw } => put_reading(out, at, raw),
+        What::AddStation {
+            name,
+            zone,
+            gap,
+            stage_array,
+            discharge_array,
+        } => {
+            put_short_text(out, name.as_slice())?;
+            put_short_text(out, zone.as_slice())?;
+            put_arrays(out, *gap, *stage_array, *discharge_array)
+        }
+        What::SetStation {
+            name,
+            gap,
+            stage_array,
+            discharge_array,
+        } => {
+            put_short_text(out, name.as_slice())?;
+            put_arrays(out, *gap, *stage_array, *discharge_array)
+        }
+        What::PutReadings { readings } => put_readings(out, readings.as_slice()),
     }
 }
 
-/// Adds that one reading follows, its instant, its stage, and the flag of a usable reading.
-fn put_reading(out: &mut Vec<u8>, at: Second, raw: Micro) -> Result<(), NoMemory>
-    ensures { OnOk result (out.new.items ≡ out.old.items ++ to_le_bytes w32 1 ++ signed_number at ++ signed_number raw ++ 0 ∷ []) }
+/// Adds a gap tolerance and two rounding arrays.
+fn put_arrays(out: &mut Vec<u8>, gap: u32, stage_array: RoundingArray, discharge_array: RoundingArray) -> Result<(), NoMemory>
+    ensures { OnOk result (out.new.items ≡ out.old.items ++ to_le_bytes w32 gap ++ stage_array ++ discharge_array) }
 {
-    out.extend_from_slice(&1_u32.to_le_bytes())?;
-    put_second(out, at)?;
-    put_micro(out, raw)?;
-    out.push(0)?;
+    out.extend_from_slice(&gap.to_le_bytes())?;
+    out.extend_from_slice(&stage_array.digits())?;
+    out.extend_from_slice(&discharge_array.digits())?;
     Ok(())
 }
 
-/// Adds an instant.
-fn put_second(out: &mut Vec<u8>, at: Second) -> Result<(), NoMemory>
-    ensures { OnOk result (out.new.items ≡ out.old.items ++ signed_number at) }
+/// Adds how many readings follow, and the readings.
+fn put_readings(out: &mut Vec<u8>, readings: &[Reading]) -> Result<(), NoMemory>
+    requires { length readings.now < 4_294_967_296 }
+    ensures { OnOk result (out.new.items ≡ out.old.items ++ to_le_bytes w32 (length readings.now) ++ flat_map reading_bytes readings.now) }
 {
-    out.extend_from_slice(&at.get().to_le_bytes())?;
+    out.extend_from_slice(&(readings.len() as u32).to_le_bytes())?;
+    for reading in readings {
+        put_reading(out, *reading)?;
+    }
     Ok(())
 }
 
-/// Adds a quantity.
-fn put_micro(out: &mut Vec<u8>, amount: Micro) -> Result<(), NoMemory>
-    ensures { OnOk result (out.new.items ≡ out.old.items ++ signed_number amount) }
+/// Adds the instant of a reading, its stage and its flag.
+fn put_reading(out: &mut Vec<u8>, reading: Reading) -> Result<(), NoMemory>
+    ensures { OnOk result (out.new.items ≡ out.old.items ++ reading_bytes reading) }
 {
-    out.extend_from_slice(&amount.get().to_le_bytes())?;
+    out.extend_from_slice(&reading.at.get().to_le_bytes())?;
+    out.extend_from_slice(&reading.raw.get().to_le_bytes())?;
+    out.push(flag_of(reading.flag))?;
     Ok(())
+}
+
+/// The number of a flag.
+fn flag_of(flag: Flag) -> u8
+    ensures { result ≡ flag_number flag }
+{
+    match flag {
+        Flag::Usable => 0,
+        Flag::Erroneous => 1,
+        Flag::Affected => 2,
+    }
 }

@@ -1,5 +1,5 @@
 -- The inputs of a day of a station: whether there are any, what they keep to, and what leaves them as they are.
-use Rattle.std.specs.Prelude.{◌≡◌, ◌≢◌, ◌≤◌, ◌*◌, ℕ, Bool, true, false, not, ◌&&◌, ◌==◌, cond, List, [], ◌∷◌, ◌++◌, filter, find, is_some, Option, Some, None, option_to_list, All, ℤ, pos, ◌+ℤ◌}
+use Rattle.std.specs.Prelude.{◌≡◌, ◌≢◌, ◌↔◌, ◌≤◌, ◌*◌, ℕ, Bool, true, false, not, ◌&&◌, ◌==◌, cond, List, [], ◌∷◌, ◌++◌, filter, find, is_some, Option, Some, None, option_to_list, All, ℤ, pos, ◌+ℤ◌}
 use Rattle.std.specs.Bool.{Decides}
 use Rattle.std.proofs.Common.{arith, refl, ap, sym, subst, ◌∙◌}
 use Rattle.std.proofs.lemmas.Int.{ints}
@@ -10,14 +10,17 @@ use Rattle.fixed_units.specs.declared.readings.Reading.{Reading}
 use Rattle.readings.specs.Readings.{IsRising, is_used, put, put_all}
 use Rattle.readings.specs.Window.{inner, of_day, window, with_neighbours, neighbour_before, neighbour_after}
 use Rattle.readings.proofs.WindowLemmas.{window_keeps, window_rises, put_keeps, put_rises}
+use Rattle.readings.specs.Equality.{same_readings}
+use Rattle.readings.proofs.EqualityLemmas.{lists_decide}
 use Rattle.readings.proofs.WindowParts.{inner_found}
 use Rattle.civil_days.specs.Starts.{IsDayLength}
 use Rattle.day_inputs.specs.DayInputs.{AreParts, day_inputs, with_window, most_gap}
 use Rattle.day_inputs.specs.Equality.{same_inputs}
 use Rattle.day_inputs.proofs.EqualityLemmas.{Decides-same_inputs}
 use Rattle.day_inputs.specs.declared.day_inputs.DayInputs.{DayInputs}
+use Rattle.day_inputs.specs.declared.day_inputs.DayParts.{DayParts}
 use Rattle.day_inputs.specs.declared.day_inputs.DayInputs.TheVariants.{Empty, Day}
-use Rattle.office_inputs.specs.Stations.{StationRecord, station_day, day_start, described, with_readings}
+use Rattle.office_inputs.specs.Stations.{StationRecord, station_day, station_window, day_start, described, with_readings}
 use Rattle.office_inputs.specs.KeptStation.{AreReadings, KeptStation}
 use Rattle.office_inputs.specs.Touched.{has_inputs}
 
@@ -200,3 +203,72 @@ pub altered_kept : (kept view : KeptStation) → view ≡ kept → (day : ℤ) (
     → AlteredDay day r from until altered view kept
 altered_kept kept view e day r from until altered =
     subst (λ (k : KeptStation). AlteredDay day r from until altered view k) e (altered_day view.station day r from until altered)
+
+-- a day has these inputs exactly where the settings, the bounds and a window that is there agree
+abbrev pub HasParts : StationRecord → ℤ → DayParts → Type 0
+HasParts s day p =
+    ((s.gap ≡ p.gap) × (s.stage_array ≡ p.stage_array) × (s.discharge_array ≡ p.discharge_array))
+    × ((p.from ≡ day_start s day) × (p.until ≡ day_start s (day +ℤ pos 1)))
+    × (p.window ≡ station_window s day) × (p.window ≢ [])
+
+parts_step : (s : StationRecord) (day : ℤ) (p : DayParts) (w : List Reading)
+    → Day p ≡ with_window s.gap s.stage_array s.discharge_array (day_start s day) (day_start s (day +ℤ pos 1)) w
+    → ((s.gap ≡ p.gap) × (s.stage_array ≡ p.stage_array) × (s.discharge_array ≡ p.discharge_array))
+    × ((p.from ≡ day_start s day) × (p.until ≡ day_start s (day +ℤ pos 1)))
+    × (p.window ≡ w) × (p.window ≢ [])
+parts_step s day p [] e = absurd (cc)
+parts_step s day p (r ∷ rs) e =
+    let k : p ≡ record { gap = s.gap; stage_array = s.stage_array; discharge_array = s.discharge_array; from = day_start s day;
+        until = day_start s (day +ℤ pos 1); window = r ∷ rs } = cc in
+    let w = ap (λ (x : DayParts). x.window) k in
+    ((sym (ap (λ (x : DayParts). x.gap) k), sym (ap (λ (x : DayParts). x.stage_array) k), sym (ap (λ (x : DayParts). x.discharge_array) k)),
+    (ap (λ (x : DayParts). x.from) k, ap (λ (x : DayParts). x.until) k), w, λ n. absurd (cc))
+
+pub parts_told : (s : StationRecord) (day : ℤ) (p : DayParts) → Day p ≡ station_day s day → HasParts s day p
+parts_told s day p e = parts_step s day p (station_window s day) e
+
+parts_back : (s : StationRecord) (day : ℤ) (p : DayParts) (w : List Reading)
+    → ((s.gap ≡ p.gap) × (s.stage_array ≡ p.stage_array) × (s.discharge_array ≡ p.discharge_array))
+    → ((p.from ≡ day_start s day) × (p.until ≡ day_start s (day +ℤ pos 1))) → p.window ≡ w → p.window ≢ []
+    → Day p ≡ with_window s.gap s.stage_array s.discharge_array (day_start s day) (day_start s (day +ℤ pos 1)) w
+parts_back s day p [] a b e n = absurd (n e)
+parts_back s day p (r ∷ rs) a b e n =
+    let made : ℕ → List ℕ → List ℕ → ℤ → ℤ → List Reading → DayInputs =
+        λ g x y f u w. Day (record { gap = g; stage_array = x; discharge_array = y; from = f; until = u; window = w }) in
+    ap (λ g. made g p.stage_array p.discharge_array p.from p.until p.window) (sym a.0)
+    ∙ ap (λ x. made s.gap x p.discharge_array p.from p.until p.window) (sym a.1)
+    ∙ ap (λ y. made s.gap s.stage_array y p.from p.until p.window) (sym a.2)
+    ∙ ap (λ f. made s.gap s.stage_array s.discharge_array f p.until p.window) b.0
+    ∙ ap (λ u. made s.gap s.stage_array s.discharge_array (day_start s day) u p.window) b.1
+    ∙ ap (λ w. made s.gap s.stage_array s.discharge_array (day_start s day) (day_start s (day +ℤ pos 1)) w) e
+
+pub parts_are : (s : StationRecord) (day : ℤ) (p : DayParts) → HasParts s day p → Day p ≡ station_day s day
+parts_are s day p h = parts_back s day p (station_window s day) h.0 h.1 h.2 h.3
+
+-- the used ones of a day's readings with its neighbours are its window
+pub window_found : (s : StationRecord) (day from until : ℤ) (before after : Option Reading) (rs list : List Reading) (told : Bool)
+    → from ≡ day_start s day → until ≡ day_start s (day +ℤ pos 1)
+    → before ≡ neighbour_before from (pos (60 * s.gap)) s.readings → rs ≡ of_day from until s.readings
+    → after ≡ neighbour_after until (pos (60 * s.gap)) s.readings
+    → told ≡ same_readings (with_neighbours before (filter is_used rs) after) list
+    → told ≡ true ↔ list ≡ station_window s day
+window_found s day from until before after rs list told e f b i a t =
+    let used : filter is_used rs ≡ inner from until s.readings = ap (filter is_used) i ∙ inner_found from until s.readings in
+    let w : with_neighbours before (filter is_used rs) after ≡ station_window s day = rw (b, used, a, e, f) refl in
+    let d = lists_decide (with_neighbours before (filter is_used rs) after) list in
+    (λ k. sym (d.0 (sym t ∙ k)) ∙ w, λ k. t ∙ d.1 (w ∙ sym k))
+
+-- the same of a station that is kept with room
+abbrev WindowTold : ℤ → ℤ → ℤ → Option Reading → Option Reading → List Reading → List Reading → Bool → KeptStation → KeptStation → Type 0
+WindowTold day from until before after rs list told view kept =
+    from ≡ day_start kept.station day → until ≡ day_start kept.station (day +ℤ pos 1)
+    → before ≡ neighbour_before from (pos (60 * view.station.gap)) view.station.readings → rs ≡ of_day from until view.station.readings
+    → after ≡ neighbour_after until (pos (60 * view.station.gap)) view.station.readings
+    → told ≡ same_readings (with_neighbours before (filter is_used rs) after) list
+    → told ≡ true ↔ list ≡ station_window kept.station day
+
+pub window_kept : (kept view : KeptStation) → view ≡ kept → (day from until : ℤ) (before after : Option Reading) (rs list : List Reading) (told : Bool)
+    → WindowTold day from until before after rs list told view kept
+window_kept kept view e day from until before after rs list told =
+    subst (λ (k : KeptStation). WindowTold day from until before after rs list told view k) e
+    (window_found view.station day from until before after rs list told)

@@ -1,10 +1,10 @@
 -- The inputs in force: the record of each station that is kept, and what an edit makes of them.
-use Rattle.std.specs.Prelude.{ℕ, List, [], map, Bool, if◌then◌else◌, Option, Some, None, is_some, option_map, option_and_then, ℤ, ◌+ℤ◌, pos, fold}
-use Rattle.std.specs.Ordering.{int_eq}
+use Rattle.std.specs.Prelude.{ℕ, ◌*◌, List, [], Option, Some, None, ℤ, ◌+ℤ◌, pos, fold}
 use Rattle.fixed_units.specs.Quantities.{SiteNumber, site_place}
 use Rattle.fixed_units.specs.declared.readings.Reading.{Reading}
 use Rattle.rising.specs.Lists as lists
 use Rattle.readings.specs.Readings.{put_all}
+use Rattle.readings.specs.Window.{window}
 use Rattle.civil_days.specs.Starts.{day_start_of}
 use Rattle.day_inputs.specs.DayInputs.{day_inputs}
 use Rattle.day_inputs.specs.declared.day_inputs.DayInputs.{DayInputs}
@@ -31,9 +31,13 @@ place_of station = site_place station.site
 abbrev pub station_of : List StationRecord → SiteNumber → Option StationRecord
 station_of stations site = lists.at place_of (site_place site) stations
 
--- the stations with that of a site changed
+-- the stations with one that was found changed, and with that of a site changed, where it is kept
+abbrev pub with_changed : (StationRecord → StationRecord) → Option StationRecord → List StationRecord → List StationRecord
+with_changed change None stations = stations
+with_changed change (Some station) stations = lists.put place_of (change station) stations
+
 abbrev pub changed_at : SiteNumber → (StationRecord → StationRecord) → List StationRecord → List StationRecord
-changed_at site change stations = map (λ s. if int_eq (place_of s) (site_place site) then change s else s) stations
+changed_at site change stations = with_changed change (station_of stations site) stations
 
 -- a station as it is added: without readings
 abbrev pub new_station : SiteNumber → List ℕ → List ℕ → ℕ → List ℕ → List ℕ → StationRecord
@@ -68,6 +72,10 @@ stations_of edits = fold stations_after [] edits
 -- when a station's day begins
 abbrev pub day_start : StationRecord → ℤ → ℤ
 day_start station day = day_start_of station.zone day
+
+-- the window of a day of a station
+abbrev pub station_window : StationRecord → ℤ → List Reading
+station_window s day = window (day_start s day) (day_start s (day +ℤ pos 1)) (pos (60 * s.gap)) s.readings
 
 -- the inputs of a day of a station
 abbrev pub station_day : StationRecord → ℤ → DayInputs

@@ -1,12 +1,15 @@
 //! The inputs in force: the stations that are kept, what refuses an edit of them, and which days' inputs an edit changes.
 #![tactic(auto)]
 
+pub mod inputs;
 pub mod limits;
 pub mod refusals;
 pub mod staged;
 pub mod stations;
 pub mod touched;
+mod zones;
 
+pub use inputs::Inputs;
 pub use limits::Limits;
 pub use refusals::{Full, Refusal, Which};
 pub use stations::Station;

@@ -1,21 +1,23 @@
 //! A station that is kept: what is said of it, and its readings.
 
-ghost use Rattle.std.specs.Prelude.{◌≡◌, ◌↔◌, true, false, ◌≤◌, ◌<◌, ◌+◌, ℕ, List, [], ◌∷◌, pos, ◌+ℤ◌, length, All, find, is_some, IfOk, OnOk, OnErr, IfSome, IfNone};
+ghost use Rattle.std.specs.Prelude.{◌≡◌, ◌↔◌, true, false, ◌≤◌, ◌<◌, ◌+◌, ℕ, ℤ, List, [], ◌∷◌, pos, ◌+ℤ◌, length, All, find, is_some, IfOk, OnOk, OnErr, IfSome, IfNone};
 ghost use Rattle.std.specs.Arc.{arc_value};
-ghost use Rattle.civil_days.specs.Starts.{IsZone, IsDayLength};
-ghost use Rattle.readings.specs.Readings.{is_used, put_all};
+ghost use Rattle.civil_days.specs.Starts.{IsZone, IsDayLength, IsIn};
+ghost use Rattle.fixed_units.specs.Quantities.{IsDay, IsStamp};
+ghost use Rattle.readings.specs.Readings.{is_used, put_all, at_instant};
 ghost use Rattle.readings.specs.Window.{of_day};
 ghost use Rattle.day_inputs.specs.DayInputs.{AreInputs, most_gap};
 ghost use Rattle.day_inputs.specs.Equality.{same_inputs};
+ghost use Rattle.day_inputs.specs.declared.day_inputs.DayInputs.TheVariants as DayInputs;
 ghost use Rattle.edits.specs.Lawful.{IsPutReading};
-ghost use Rattle.office_inputs.specs.Stations.{new_station, described, with_readings, station_day, day_start};
+ghost use Rattle.office_inputs.specs.Stations.{new_station, described, with_readings, station_day, station_window, day_start};
 ghost use Rattle.office_inputs.specs.Touched.{has_inputs};
 
 use civil_days::StationZone;
 use day_inputs::{DayInputs, DayParts};
 use edits::Name;
 use fixed_units::{Day, Flag, NoMemory, Reading, RoundingArray, Second, Site};
-use readings::{ReadingList, Readings};
+use readings::{ReadingList, Readings, window_is};
 use rising::Keyed;
 use std::alloc::Global;
 use std::marker::Model;
@@ -91,6 +93,13 @@ impl Station {
         self.zone.text()
     }
 
+    /// Its zone once more, for a station of the same zone text.
+    pub(crate) fn share_zone(&self) -> Result<Arc<StationZone>, NoMemory>
+        ensures { IfOk result (λ zone. arc_value zone ≡ self.now.station.zone) }
+    {
+        Ok(Arc::try_clone(&self.zone)?)
+    }
+
     /// Its zone.
     pub fn zone(&self) -> &StationZone
         ensures { result.now ≡ self.now.station.zone }
@@ -148,6 +157,29 @@ impl Station {
         }
     }
 
+    /// How many readings the station has, erroneous ones among them.
+    pub(crate) fn count(&self) -> usize
+        ensures { result ≡ length self.now.station.readings }
+    {
+        self.readings.as_slice().len()
+    }
+
+    /// Whether a reading stands at an instant.
+    pub(crate) fn has_reading(&self, at: Second) -> bool
+        ensures { result ≡ is_some (at_instant at self.now.station.readings) }
+    {
+        self.readings.place(at).here.is_some()
+    }
+
+    /// The day that a stamp is in.
+    pub(crate) fn day_of(&self, at: Second) -> Day
+        requires { IsStamp at }
+        ensures holds { IsIn self.now.station.zone result at }
+        ensures only { (day : ℤ) → IsDay day → IsIn self.now.station.zone day at → day ≡ result }
+    {
+        self.zone.day_of(at)
+    }
+
     /// Makes room for so many readings more. The record is as before, also after `NoMemory`.
     pub(crate) fn reserve(&mut self, count: usize) -> Result<(), NoMemory>
         ensures station { self.new.station ≡ self.old.station }
@@ -191,6 +223,47 @@ impl Station {
             until,
             window: ReadingList::from_vec(window),
         }))
+    }
+
+    /// Whether these are the inputs of a day. It takes no memory.
+    pub fn is_day_inputs(&self, day: Day, other: &DayInputs) -> bool
+        ensures { result ≡ true ↔ other.now ≡ station_day self.now.station day }
+    {
+        match other {
+            DayInputs::Empty => !self.is_filled(day),
+            DayInputs::Day(parts) => self.has_parts(day, parts),
+        }
+    }
+
+    /// Whether a day has these inputs.
+    fn has_parts(&self, day: Day, parts: &DayParts) -> bool
+        ensures { result ≡ true ↔ DayInputs.Day parts.now ≡ station_day self.now.station day }
+    {
+        if !self.has_settings(parts.gap, parts.stage_array, parts.discharge_array) {
+            return false;
+        }
+        if !self.has_bounds(day, parts.from, parts.until) {
+            return false;
+        }
+        if parts.window.as_slice().is_empty() {
+            return false;
+        }
+        self.has_window(day, parts.window.as_slice())
+    }
+
+    /// Whether a day begins and ends there.
+    fn has_bounds(&self, day: Day, from: Second, until: Second) -> bool
+        ensures { result ≡ true ↔ (from ≡ day_start self.now.station day) × (until ≡ day_start self.now.station (day +ℤ pos 1)) }
+    {
+        self.bounds(day) == (from, until)
+    }
+
+    /// Whether the window of a day is this list.
+    fn has_window(&self, day: Day, list: &[Reading]) -> bool
+        ensures { result ≡ true ↔ list.now ≡ station_window self.now.station day }
+    {
+        let (from, until) = self.bounds(day);
+        window_is(&self.readings.window(from, until, self.gap), list)
     }
 
     /// Whether putting a usable reading keeps the inputs of a day.

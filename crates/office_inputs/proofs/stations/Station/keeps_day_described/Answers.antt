@@ -1,5 +1,5 @@
 -- The same settings keep each day, and others the days without inputs.
-use Rattle.std.proofs.Common.{sym, ap, ◌∙◌}
+use Rattle.std.proofs.Common.{ap, ◌∙◌}
 use Rattle.std.specs.Prelude.{not}
 use Rattle.office_inputs.proofs.StationLemmas.{described_same, described_other}
 use Rattle.office_inputs.proofs.stations.Station.keeps_day_described.Goals as goal

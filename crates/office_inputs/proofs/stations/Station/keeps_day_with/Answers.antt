@@ -1,6 +1,4 @@
 -- What the readings tell of the window is what changes the day's inputs.
-use Rattle.std.proofs.Common.{◌∙◌, sym}
-use Rattle.office_inputs.specs.KeptStation.{KeptStation}
 use Rattle.office_inputs.proofs.StationLemmas.{altered_kept}
 use Rattle.office_inputs.proofs.stations.Station.keeps_day_with.Goals as goal
 

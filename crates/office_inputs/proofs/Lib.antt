@@ -1,2 +1,4 @@
 pub mod StationLemmas
+pub mod SpanLemmas
 pub mod InputsLemmas
+pub mod KeepLemmas

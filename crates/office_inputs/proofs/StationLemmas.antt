@@ -40,9 +40,13 @@ parts_kept gap stages discharges from until readings items low high l h w = reco
 }
 
 -- whether a list has an element
-is_any : {X : Type 0} → List X → Bool
+pub is_any : {X : Type 0} → List X → Bool
 is_any [] = false
 is_any (x ∷ xs) = true
+
+pub no_any : (X : Type 0) → is_any {X = X} [] ≡ false
+unfolding is_any
+no_any X = refl
 
 window_any : (gap : ℕ) (stages discharges : List ℕ) (from until : ℤ) (rs : List Reading)
     → has_inputs (with_window gap stages discharges from until rs) ≡ is_any rs
@@ -62,10 +66,18 @@ unfolding is_any
 found_step x xs found true h = refl
 found_step x xs found false h = h
 
-found_any : {X : Type 0} (p : X → Bool) (xs : List X) → is_some (find p xs) ≡ is_any (filter p xs)
+pub found_any : {X : Type 0} (p : X → Bool) (xs : List X) → is_some (find p xs) ≡ is_any (filter p xs)
 unfolding is_any
 found_any p [] = refl
 found_any p (x ∷ xs) = found_step x (filter p xs) (find p xs) (p x) (found_any p xs)
+
+-- a day has inputs where its window has a used reading of its own
+pub day_any : (s : StationRecord) (day : ℤ) → has_inputs (station_day s day) ≡ is_any (inner (day_start s day) (day_start s (day +ℤ pos 1)) s.readings)
+day_any s day =
+    let a = day_start s day in
+    let b = day_start s (day +ℤ pos 1) in
+    window_any s.gap s.stage_array s.discharge_array a b (window a b (pos (60 * s.gap)) s.readings)
+    ∙ neighbours_any (neighbour_before a (pos (60 * s.gap)) s.readings) (inner a b s.readings) (neighbour_after b (pos (60 * s.gap)) s.readings)
 
 -- a day has inputs where some reading of it is used
 pub filled_told : (s : StationRecord) (day : ℤ) (rs : List Reading) → rs ≡ of_day (day_start s day) (day_start s (day +ℤ pos 1)) s.readings
@@ -74,9 +86,7 @@ filled_told s day rs e =
     let a = day_start s day in
     let b = day_start s (day +ℤ pos 1) in
     let used : filter is_used rs ≡ inner a b s.readings = ap (filter is_used) e ∙ inner_found a b s.readings in
-    found_any is_used rs ∙ ap is_any used
-    ∙ sym (window_any s.gap s.stage_array s.discharge_array a b (window a b (pos (60 * s.gap)) s.readings)
-    ∙ neighbours_any (neighbour_before a (pos (60 * s.gap)) s.readings) (inner a b s.readings) (neighbour_after b (pos (60 * s.gap)) s.readings))
+    found_any is_used rs ∙ ap is_any used ∙ sym (day_any s day)
 
 -- the inputs of a day tell its window
 window_of : DayInputs → List Reading

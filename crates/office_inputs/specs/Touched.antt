@@ -1,6 +1,7 @@
 -- What an edit touches, and the interval of days that it may change: those within 720 minutes of what it touches, whatever the
 -- station's gap tolerance is.
 use Rattle.std.specs.List.{list_any}
+use Rattle.rising.specs.Ends.{first, last}
 use Rattle.std.specs.Prelude.{◌≡◌, ℕ, Bool, true, false, not, ◌&&◌, ◌||◌, List, [], ◌∷◌, filter, length, Option, Some, None, ℤ, pos, ◌+ℤ◌, ◌-ℤ◌, ◌≤ℤ◌, int_le}
 use Rattle.std.specs.Ordering.{int_eq}
 use Rattle.fixed_units.specs.Quantities.{IsDay, SiteNumber}
@@ -23,24 +24,27 @@ has_inputs (Day parts) = true
 abbrev pub is_filled : List StationRecord → SiteNumber → ℤ → Bool
 is_filled stations site day = has_inputs (inputs_of_day stations site day)
 
--- the first and the last day that have inputs, or none where no day has
-abbrev pub IsUsedSpan : List StationRecord → SiteNumber → Option (ℤ × ℤ) → Type 0
-IsUsedSpan stations site None = (day : ℤ) → IsDay day → is_filled stations site day ≡ false
-IsUsedSpan stations site (Some span) =
-    (is_filled stations site span.0 ≡ true) × (is_filled stations site span.1 ≡ true)
-    × ((day : ℤ) → IsDay day → is_filled stations site day ≡ true → (span.0 ≤ℤ day) × (day ≤ℤ span.1))
+-- the first and the last day of those that are filled, or none where no day is
+abbrev pub IsSpanOf : (ℤ → Bool) → Option (ℤ × ℤ) → Type 0
+IsSpanOf filled None = (day : ℤ) → IsDay day → filled day ≡ false
+IsSpanOf filled (Some span) =
+    (filled span.0 ≡ true) × (filled span.1 ≡ true) × ((day : ℤ) → IsDay day → filled day ≡ true → (span.0 ≤ℤ day) × (day ≤ℤ span.1))
 
--- the instant of the last of some readings
-abbrev pub last_instant : Reading → List Reading → ℤ
-last_instant r [] = r.at
-last_instant r (s ∷ rs) = last_instant s rs
+-- the first and the last day of a site that have inputs
+abbrev pub IsUsedSpan : List StationRecord → SiteNumber → Option (ℤ × ℤ) → Type 0
+IsUsedSpan stations site span = IsSpanOf (is_filled stations site) span
+
+-- the time between the first and the last of some readings
+abbrev pub between_readings : Option Reading → Option Reading → Touched
+between_readings None last = Nothing
+between_readings (Some first) None = Nothing
+between_readings (Some first) (Some last) = Between first.at last.at false
 
 -- what an edit touches
 abbrev pub touched_by : What → Touched
 touched_by (AddStation name zone gap stage_array discharge_array) = Nothing
 touched_by (SetStation name gap stage_array discharge_array) = Cells
-touched_by (PutReadings []) = Nothing
-touched_by (PutReadings (r ∷ rs)) = Between r.at (last_instant r rs) false
+touched_by (PutReadings readings) = between_readings (first readings) (last readings)
 
 -- the greatest gap tolerance, in seconds
 abbrev pub most_gap_seconds : ℤ

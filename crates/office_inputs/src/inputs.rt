@@ -1,6 +1,6 @@
 //! The inputs in force of all stations.
 
-ghost use Rattle.std.specs.Prelude.{◌≡◌, ◌↔◌, ◌+◌, true, [], ◌∷◌, IfOk, IfSome, IfNone, OnOk, None, option_map};
+ghost use Rattle.std.specs.Prelude.{◌≡◌, ◌↔◌, ◌+◌, true, [], ◌∷◌, length, IfOk, IfSome, IfNone, OnOk, None, option_map};
 ghost use Rattle.day_inputs.specs.DayInputs.{AreInputs};
 ghost use Rattle.office_inputs.specs.Changes.{keeps_day};
 ghost use Rattle.rising.specs.Lists.{IsRising};
@@ -8,6 +8,7 @@ ghost use Rattle.office_inputs.specs.Kept.{HasRoom, in_force, kept_at, place_of_
 ghost use Rattle.office_inputs.specs.Refusals.{refusal_of};
 ghost use Rattle.office_inputs.specs.Stations.{station_of, stations_after, inputs_of_day};
 ghost use Rattle.office_inputs.specs.Touched.{IsUsedSpan, touched_by};
+ghost use Rattle.edits.specs.declared.content.What.TheVariants.{PutReadings};
 
 use crate::limits::Limits;
 use crate::refusals::{Refusal, Which};
@@ -22,6 +23,7 @@ use rising::{place_in, put_in};
 use std::alloc::Global;
 use std::marker::Model;
 use std::sync::Arc;
+use std::sync::ledger::Ledger;
 use steps::Steps;
 
 /// What is in force: the stations that are kept. Contracts see them as a list that rises by site, with the limits that they
@@ -96,6 +98,59 @@ impl Inputs {
             None => matches!(other, DayInputs::Empty),
         }
     }
+
+    /// Whether the inputs of a day of the edit's site are equal before the edit and after it: one step, and no memory.
+    pub fn same_day_inputs<L: Ledger>(&self, edit: &Edit, day: Day, steps: &mut Steps<L>) -> bool
+        requires { refusal_of self.now.limits (in_force self.now) edit.now ≡ None }
+        ensures same { result ≡ keeps_day (in_force self.now) edit.now day }
+        ensures step { steps.new ≡ steps.old + 1 }
+    {
+        steps.tick();
+        self.keeps_day(edit, day)
+    }
+
+    /// Whether the inputs of a day of the edit's site are equal before the edit and after it.
+    fn keeps_day(&self, edit: &Edit, day: Day) -> bool
+        requires { refusal_of self.now.limits (in_force self.now) edit.now ≡ None }
+        ensures { result ≡ keeps_day (in_force self.now) edit.now day }
+    {
+        let Some(station) = self.station(edit.site) else {
+            return true;
+        };
+        match &edit.what {
+            What::AddStation { .. } => true,
+            What::SetStation {
+                gap,
+                stage_array,
+                discharge_array,
+                ..
+            } => station.keeps_day_described(*gap, *stage_array, *discharge_array, day),
+            What::PutReadings { readings } => {
+                station.keeps_day_with(only_one(readings.as_slice()), day)
+            }
+        }
+    }
+
+    /// The first and the last day of a site that have inputs, or `None` exactly where no day has. It takes no memory.
+    pub fn used_span(&self, site: Site) -> Option<(Day, Day)>
+        ensures { IsUsedSpan (in_force self.now) site result }
+    {
+        match self.station(site) {
+            Some(station) => station.used_span(),
+            None => None,
+        }
+    }
+
+    /// What an edit touches. It takes no memory.
+    pub fn touched(&self, edit: &Edit) -> Touched
+        ensures { result ≡ touched_by edit.now.what }
+    {
+        match &edit.what {
+            What::AddStation { .. } => Touched::Nothing,
+            What::SetStation { .. } => Touched::Cells,
+            What::PutReadings { readings } => touched_by(readings.as_slice()),
+        }
+    }
 }
 
 /// The station of a site among those that are kept.
@@ -106,5 +161,27 @@ fn find_station(stations: &[Station], site: Site) -> Option<&Station>
     match place_in(stations, site) {
         Some(place) => Some(&stations[place]),
         None => None,
+    }
+}
+
+/// The reading of a list of one.
+fn only_one(readings: &[Reading]) -> Reading
+    requires { length readings.now ≡ 1 }
+    ensures { readings.now ≡ result ∷ [] }
+{
+    readings[0]
+}
+
+/// What putting readings touches.
+fn touched_by(readings: &[Reading]) -> Touched
+    ensures { result ≡ touched_by (PutReadings readings.now) }
+{
+    match (readings.first().copied(), readings.last().copied()) {
+        (Some(first), Some(last)) => Touched::Between {
+            first: first.at,
+            last: last.at,
+            cells_only: false,
+        },
+        _ => Touched::Nothing,
     }
 }

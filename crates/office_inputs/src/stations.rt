@@ -1,6 +1,6 @@
 //! A station that is kept: what is said of it, and its readings.
 
-ghost use Rattle.std.specs.Prelude.{◌≡◌, ◌↔◌, true, false, ◌≤◌, ◌<◌, ◌+◌, ℕ, ℤ, List, [], ◌∷◌, pos, ◌+ℤ◌, length, All, find, is_some, IfOk, OnOk, OnErr, IfSome, IfNone};
+ghost use Rattle.std.specs.Prelude.{◌≡◌, ◌↔◌, true, false, ◌≤◌, ◌<◌, ◌+◌, ℕ, ℤ, List, [], ◌∷◌, pos, ◌+ℤ◌, length, All, find, is_some, reverse, None, Some, IfOk, OnOk, OnErr, IfSome, IfNone};
 ghost use Rattle.std.specs.Arc.{arc_value};
 ghost use Rattle.civil_days.specs.Starts.{IsZone, IsDayLength, IsIn};
 ghost use Rattle.fixed_units.specs.Quantities.{IsDay, IsStamp};
@@ -11,7 +11,7 @@ ghost use Rattle.day_inputs.specs.Equality.{same_inputs};
 ghost use Rattle.day_inputs.specs.declared.day_inputs.DayInputs.TheVariants as DayInputs;
 ghost use Rattle.edits.specs.Lawful.{IsPutReading};
 ghost use Rattle.office_inputs.specs.Stations.{new_station, described, with_readings, station_day, station_window, day_start};
-ghost use Rattle.office_inputs.specs.Touched.{has_inputs};
+ghost use Rattle.office_inputs.specs.Touched.{has_inputs, IsSpanOf};
 
 use civil_days::StationZone;
 use day_inputs::{DayInputs, DayParts};
@@ -180,6 +180,17 @@ impl Station {
         self.zone.day_of(at)
     }
 
+    /// The day of the calendar that a stamp is in.
+    fn day_on(&self, at: Second) -> Day
+        requires { IsStamp at }
+        ensures holds { IsIn self.now.station.zone result at }
+        ensures day { IsDay result }
+    {
+        let day = self.day_of(at);
+        let _number = day.get();
+        day
+    }
+
     /// Makes room for so many readings more. The record is as before, also after `NoMemory`.
     pub(crate) fn reserve(&mut self, count: usize) -> Result<(), NoMemory>
         ensures station { self.new.station ≡ self.old.station }
@@ -312,6 +323,16 @@ impl Station {
         has_used(self.of_day(day))
     }
 
+    /// The first and the last day that have inputs, or `None` exactly where no day has.
+    pub(crate) fn used_span(&self) -> Option<(Day, Day)>
+        ensures { IsSpanOf (λ day. has_inputs (station_day self.now.station day)) result }
+    {
+        match used_ends(self.readings.as_slice()) {
+            Some((first, last)) => Some((self.day_on(first.at), self.day_on(last.at))),
+            None => None,
+        }
+    }
+
     /// Puts readings, each in place of the one at its instant. There is room for them, so no memory is taken.
     pub(crate) fn put(&mut self, readings: &[Reading])
         requires room { length readings.now ≤ self.old.spare }
@@ -353,6 +374,29 @@ fn first_used(readings: &[Reading]) -> Option<Reading>
     ensures { result ≡ find is_used readings.now }
 {
     readings.iter().copied().find(|reading| is_usable(reading))
+}
+
+/// The last reading that is used.
+fn last_used(readings: &[Reading]) -> Option<Reading>
+    ensures { result ≡ find is_used (reverse readings.now) }
+{
+    readings
+        .iter()
+        .rev()
+        .copied()
+        .find(|reading| is_usable(reading))
+}
+
+/// The first and the last reading that are used, or `None` exactly where none is.
+fn used_ends(readings: &[Reading]) -> Option<(Reading, Reading)>
+    ensures none { IfNone result (find is_used readings.now ≡ None) }
+    ensures some { IfSome result (λ ends. (find is_used readings.now ≡ Some ends.0) × (find is_used (reverse readings.now) ≡ Some ends.1)) }
+{
+    let first = first_used(readings)?;
+    match last_used(readings) {
+        Some(last) => Some((first, last)),
+        None => unreachable!(),
+    }
 }
 
 /// Whether a reading may be used: it is not erroneous.

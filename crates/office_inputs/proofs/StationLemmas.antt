@@ -21,7 +21,7 @@ use Rattle.day_inputs.specs.declared.day_inputs.DayInputs.{DayInputs}
 use Rattle.day_inputs.specs.declared.day_inputs.DayParts.{DayParts}
 use Rattle.day_inputs.specs.declared.day_inputs.DayInputs.TheVariants.{Empty, Day}
 use Rattle.office_inputs.specs.Stations.{StationRecord, station_day, station_window, day_start, described, with_readings}
-use Rattle.office_inputs.specs.KeptStation.{AreReadings, KeptStation}
+use Rattle.office_inputs.specs.KeptStation.{AreReadings, IsStation, KeptStation}
 use Rattle.office_inputs.specs.Touched.{has_inputs}
 
 -- the inputs of a day keep to what they must, where the station does
@@ -282,3 +282,14 @@ pub window_kept : (kept view : KeptStation) → view ≡ kept → (day from unti
 window_kept kept view e day from until before after rs list told =
     subst (λ (k : KeptStation). WindowTold day from until before after rs list told view k) e
     (window_found view.station day from until before after rs list told)
+
+-- a station with readings put keeps to its ranges
+pub put_station : (s : StationRecord) (rs new : List Reading) → IsStation s → All IsPutReading rs → new ≡ put_all rs s.readings
+    → IsStation (record { site = s.site; name = s.name; zone = s.zone; gap = s.gap; stage_array = s.stage_array; discharge_array = s.discharge_array; readings = new })
+put_station s rs new h k e = record {
+  site_range = h.site_range;
+  zone_is = h.zone_is;
+  gap_low = h.gap_low;
+  gap_high = h.gap_high;
+  readings_are = subst AreReadings (sym e) (put_all_are rs s.readings k h.readings_are);
+}

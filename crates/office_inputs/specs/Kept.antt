@@ -1,5 +1,5 @@
 -- What is kept of all stations, as contracts see it: the records in force with their limits, and room beside them.
-use Rattle.std.specs.Prelude.{◌≡◌, ℕ, ◌≤◌, ◌<◌, List, length, map, All, Option, IfSome, ℤ}
+use Rattle.std.specs.Prelude.{◌≡◌, ℕ, ◌≤◌, ◌<◌, List, [], length, map, All, Option, IfSome, ℤ}
 use Rattle.fixed_units.specs.Quantities.{SiteNumber, site_place}
 use Rattle.rising.specs.Lists as lists
 use Rattle.edits.specs.declared.content.What.{What}
@@ -51,12 +51,22 @@ IsStagedName name Nothing = ⊥
 IsStagedName name (Whole kept) = ⊥
 IsStagedName name (Named staged) = staged ≡ name
 
+-- a station is staged for a site, without readings
+abbrev pub IsStagedNew : SiteNumber → Staged → Type 0
+IsStagedNew site Nothing = ⊥
+IsStagedNew site (Whole kept) = (kept.station.site ≡ site) × (kept.station.readings ≡ [])
+IsStagedNew site (Named name) = ⊥
+
+-- the station of a site, where it is kept, has room for so many readings more
+abbrev pub HasReadingRoom : List KeptStation → SiteNumber → ℕ → Type 0
+HasReadingRoom kept site count = IfSome (kept_at kept site) (λ k. count ≤ k.spare)
+
 -- room is made for an edit: a station is staged and there is room for it; a name is staged; the station has room for the readings
 abbrev pub HasRoomFor : InForce → SiteNumber → What → Type 0
 HasRoomFor inputs site (AddStation name zone gap stage_array discharge_array) =
     IsStagedStation (new_station site name zone gap stage_array discharge_array) inputs.staged × (0 < inputs.spare)
 HasRoomFor inputs site (SetStation name gap stage_array discharge_array) = IsStagedName name inputs.staged
-HasRoomFor inputs site (PutReadings readings) = IfSome (kept_at inputs.kept site) (λ k. length readings ≤ k.spare)
+HasRoomFor inputs site (PutReadings readings) = HasReadingRoom inputs.kept site (length readings)
 
 abbrev pub HasRoom : InForce → Edit → Type 0
 HasRoom inputs edit = HasRoomFor inputs edit.site edit.what

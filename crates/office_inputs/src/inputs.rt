@@ -30,11 +30,11 @@ use steps::Steps;
 /// keep to and the room that is made for an edit.
 #[derive(Debug, Drop)]
 pub struct Inputs {
-    alloc: Global,
-    limits: Limits,
-    stations: Vec<Station>,
-    readings: u64,
-    staged: Staged,
+    pub(crate) alloc: Global,
+    pub(crate) limits: Limits,
+    pub(crate) stations: Vec<Station>,
+    pub(crate) readings: u64,
+    pub(crate) staged: Staged,
 }
 
 impl Model for Inputs {

@@ -1,9 +1,11 @@
 //! The inputs in force: the stations that are kept, what refuses an edit of them, and which days' inputs an edit changes.
 #![tactic(auto)]
 
+mod applying;
 pub mod inputs;
 pub mod limits;
 pub mod refusals;
+pub mod rooms;
 pub mod staged;
 pub mod stations;
 pub mod touched;

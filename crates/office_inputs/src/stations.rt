@@ -4,7 +4,7 @@ ghost use Rattle.std.specs.Prelude.{◌≡◌, ◌↔◌, true, false, ◌≤◌
 ghost use Rattle.std.specs.Arc.{arc_value};
 ghost use Rattle.civil_days.specs.Starts.{IsZone, IsDayLength, IsIn};
 ghost use Rattle.fixed_units.specs.Quantities.{IsDay, IsStamp};
-ghost use Rattle.readings.specs.Readings.{is_used, put_all, at_instant};
+ghost use Rattle.readings.specs.Readings.{is_used, put_all, at_instant, IsRising};
 ghost use Rattle.readings.specs.Window.{of_day};
 ghost use Rattle.day_inputs.specs.DayInputs.{AreInputs, most_gap};
 ghost use Rattle.day_inputs.specs.Equality.{same_inputs};
@@ -12,6 +12,7 @@ ghost use Rattle.day_inputs.specs.declared.day_inputs.DayInputs.TheVariants as D
 ghost use Rattle.edits.specs.Lawful.{IsPutReading};
 ghost use Rattle.office_inputs.specs.Stations.{new_station, described, with_readings, station_day, station_window, day_start};
 ghost use Rattle.office_inputs.specs.Touched.{has_inputs, IsSpanOf};
+ghost use Rattle.office_inputs.specs.KeptStation.{IsStation};
 
 use civil_days::StationZone;
 use day_inputs::{DayInputs, DayParts};
@@ -74,7 +75,8 @@ impl Keyed for Station {
 impl Station {
     /// The site.
     pub fn site(&self) -> Site
-        ensures { result ≡ self.now.station.site }
+        ensures site { result ≡ self.now.station.site }
+        ensures kept { IsStation self.now.station }
     {
         self.site
     }
@@ -333,13 +335,16 @@ impl Station {
         }
     }
 
-    /// Puts readings, each in place of the one at its instant. There is room for them, so no memory is taken.
-    pub(crate) fn put(&mut self, readings: &[Reading])
+    /// Puts readings, each in place of the one at its instant, and tells how many more there are then. There is room for them,
+    /// so no memory is taken.
+    pub(crate) fn put(&mut self, readings: &[Reading]) -> usize
         requires room { length readings.now ≤ self.old.spare }
         requires lawful { All IsPutReading readings.now }
-        ensures { self.new.station ≡ with_readings readings.now self.old.station }
+        ensures station { self.new.station ≡ with_readings readings.now self.old.station }
+        ensures count { length self.new.station.readings ≡ length self.old.station.readings + result }
+        ensures kept { IsStation self.new.station }
     {
-        put_each(&mut self.readings, readings);
+        put_each(&mut self.readings, readings)
     }
 
     /// Describes the station anew: its zone and its readings stay.
@@ -406,8 +411,20 @@ fn is_usable(reading: &Reading) -> bool
     reading.flag != Flag::Erroneous
 }
 
+/// Puts readings, for which there is room, and tells how many more there are then.
+fn put_each(kept: &mut Readings, readings: &[Reading]) -> usize
+    requires room { length readings.now ≤ kept.old.spare }
+    requires rising { IsRising kept.old.list }
+    ensures list { kept.new.list ≡ put_all readings.now kept.old.list }
+    ensures count { length kept.new.list ≡ length kept.old.list + result }
+{
+    let before = kept.as_slice().len();
+    put_one_by_one(kept, readings);
+    kept.as_slice().len() - before
+}
+
 /// Puts readings, for which there is room.
-fn put_each(kept: &mut Readings, readings: &[Reading])
+fn put_one_by_one(kept: &mut Readings, readings: &[Reading])
     requires { length readings.now ≤ kept.old.spare }
     ensures { kept.new.list ≡ put_all readings.now kept.old.list }
 {

@@ -1,7 +1,7 @@
 -- The readings put so far, and the rest.
 use Rattle.std.specs.Prelude.{◌≡◌, ◌≤◌, drop, length}
 use Rattle.readings.specs.Readings.{put_all}
-use Rattle.office_inputs.proofs.stations.put_each.Given as goal
+use Rattle.office_inputs.proofs.stations.put_one_by_one.Given as goal
 
 abbrev pub invariant-loop-reading : goal.invariant-loop-reading
 invariant-loop-reading l = record {

@@ -1,6 +1,5 @@
 -- What an edit makes of the stations that are kept, of their records and of how many readings they have.
-use Rattle.std.specs.Prelude.{◌≡◌, ℕ, zero, suc, ◌+◌, ◌<◌, ◌≤◌, Bool, true, false, cond, List, [], ◌∷◌, ◌++◌, map, filter, length, sum_by, slice_get, slice_set, slice_index_or, option_to_list, option_map, Option, Some, None, IfNone, ℤ, ◌<ℤ◌, int_lt, All}
-use Rattle.std.specs.Ordering.{int_eq}
+use Rattle.std.specs.Prelude.{◌≡◌, ℕ, zero, suc, ◌+◌, ◌<◌, ◌≤◌, Bool, true, false, cond, List, [], ◌∷◌, ◌++◌, filter, length, slice_set, slice_index_or, option_to_list, option_map, Option, Some, None, IfNone, ℤ, ◌<ℤ◌, int_lt, All}
 use Rattle.std.proofs.Common.{arith, refl, ap, sym, subst, ◌∙◌}
 use Rattle.std.proofs.lemmas.List.Sums.{sum_by-append, sum_by-cons}
 use Rattle.std.proofs.lemmas.List.{length-append}
@@ -50,7 +49,7 @@ records_all n (k ∷ kept) h =
     All-cons (λ s. n <ℤ place_of s) k.station (records_of kept) (All-head (λ k. n <ℤ place_of_kept k) k kept h)
     (records_all n kept (All-tail (λ k. n <ℤ place_of_kept k) k kept h))
 
-records_rise : (kept : List KeptStation) → lists.IsRising place_of_kept kept → lists.IsRising place_of (records_of kept)
+pub records_rise : (kept : List KeptStation) → lists.IsRising place_of_kept kept → lists.IsRising place_of (records_of kept)
 records_rise [] h = λ i j d l m. absurd (omega arith)
 records_rise (k ∷ kept) h =
     AllPairs-cons (λ a b. place_of a <ℤ place_of b) k.station (records_of kept)
@@ -61,7 +60,7 @@ records_rise (k ∷ kept) h =
 count_parts : (xs ys : List StationRecord) (s : StationRecord) → reading_count (xs ++ s ∷ ys) ≡ reading_count (xs ++ ys) + length s.readings
 count_parts xs ys s =
     let a : reading_count (xs ++ s ∷ ys) ≡ reading_count xs + (length s.readings + reading_count ys) =
-        sum_by-append (λ (s : StationRecord). length s.readings) xs (s ∷ ys) ∙ ap (λ (n : ℕ). reading_count xs + n) (sum_by-cons (λ (s : StationRecord). length s.readings) s ys) in
+    sum_by-append (λ (s : StationRecord). length s.readings) xs (s ∷ ys) ∙ ap (λ (n : ℕ). reading_count xs + n) (sum_by-cons (λ (s : StationRecord). length s.readings) s ys) in
     let b : reading_count (xs ++ ys) ≡ reading_count xs + reading_count ys = sum_by-append (λ (s : StationRecord). length s.readings) xs ys in
     omega (arith, a, b)
 
@@ -83,16 +82,16 @@ count_set [] i x y l e = absurd (omega arith)
 count_set (k ∷ kept) zero x y l e =
     let f : length x.station.readings ≡ length k.station.readings = ap (λ (k : KeptStation). length k.station.readings) e in
     let a : reading_count (records_of (slice_set (k ∷ kept) zero y)) ≡ length y.station.readings + reading_count (records_of kept) =
-        sum_by-cons (λ (s : StationRecord). length s.readings) y.station (records_of kept) in
+    sum_by-cons (λ (s : StationRecord). length s.readings) y.station (records_of kept) in
     let b : reading_count (records_of (k ∷ kept)) ≡ length k.station.readings + reading_count (records_of kept) =
-        sum_by-cons (λ (s : StationRecord). length s.readings) k.station (records_of kept) in
+    sum_by-cons (λ (s : StationRecord). length s.readings) k.station (records_of kept) in
     omega (arith, f, a, b)
 count_set (k ∷ kept) (suc i) x y l e =
     let h = count_set kept i x y (omega arith) e in
     let a : reading_count (records_of (slice_set (k ∷ kept) (suc i) y)) ≡ length k.station.readings + reading_count (records_of (slice_set kept i y)) =
-        sum_by-cons (λ (s : StationRecord). length s.readings) k.station (records_of (slice_set kept i y)) in
+    sum_by-cons (λ (s : StationRecord). length s.readings) k.station (records_of (slice_set kept i y)) in
     let b : reading_count (records_of (k ∷ kept)) ≡ length k.station.readings + reading_count (records_of kept) =
-        sum_by-cons (λ (s : StationRecord). length s.readings) k.station (records_of kept) in
+    sum_by-cons (λ (s : StationRecord). length s.readings) k.station (records_of kept) in
     omega (arith, h, a, b)
 
 -- the records with a station of the site written over
@@ -159,7 +158,7 @@ stations_put k kept h i = record {
       All-append (λ (k : KeptStation). IsStation k.station) (lists.before place_of_kept (place_of_kept k) kept) (k ∷ lists.after place_of_kept (place_of_kept k) kept)
       (All-filter (λ x. int_lt (place_of_kept x) (place_of_kept k)) (λ (k : KeptStation). IsStation k.station) kept h.each)
       (All-cons (λ (k : KeptStation). IsStation k.station) k (lists.after place_of_kept (place_of_kept k) kept) i
-        (All-filter (λ x. int_lt (place_of_kept k) (place_of_kept x)) (λ (k : KeptStation). IsStation k.station) kept h.each));
+      (All-filter (λ x. int_lt (place_of_kept k) (place_of_kept x)) (λ (k : KeptStation). IsStation k.station) kept h.each));
 }
 
 pub stations_set : (kept : List KeptStation) (site : SiteNumber) (i : ℕ) (x y : KeptStation) → AreStations kept → StandsAt site i kept → x ≡ slice_index_or kept i x

@@ -1,9 +1,9 @@
 -- The stations that are kept, and their records in force.
-use Rattle.std.specs.Prelude.{◌≡◌, Bool, true, false, cond, List, [], ◌∷◌, map, Option, Some, None, option_map, ℤ}
+use Rattle.std.specs.Prelude.{◌≡◌, Bool, true, false, cond, List, [], ◌∷◌, Option, Some, None, option_map}
 use Rattle.std.specs.Ordering.{int_eq}
 use Rattle.std.proofs.Common.{refl, ap, sym, subst, ◌∙◌, Bor}
 use Rattle.fixed_units.specs.Quantities.{SiteNumber, site_place}
-use Rattle.office_inputs.specs.Stations.{StationRecord, station_of, place_of}
+use Rattle.office_inputs.specs.Stations.{StationRecord, station_of}
 use Rattle.office_inputs.specs.KeptStation.{KeptStation}
 use Rattle.office_inputs.specs.Kept.{InForce, in_force, records_of, kept_at, place_of_kept}
 

@@ -1,5 +1,5 @@
 -- What an edit makes of the station of its site, and whether it keeps a day of it.
-use Rattle.std.specs.Prelude.{◌≡◌, Bool, true, false, cond, List, [], ◌∷◌, Option, Some, None, option_map, length, ℕ, ℤ, pos, ◌+ℤ◌}
+use Rattle.std.specs.Prelude.{◌≡◌, Bool, true, false, cond, List, [], ◌∷◌, Option, Some, None, option_map, ℕ, ℤ}
 use Rattle.std.specs.Ordering.{int_eq}
 use Rattle.std.proofs.Common.{refl, ap, sym, subst, ◌∙◌, Bor}
 use Rattle.std.proofs.lemmas.Bool.Decides.{Decides-int_eq}
@@ -12,9 +12,8 @@ use Rattle.day_inputs.specs.declared.day_inputs.DayInputs.TheVariants.{Empty}
 use Rattle.edits.specs.declared.content.What.{What}
 use Rattle.edits.specs.declared.content.What.TheVariants.{AddStation, SetStation, PutReadings}
 use Rattle.edits.specs.declared.content.Edit.{Edit}
-use Rattle.office_inputs.specs.Changes.{keeps_day}
 use Rattle.office_inputs.specs.Refusals.{refusal_of, adds_station}
-use Rattle.office_inputs.specs.Stations.{StationRecord, station_of, station_day, inputs_of_day, day_of_station, after_what, place_of, new_station, described, with_readings, with_changed}
+use Rattle.office_inputs.specs.Stations.{StationRecord, station_of, station_day, inputs_of_day, after_what, place_of, new_station, described, with_readings, with_changed}
 use Rattle.office_inputs.specs.declared.limits.Limits.{Limits}
 use Rattle.office_inputs.specs.declared.refusals.Refusal.TheVariants.{NoStation}
 use Rattle.office_inputs.specs.KeptStation.{KeptStation}
@@ -62,7 +61,7 @@ pub set_told : (stations : List StationRecord) (site : SiteNumber) (what : What)
 set_told stations site what day s name gap stages discharges b w e g =
     subst (KeptTold stations site day b) (sym w)
     (told_days stations (after_what site (SetStation name gap stages discharges) stations) site day s (described name gap stages discharges s) b e
-      (changed_there stations site (described name gap stages discharges) s e refl) g)
+    (changed_there stations site (described name gap stages discharges) s e refl) g)
 
 pub put_told : (stations : List StationRecord) (site : SiteNumber) (what : What) (day : ℤ) (s : StationRecord) (readings : List Reading) (b : Bool)
     → what ≡ PutReadings readings → station_of stations site ≡ Some s
@@ -70,7 +69,7 @@ pub put_told : (stations : List StationRecord) (site : SiteNumber) (what : What)
 put_told stations site what day s readings b w e g =
     subst (KeptTold stations site day b) (sym w)
     (told_days stations (after_what site (PutReadings readings) stations) site day s (with_readings readings s) b e
-      (changed_there stations site (with_readings readings) s e refl) g)
+    (changed_there stations site (with_readings readings) s e refl) g)
 
 none_some : {X : Type 0} {x : X} → None ≡ Some x → ⊥
 none_some e = absurd (cc)

@@ -4,3 +4,7 @@ pub mod InputsLemmas
 pub mod KeepLemmas
 pub mod RoomLemmas
 pub mod ApplyLemmas
+pub mod RefusalLemmas
+pub mod DayLemmas
+pub mod CountLemmas
+pub mod RefusingLemmas

@@ -1,6 +1,6 @@
 -- A station written over in its place.
-use Rattle.std.specs.Prelude.{◌≡◌, ℕ, zero, suc, ◌<◌, ◌≤◌, List, [], ◌∷◌, map, length, slice_get, slice_set, slice_index_or, Option, Some, None, IfSome, ℤ}
-use Rattle.std.proofs.Common.{arith, refl, ap, sym, subst, ◌∙◌, get_or}
+use Rattle.std.specs.Prelude.{◌≡◌, ℕ, zero, suc, ◌<◌, ◌≤◌, List, [], ◌∷◌, length, slice_get, slice_set, slice_index_or, Option, Some, IfSome, ℤ}
+use Rattle.std.proofs.Common.{arith, refl, ap, sym, subst, ◌∙◌}
 use Rattle.fixed_units.specs.Quantities.{SiteNumber, site_place}
 use Rattle.rising.specs.Lists.{at, put}
 use Rattle.rising.proofs.Placing.{at_put}

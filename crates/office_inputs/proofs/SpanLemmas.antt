@@ -1,15 +1,15 @@
 -- The days of a station that have inputs lie between those of its first and its last used reading.
-use Rattle.std.specs.Prelude.{◌≡◌, ◌*◌, Bool, true, false, cond, ◌&&◌, List, [], ◌∷◌, filter, find, is_some, reverse, ⊤, Option, Some, None, All, ℤ, pos, ◌+ℤ◌, ◌<ℤ◌, ◌≤ℤ◌}
+use Rattle.std.specs.Prelude.{◌≡◌, Bool, true, false, cond, ◌&&◌, List, [], ◌∷◌, find, is_some, reverse, ⊤, Option, Some, None, All, ℤ, pos, ◌+ℤ◌, ◌<ℤ◌, ◌≤ℤ◌}
 use Rattle.std.proofs.Common.{arith, refl, ap, sym, subst, ◌∙◌}
 use Rattle.std.proofs.lemmas.Int.{ints, by_lt_z}
 use Rattle.std.proofs.lemmas.List.Elements.{All-head, All-tail}
-use Rattle.fixed_units.specs.Quantities.{IsDay, IsStamp, first_day, last_day}
+use Rattle.fixed_units.specs.Quantities.{IsDay, IsStamp}
 use Rattle.fixed_units.specs.declared.readings.Reading.{Reading}
 use Rattle.rising.proofs.Selecting.{none_found, All-reverse}
 use Rattle.readings.specs.Readings.{is_used}
-use Rattle.readings.specs.Window.{inner, is_of_day, window, neighbour_before, neighbour_after}
+use Rattle.readings.specs.Window.{inner, is_of_day}
 use Rattle.readings.proofs.HiddenReadings.{first_earliest, last_latest, not_all_fail, from_reversed, unused_inner, late_inner, early_inner}
-use Rattle.civil_days.specs.Starts.{IsIn, calendar_end}
+use Rattle.civil_days.specs.Starts.{IsIn}
 use Rattle.civil_days.proofs.RiseLemmas.{zone_steps, rise}
 use Rattle.office_inputs.specs.KeptStation.{IsStation, AreReadings, KeptStation}
 use Rattle.office_inputs.specs.Stations.{StationRecord, station_day, day_start}
@@ -35,7 +35,7 @@ used_filled s day r rs f i all u =
     let passes : test r ≡ true = rw (u, i) refl in
     day_any s day
     ∙ not_none (find test s.readings) (is_any (day_inner s day)) (found_any test s.readings)
-      (λ n. not_all_fail test rs r f passes (all (λ x. test x ≡ false) (none_found test s.readings n)))
+    (λ n. not_all_fail test rs r f passes (all (λ x. test x ≡ false) (none_found test s.readings n)))
 
 start_step : (s : StationRecord) (a b : ℤ) → IsStation s → IsDay a → IsDay b → a <ℤ b → day_start s (a +ℤ pos 1) ≤ℤ day_start s b
 start_step s a b k h i l =
@@ -51,10 +51,10 @@ first_bounds : (s : StationRecord) (own day : ℤ) (r : Reading) → IsStation s
 first_bounds s own day r k f o i d h =
     by_lt_z day own
     (λ l.
-      let m = start_step s day own k d o l in
-      let from = i.from in
-      let none = late_inner (day_start s day) (day_start s (day +ℤ pos 1)) r.at s.readings (omega (arith, ints)) (first_earliest s.readings r k.readings_are.rising f) in
-      let e = none_filled s day none in absurd (cc))
+    let m = start_step s day own k d o l in
+    let from = i.from in
+    let none = late_inner (day_start s day) (day_start s (day +ℤ pos 1)) r.at s.readings (omega (arith, ints)) (first_earliest s.readings r k.readings_are.rising f) in
+    let e = none_filled s day none in absurd (cc))
     (λ l. l)
 
 -- nor has a day behind that of the last
@@ -63,10 +63,10 @@ last_bounds : (s : StationRecord) (own day : ℤ) (r : Reading) → IsStation s 
 last_bounds s own day r k f o i d h =
     by_lt_z own day
     (λ l.
-      let m = start_step s own day k o d l in
-      let until = i.until in
-      let none = early_inner (day_start s day) (day_start s (day +ℤ pos 1)) r.at s.readings (omega (arith, ints)) (last_latest s.readings r k.readings_are.rising f) in
-      let e = none_filled s day none in absurd (cc))
+    let m = start_step s own day k o d l in
+    let until = i.until in
+    let none = early_inner (day_start s day) (day_start s (day +ℤ pos 1)) r.at s.readings (omega (arith, ints)) (last_latest s.readings r k.readings_are.rising f) in
+    let e = none_filled s day none in absurd (cc))
     (λ l. l)
 
 of_day : (s : StationRecord) (day : ℤ) (r : Reading) → IsIn s.zone day r.at → is_of_day (day_start s day) (day_start s (day +ℤ pos 1)) r ≡ true
@@ -126,7 +126,7 @@ pub span_kept : (kept view : KeptStation) → view ≡ kept → IsStation view.s
 span_kept kept view e k list l first last r t f g =
     subst (SpanTold list first last r t) e
     (λ d i h j. span view.station first last r t k (ap (find is_used) (sym l) ∙ f) (ap (λ (x : List Reading). find is_used (reverse x)) (sym l) ∙ g)
-      (used_is list r f) (used_is (reverse list) t g) d i h j)
+    (used_is list r f) (used_is (reverse list) t g) d i h j)
 
 pub no_span_kept : (kept view : KeptStation) → view ≡ kept → (list : List Reading) → list ≡ view.station.readings
     → find is_used list ≡ None → IsSpanOf (filled_on kept.station) None

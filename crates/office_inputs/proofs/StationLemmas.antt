@@ -1,8 +1,6 @@
 -- The inputs of a day of a station: whether there are any, what they keep to, and what leaves them as they are.
-use Rattle.std.specs.Prelude.{◌≡◌, ◌≢◌, ◌↔◌, ◌≤◌, ◌*◌, ℕ, Bool, true, false, not, ◌&&◌, ◌==◌, cond, List, [], ◌∷◌, ◌++◌, filter, find, is_some, Option, Some, None, option_to_list, All, ℤ, pos, ◌+ℤ◌}
-use Rattle.std.specs.Bool.{Decides}
-use Rattle.std.proofs.Common.{arith, refl, ap, sym, subst, ◌∙◌}
-use Rattle.std.proofs.lemmas.Int.{ints}
+use Rattle.std.specs.Prelude.{◌≡◌, ◌≢◌, ◌↔◌, ◌≤◌, ◌*◌, ℕ, Bool, true, false, not, cond, List, [], ◌∷◌, filter, find, is_some, Option, Some, None, All, ℤ, pos, ◌+ℤ◌}
+use Rattle.std.proofs.Common.{refl, ap, sym, subst, ◌∙◌}
 use Rattle.std.proofs.lemmas.List.Elements.{All-head, All-tail}
 use Rattle.fixed_units.specs.Quantities.{IsStage, IsStamp}
 use Rattle.edits.specs.Lawful.{IsPutReading}
@@ -129,7 +127,7 @@ pub altered_day : (s : StationRecord) (day : ℤ) (r : Reading) (from until : �
     → not altered ≡ same_inputs (station_day s day) (station_day (with_readings (r ∷ []) s) day)
 altered_day s day r from until altered e f changed same =
     let told : not altered ≡ same_inputs (day_inputs s.gap s.stage_array s.discharge_array from until s.readings)
-        (day_inputs s.gap s.stage_array s.discharge_array from until (put r s.readings)) =
+    (day_inputs s.gap s.stage_array s.discharge_array from until (put r s.readings)) =
     altered_told s.gap s.stage_array s.discharge_array from until
     (window from until (pos (60 * s.gap)) s.readings) (window from until (pos (60 * s.gap)) (put r s.readings)) altered changed same in
     rw (sym e, sym f) told
@@ -184,9 +182,9 @@ unfolding is_any
 with_window_empty before after before' after' [] g g' s s' d d' a b n = refl
 with_window_empty before after before' after' (r ∷ rs) g g' s s' d d' a b n =
     sym (other_of (with_window g s d a b (with_neighbours before (r ∷ rs) after)) (with_window g' s' d' a b (with_neighbours before' (r ∷ rs) after')) (λ e.
-      let one = filled_gap g s d a b before after r rs in
-      let two = filled_gap g' s' d' a b before' after' r rs in
-      n (sym one.0 ∙ ap gap_of e ∙ two.0) (sym one.1.0 ∙ ap stages_of e ∙ two.1.0) (sym one.1.1 ∙ ap discharges_of e ∙ two.1.1)))
+    let one = filled_gap g s d a b before after r rs in
+    let two = filled_gap g' s' d' a b before' after' r rs in
+    n (sym one.0 ∙ ap gap_of e ∙ two.0) (sym one.1.0 ∙ ap stages_of e ∙ two.1.0) (sym one.1.1 ∙ ap discharges_of e ∙ two.1.1)))
 
 pub described_other : (s : StationRecord) (day : ℤ) (name : List ℕ) (gap : ℕ) (stages discharges : List ℕ)
     → Differs s.gap s.stage_array s.discharge_array gap stages discharges
@@ -199,7 +197,7 @@ described_other s day name gap stages discharges n =
     ap not (window_any s.gap s.stage_array s.discharge_array a b (window a b (pos (60 * s.gap)) s.readings)
     ∙ neighbours_any before (inner a b s.readings) after)
     ∙ with_window_empty before after (neighbour_before a (pos (60 * gap)) s.readings) (neighbour_after b (pos (60 * gap)) s.readings)
-      (inner a b s.readings) s.gap gap s.stage_array stages s.discharge_array discharges a b n
+    (inner a b s.readings) s.gap gap s.stage_array stages s.discharge_array discharges a b n
 
 -- the same of a station that is kept with room
 abbrev AlteredDay : ℤ → Reading → ℤ → ℤ → Bool → KeptStation → KeptStation → Type 0
@@ -228,11 +226,20 @@ parts_step : (s : StationRecord) (day : ℤ) (p : DayParts) (w : List Reading)
     × (p.window ≡ w) × (p.window ≢ [])
 parts_step s day p [] e = absurd (cc)
 parts_step s day p (r ∷ rs) e =
-    let k : p ≡ record { gap = s.gap; stage_array = s.stage_array; discharge_array = s.discharge_array; from = day_start s day;
-        until = day_start s (day +ℤ pos 1); window = r ∷ rs } = cc in
-    let w = ap (λ (x : DayParts). x.window) k in
-    ((sym (ap (λ (x : DayParts). x.gap) k), sym (ap (λ (x : DayParts). x.stage_array) k), sym (ap (λ (x : DayParts). x.discharge_array) k)),
-    (ap (λ (x : DayParts). x.from) k, ap (λ (x : DayParts). x.until) k), w, λ n. absurd (cc))
+    let k : p ≡ record {
+      gap = s.gap;
+      stage_array = s.stage_array;
+      discharge_array = s.discharge_array;
+      from = day_start s day;
+      until = day_start s (day +ℤ pos 1);
+      window = r ∷ rs;
+    } = cc in
+    let w = ap (λ (x : DayParts). x.window) k in (
+      (sym (ap (λ (x : DayParts). x.gap) k), sym (ap (λ (x : DayParts). x.stage_array) k), sym (ap (λ (x : DayParts). x.discharge_array) k)),
+      (ap (λ (x : DayParts). x.from) k, ap (λ (x : DayParts). x.until) k),
+      w,
+      λ n. absurd (cc),
+    )
 
 pub parts_told : (s : StationRecord) (day : ℤ) (p : DayParts) → Day p ≡ station_day s day → HasParts s day p
 parts_told s day p e = parts_step s day p (station_window s day) e
@@ -244,7 +251,7 @@ parts_back : (s : StationRecord) (day : ℤ) (p : DayParts) (w : List Reading)
 parts_back s day p [] a b e n = absurd (n e)
 parts_back s day p (r ∷ rs) a b e n =
     let made : ℕ → List ℕ → List ℕ → ℤ → ℤ → List Reading → DayInputs =
-        λ g x y f u w. Day (record { gap = g; stage_array = x; discharge_array = y; from = f; until = u; window = w }) in
+    λ g x y f u w. Day (record { gap = g; stage_array = x; discharge_array = y; from = f; until = u; window = w }) in
     ap (λ g. made g p.stage_array p.discharge_array p.from p.until p.window) (sym a.0)
     ∙ ap (λ x. made s.gap x p.discharge_array p.from p.until p.window) (sym a.1)
     ∙ ap (λ y. made s.gap s.stage_array y p.from p.until p.window) (sym a.2)

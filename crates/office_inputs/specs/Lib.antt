@@ -1,5 +1,6 @@
 pub mod Calendar
 pub mod Changes
+pub mod Counting
 pub mod Kept
 pub mod KeptStation
 pub mod Refusals

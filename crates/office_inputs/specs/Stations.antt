@@ -42,17 +42,38 @@ changed_at site change stations = with_changed change (station_of stations site)
 -- a station as it is added: without readings
 abbrev pub new_station : SiteNumber → List ℕ → List ℕ → ℕ → List ℕ → List ℕ → StationRecord
 new_station site name zone gap stage_array discharge_array = record {
-  site = site; name = name; zone = zone; gap = gap; stage_array = stage_array; discharge_array = discharge_array; readings = [] }
+  site = site;
+  name = name;
+  zone = zone;
+  gap = gap;
+  stage_array = stage_array;
+  discharge_array = discharge_array;
+  readings = [];
+}
 
 -- a station described anew: it keeps its site, its zone and its readings
 abbrev pub described : List ℕ → ℕ → List ℕ → List ℕ → StationRecord → StationRecord
 described name gap stage_array discharge_array s = record {
-  site = s.site; name = name; zone = s.zone; gap = gap; stage_array = stage_array; discharge_array = discharge_array; readings = s.readings }
+  site = s.site;
+  name = name;
+  zone = s.zone;
+  gap = gap;
+  stage_array = stage_array;
+  discharge_array = discharge_array;
+  readings = s.readings;
+}
 
 -- a station with readings put, in place of those at their instants
 abbrev pub with_readings : List Reading → StationRecord → StationRecord
 with_readings readings s = record {
-  site = s.site; name = s.name; zone = s.zone; gap = s.gap; stage_array = s.stage_array; discharge_array = s.discharge_array; readings = put_all readings s.readings }
+  site = s.site;
+  name = s.name;
+  zone = s.zone;
+  gap = s.gap;
+  stage_array = s.stage_array;
+  discharge_array = s.discharge_array;
+  readings = put_all readings s.readings;
+}
 
 -- the stations after an edit of a site
 abbrev pub after_what : SiteNumber → What → List StationRecord → List StationRecord

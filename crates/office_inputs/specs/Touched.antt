@@ -2,7 +2,7 @@
 -- station's gap tolerance is.
 use Rattle.std.specs.List.{list_any}
 use Rattle.rising.specs.Ends.{first, last}
-use Rattle.std.specs.Prelude.{◌≡◌, ℕ, Bool, true, false, not, ◌&&◌, ◌||◌, List, [], ◌∷◌, filter, length, Option, Some, None, ℤ, pos, ◌+ℤ◌, ◌-ℤ◌, ◌≤ℤ◌, int_le}
+use Rattle.std.specs.Prelude.{◌≡◌, Bool, true, false, not, ◌&&◌, ◌||◌, List, filter, Option, Some, None, ℤ, pos, ◌+ℤ◌, ◌-ℤ◌, ◌≤ℤ◌, int_le}
 use Rattle.std.specs.Ordering.{int_eq}
 use Rattle.fixed_units.specs.Quantities.{IsDay, SiteNumber}
 use Rattle.fixed_units.specs.declared.readings.Reading.{Reading}

@@ -4,7 +4,7 @@ ghost use Rattle.std.specs.Prelude.{◌≡◌, ◌↔◌, ◌+◌, true, [], ◌
 ghost use Rattle.day_inputs.specs.DayInputs.{AreInputs};
 ghost use Rattle.office_inputs.specs.Changes.{keeps_day};
 ghost use Rattle.rising.specs.Lists.{IsRising};
-ghost use Rattle.office_inputs.specs.Kept.{HasRoom, in_force, kept_at, place_of_kept};
+ghost use Rattle.office_inputs.specs.Kept.{AreStations, HasRoom, in_force, kept_at, place_of_kept};
 ghost use Rattle.office_inputs.specs.Refusals.{refusal_of};
 ghost use Rattle.office_inputs.specs.Stations.{station_of, stations_after, inputs_of_day};
 ghost use Rattle.office_inputs.specs.Touched.{IsUsedSpan, touched_by};
@@ -153,6 +153,13 @@ impl Inputs {
     }
 }
 
+/// The stations that are kept rise by site, and each keeps to its ranges.
+pub fn stations_keep_to_their_ranges(inputs: &Inputs)
+    ensures { AreStations inputs.now.kept }
+{
+    let _ = &inputs.stations;
+}
+
 /// The station of a site among those that are kept.
 fn find_station(stations: &[Station], site: Site) -> Option<&Station>
     requires { IsRising place_of_kept stations.now }
@@ -165,7 +172,7 @@ fn find_station(stations: &[Station], site: Site) -> Option<&Station>
 }
 
 /// The reading of a list of one.
-fn only_one(readings: &[Reading]) -> Reading
+pub(crate) fn only_one(readings: &[Reading]) -> Reading
     requires { length readings.now ≡ 1 }
     ensures { readings.now ≡ result ∷ [] }
 {

@@ -30,14 +30,7 @@ impl Inputs {
                 gap,
                 stage_array,
                 discharge_array,
-            } => self.stage_station(
-                edit.site,
-                name,
-                zone,
-                *gap,
-                *stage_array,
-                *discharge_array,
-            ),
+            } => self.stage_station(edit.site, name, zone, *gap, *stage_array, *discharge_array),
             What::SetStation { name, .. } => self.stage_name(name),
             What::PutReadings { readings } => self.reserve(edit.site, readings.as_slice().len()),
         }

@@ -43,8 +43,8 @@ impl Model for Station {
     ghost Value = { KeptStation };
 
     ghost view = { λ s. record {
-        station = record { site = s.site; name = s.name; zone = arc_value s.zone; gap = s.gap; stage_array = s.stage_array; discharge_array = s.discharge_array; readings = s.readings.list };
-        spare = s.readings.spare
+      station = record { site = s.site; name = s.name; zone = arc_value s.zone; gap = s.gap; stage_array = s.stage_array; discharge_array = s.discharge_array; readings = s.readings.list };
+      spare = s.readings.spare;
     } };
 
     ghost invariant = { λ s. IsStation (record { site = s.site; name = s.name; zone = arc_value s.zone; gap = s.gap; stage_array = s.stage_array; discharge_array = s.discharge_array; readings = s.readings.list }) };
@@ -183,7 +183,7 @@ impl Station {
     }
 
     /// The day of the calendar that a stamp is in.
-    fn day_on(&self, at: Second) -> Day
+    pub(crate) fn day_on(&self, at: Second) -> Day
         requires { IsStamp at }
         ensures holds { IsIn self.now.station.zone result at }
         ensures day { IsDay result }

@@ -1,7 +1,5 @@
 -- The station is put where none stands.
 use Rattle.std.proofs.Common.{ap, sym, subst, ◌∙◌}
-use Rattle.office_inputs.specs.Stations.{StationRecord}
-use Rattle.office_inputs.specs.KeptStation.{KeptStation}
 use Rattle.office_inputs.specs.Kept.{records_of, AreStations}
 use Rattle.office_inputs.specs.Refusals.{reading_count}
 use Rattle.office_inputs.proofs.ApplyLemmas.{records_put, count_put_kept, stations_put}

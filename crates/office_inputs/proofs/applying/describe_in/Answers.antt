@@ -1,8 +1,6 @@
 -- The station is written over, described anew.
-use Rattle.std.specs.Prelude.{List, length}
-use Rattle.std.proofs.Common.{arith, ap, refl, ◌∙◌}
-use Rattle.office_inputs.specs.KeptStation.{KeptStation}
-use Rattle.office_inputs.specs.Kept.{kept_at}
+use Rattle.std.specs.Prelude.{length}
+use Rattle.std.proofs.Common.{arith, ap, refl}
 use Rattle.office_inputs.specs.Stations.{StationRecord, described}
 use Rattle.office_inputs.proofs.RoomLemmas.{stands}
 use Rattle.office_inputs.proofs.ApplyLemmas.{records_set, count_set, none_kept, records_none}

@@ -1,5 +1,4 @@
 -- The element at the key is written over.
-use Rattle.std.specs.Prelude.{◌≡◌, ◌+◌, take, drop}
 use Rattle.std.proofs.Common.{ap, sym, ◌∙◌}
 use Rattle.std.specs.Prelude.{ℤ}
 use Rattle.rising.specs.Lists.{before, after}

@@ -1,7 +1,4 @@
-use Rattle.std.proofs.Common.{rules, sym, ◌≡◌, ◌^◌, ◌<◌, ◌≤◌, ◌↔◌, true, ℤ, pos, neg_ℤ, ◌≤ℤ◌, int_lt, IsSome, IfSome, if◌then◌else◌, ℕ, ◌+◌, ◌-◌, ◌*◌, length, ◌/◌, ◌%◌, Bool, false, nat_eq, nat_lt, List, [], ◌∷◌, ◌++◌, slice_index_or, slice_set, bit_and, bit_or, Fits, w8, w32, w64, Bor, MutBor}
-use Rattle.std.specs.Ordering.{int_eq}
-use Rattle.std.specs.declared.cmp.Ordering.TheVariants.{Less}
-use Rattle.fixed_units.specs.Quantities.{IsMicro, IsSecond, IsDay, IsSite, most_stated, site_order, site_place}
+use Rattle.std.proofs.Common.{sym}
 use Rattle.fixed_units.proofs.SiteLemmas.{fewer, more}
 use Rattle.fixed_units.proofs.quantities.Site.is_before.Goals as goal
 

@@ -13,4 +13,4 @@ pub returns : goal.returns
 returns c name =
     ap not c.is_filled.ensures
     ∙ described_other c.args.self.now.station c.args.day name c.args.gap c.args.stage_array c.args.discharge_array
-      (λ e f g. absurd (let t = c.has_settings.ensures.1 (e, f, g) in let u = c.if-has_settings.false in cc))
+    (λ e f g. absurd (let t = c.has_settings.ensures.1 (e, f, g) in let u = c.if-has_settings.false in cc))

@@ -1,3 +1,0 @@
-pub mod Payloads
-pub mod Reading
-pub mod Drafts

@@ -1,9 +1,10 @@
 //! The name of a station, and any other text of its kind.
 
-ghost use Rattle.std.specs.Prelude.{◌≡◌, ◌↔◌, IsSome, IfSome, ◌≤◌, length, true, All};
+ghost use Rattle.std.specs.Prelude.{◌≡◌, ◌↔◌, IsSome, IfSome, IfOk, ◌≤◌, length, true, All};
 ghost use Rattle.edits.specs.Texts.{IsName, is_printed};
 
-use fixed_units::Text;
+use fixed_units::{NoMemory, Text};
+use std::alloc::Global;
 use std::marker::Model;
 
 /// A name: 1 to 60 characters from space to `~`. Contracts see the bytes.
@@ -42,6 +43,25 @@ impl Name {
         ensures kept { IsName self.now }
     {
         self.text.as_slice()
+    }
+
+    /// The characters.
+    pub fn as_str(&self) -> &str
+        ensures { result.now ≡ self.now }
+    {
+        match str::from_utf8(self.as_slice()) {
+            Ok(text) => text,
+            Err(_) => unreachable!(),
+        }
+    }
+
+    /// The same name once more.
+    pub fn copy(&self, alloc: Global) -> Result<Name, NoMemory>
+        ensures { IfOk result (λ name. name ≡ self.now) }
+    {
+        let mut text = Text::new(alloc);
+        text.push_slice(self.as_slice())?;
+        Ok(Name { text })
     }
 }
 

@@ -1,5 +1,5 @@
 -- A station's readings: a list that rises by instant.
-use Rattle.std.specs.Prelude.{◌≡◌, Bool, true, false, List, Option, ℤ}
+use Rattle.std.specs.Prelude.{◌≡◌, Bool, true, false, List, [], ◌∷◌, Option, ℤ}
 use Rattle.rising.specs.Ends.{first, last}
 use Rattle.rising.specs.Lists as lists
 use Rattle.readings.specs.declared.lists.Place.{Place}
@@ -32,6 +32,11 @@ at_instant at readings = lists.at instant_of at readings
 -- the readings with one put among them, in place of the one at its instant
 abbrev pub put : Reading → List Reading → List Reading
 put reading readings = lists.put instant_of reading readings
+
+-- the readings with each of these put, one after another
+abbrev pub put_all : List Reading → List Reading → List Reading
+put_all [] readings = readings
+put_all (r ∷ rs) readings = put_all rs (put r readings)
 
 -- a reading is used unless it is erroneous
 abbrev pub is_used_flag : Flag → Bool

@@ -1,0 +1,7 @@
+//! Which days an edit changes: the days of its interval are compared, and no others need be.
+#![tactic(auto)]
+
+pub mod days;
+pub mod laws;
+
+pub use days::DayList;

@@ -3,5 +3,8 @@
 
 pub mod days;
 pub mod laws;
+pub mod reaching;
+mod spans;
 
 pub use days::DayList;
+pub use reaching::reach;

@@ -4,7 +4,7 @@ ghost use Rattle.std.specs.Prelude.{◌≡◌, ◌↔◌, ◌+◌, true, [], ◌
 ghost use Rattle.day_inputs.specs.DayInputs.{AreInputs};
 ghost use Rattle.office_inputs.specs.Changes.{keeps_day};
 ghost use Rattle.rising.specs.Lists.{IsRising};
-ghost use Rattle.office_inputs.specs.Kept.{HasRoom, in_force, kept_at, place_of_kept};
+ghost use Rattle.office_inputs.specs.Kept.{AreStations, HasRoom, in_force, kept_at, place_of_kept};
 ghost use Rattle.office_inputs.specs.Refusals.{refusal_of};
 ghost use Rattle.office_inputs.specs.Stations.{station_of, stations_after, inputs_of_day};
 ghost use Rattle.office_inputs.specs.Touched.{IsUsedSpan, touched_by};
@@ -151,6 +151,13 @@ impl Inputs {
             What::PutReadings { readings } => touched_by(readings.as_slice()),
         }
     }
+}
+
+/// The stations that are kept rise by site, and each keeps to its ranges.
+pub fn stations_keep_to_their_ranges(inputs: &Inputs)
+    ensures { AreStations inputs.now.kept }
+{
+    let _ = &inputs.stations;
 }
 
 /// The station of a site among those that are kept.

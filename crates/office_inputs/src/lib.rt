@@ -9,7 +9,7 @@ pub mod stations;
 pub mod touched;
 mod zones;
 
-pub use inputs::Inputs;
+pub use inputs::{Inputs, stations_keep_to_their_ranges};
 pub use limits::Limits;
 pub use refusals::{Full, Refusal, Which};
 pub use stations::Station;

@@ -239,3 +239,17 @@ any_days p day (suc n) d w h =
 pub calendar_any : (p : ℤ → Bool) (d : ℤ) → IsDay d → p d ≡ true → list_any p calendar ≡ true
 unfolding calendar
 calendar_any p d k h = any_days p (negsuc 25_566) 73_049 d (is_within d k) h
+
+any_none_step : (b c : Bool) → b ≡ false → c ≡ false → (b || c) ≡ false
+any_none_step b c e f = rw (e, f) refl
+
+any_days_none : (p : ℤ → Bool) (day : ℤ) (n : ℕ) → ((d : ℤ) → IsWithin day n d → p d ≡ false) → list_any p (days_from day n) ≡ false
+unfolding days_from
+any_days_none p day zero h = refl
+any_days_none p day (suc n) h =
+    any_none_step (p day) (list_any p (days_from (day +ℤ pos 1) n)) (h day (within_first day n))
+    (any_days_none p (day +ℤ pos 1) n (λ d k. h d (within_rest day n d k)))
+
+pub calendar_any_none : (p : ℤ → Bool) → ((d : ℤ) → IsDay d → p d ≡ false) → list_any p calendar ≡ false
+unfolding calendar
+calendar_any_none p h = any_days_none p (negsuc 25_566) 73_049 (λ d k. h d (is_day d k))

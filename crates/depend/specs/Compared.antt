@@ -14,8 +14,8 @@ days_within first last = days_from first (count_of (last +ℤ pos 1 -ℤ first))
 
 -- each day of an interval lies from the first to the last, and each day between these two is of the interval
 pub record IsCover (inside : ℤ → Bool) (first last : ℤ) : Type 0 where
-  pub first : IsDay first
-  pub last : IsDay last
+  pub begins : IsDay first
+  pub ends : IsDay last
   pub all : (day : ℤ) → IsDay day → inside day ≡ true → (first ≤ℤ day) × (day ≤ℤ last)
   pub only : (day : ℤ) → IsDay day → first <ℤ day → day <ℤ last → inside day ≡ true
 

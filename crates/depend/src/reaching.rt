@@ -35,26 +35,25 @@ pub fn reach<L: Ledger>(
 {
     stations_keep_to_their_ranges(inputs);
     match compared_days(inputs, edit) {
-        Some((first, last)) => changed_between(alloc, inputs, edit, first, last, steps),
+        Some(span) => changed_between(alloc, inputs, edit, span, steps),
         None => Ok(DayList::from_vec(Vec::new(alloc))),
     }
 }
 
-/// The days that an edit changes, of those from the first to the last: each is compared once.
+/// The days that an edit changes, of those from the first of a span to its last: each is compared once.
 fn changed_between<L: Ledger>(
     alloc: Global,
     inputs: &Inputs,
     edit: &Edit,
-    first: Day,
-    last: Day,
+    span: (Day, Day),
     steps: &mut Steps<L>,
 ) -> Result<DayList, NoMemory>
     requires { refusal_of inputs.now.limits (in_force inputs.now) edit.now ≡ None }
-    ensures days { IfOk result (λ days. days ≡ filter (λ day. not (keeps_day (in_force inputs.now) edit.now day)) (days_within first last)) }
-    ensures steps { steps.new ≤ steps.old + length (days_within first last) }
+    ensures days { IfOk result (λ days. days ≡ filter (λ day. not (keeps_day (in_force inputs.now) edit.now day)) (days_within span.0 span.1)) }
+    ensures steps { steps.new ≤ steps.old + length (days_within span.0 span.1) }
 {
     let mut days = Vec::new(alloc);
-    for number in first.get()..last.get() + 1 {
+    for number in span.0.get()..span.1.get() + 1 {
         add_changed(&mut days, inputs, edit, number, steps)?;
     }
     Ok(DayList::from_vec(days))

@@ -73,19 +73,19 @@ fn used_days(inputs: &Inputs, site: Site) -> Option<(Day, Day)>
     ensures { AreCompared (is_between_filled (in_force inputs.now) site) result }
 {
     match inputs.used_span(site) {
-        Some((first, last)) => Some(days_of(first, last)),
+        Some(span) => Some(days_of(span)),
         None => None,
     }
 }
 
 /// These two days.
-fn days_of(first: Day, last: Day) -> (Day, Day)
-    ensures value { result ≡ (first, last) }
-    ensures first { IsDay first }
-    ensures last { IsDay last }
+fn days_of(span: (Day, Day)) -> (Day, Day)
+    ensures value { result ≡ span }
+    ensures first { IsDay span.0 }
+    ensures last { IsDay span.1 }
 {
-    let _numbers = (first.get(), last.get());
-    (first, last)
+    let _numbers = (span.0.get(), span.1.get());
+    span
 }
 
 /// The days from this one to this one.
@@ -121,7 +121,8 @@ fn earlier(day: Day, other: Day) -> Day
 
 /// The day before, or the first of the calendar itself.
 fn day_before(day: Day) -> Day
-    ensures range { IsDay day }
+    ensures own { IsDay day }
+    ensures range { IsDay result }
     ensures before { first_day <ℤ day → result ≡ day -ℤ pos 1 }
     ensures end { day ≡ first_day → result ≡ day }
 {
@@ -133,7 +134,8 @@ fn day_before(day: Day) -> Day
 
 /// The day after, or the last of the calendar itself.
 fn day_after(day: Day) -> Day
-    ensures range { IsDay day }
+    ensures own { IsDay day }
+    ensures range { IsDay result }
     ensures after { day <ℤ last_day → result ≡ day +ℤ pos 1 }
     ensures end { day ≡ last_day → result ≡ day }
 {

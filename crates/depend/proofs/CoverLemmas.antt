@@ -1,6 +1,7 @@
 -- The days that are compared cover the interval of what is touched.
 use Rattle.std.specs.Prelude.{◌≡◌, ℕ, Bool, true, false, not, cond, ◌&&◌, ◌||◌, List, [], ◌∷◌, All, ◌⊎◌, Option, Some, None, ℤ, pos, ◌+ℤ◌, ◌-ℤ◌, ◌≤ℤ◌, ◌<ℤ◌, int_le, int_lt}
 use Rattle.std.specs.Int.{int_max, int_min}
+use Rattle.std.specs.List.{list_any}
 use Rattle.std.specs.Ordering.{int_eq}
 use Rattle.std.proofs.Common.{arith, refl, ap, sym, subst, ◌∙◌, inl, inr}
 use Rattle.std.proofs.lemmas.Int.{ints, by_lt_z}
@@ -15,6 +16,7 @@ use Rattle.civil_days.proofs.RiseLemmas.{rise, zone_steps, zone_lengths}
 use Rattle.edits.specs.Lawful.{IsLawful, IsPutReading}
 use Rattle.edits.specs.declared.content.What.{What}
 use Rattle.edits.specs.declared.content.What.TheVariants.{AddStation, SetStation, PutReadings}
+use Rattle.office_inputs.specs.Calendar.{calendar}
 use Rattle.office_inputs.specs.Stations.{StationRecord, station_of}
 use Rattle.office_inputs.specs.Touched.{is_filled, is_between_filled, in_reach, touched_by, between_readings, meets, most_gap_seconds, IsUsedSpan}
 use Rattle.office_inputs.specs.declared.touched.Touched.{Touched}
@@ -229,12 +231,18 @@ le_is x y h = grind (arith, ints)
 le_if : (x y : ℤ) → x ≤ℤ y → int_le x y ≡ true
 le_if x y h = grind (arith, ints)
 
+abbrev begun : List StationRecord → SiteNumber → ℤ → Bool
+begun stations site day = list_any (λ earlier. int_le earlier day && is_filled stations site earlier) calendar
+
+abbrev goes_on : List StationRecord → SiteNumber → ℤ → Bool
+goes_on stations site day = list_any (λ later. int_le day later && is_filled stations site later) calendar
+
 used_low : (stations : List StationRecord) (site : SiteNumber) (from until day : ℤ) → IsUsedSpan stations site (Some (from, until))
     → is_between_filled stations site day ≡ true → from ≤ℤ day
 used_low stations site from until day u h =
     by_lt_z day from
     (λ l.
-      let found = (both_of _ _ h).0 in
+      let found = (both_of (begun stations site day) (goes_on stations site day) h).0 in
       let none = calendar_any_none (λ earlier. int_le earlier day && is_filled stations site earlier)
           (λ d k. not_and (int_le d day) (is_filled stations site d) (λ t f. let a = le_is d day t in let b = (u.2 d k f).0 in omega (arith, ints))) in
       let n : false ≡ true = sym none ∙ found in
@@ -246,7 +254,7 @@ used_high : (stations : List StationRecord) (site : SiteNumber) (from until day 
 used_high stations site from until day u h =
     by_lt_z until day
     (λ l.
-      let found = (both_of _ _ h).1 in
+      let found = (both_of (begun stations site day) (goes_on stations site day) h).1 in
       let none = calendar_any_none (λ later. int_le day later && is_filled stations site later)
           (λ d k. not_and (int_le day d) (is_filled stations site d) (λ t f. let a = le_is day d t in let b = (u.2 d k f).1 in omega (arith, ints))) in
       let n : false ≡ true = sym none ∙ found in

@@ -4,33 +4,36 @@ use Rattle.std.proofs.Common.{arith, refl, ap, sym, subst, ◌∙◌, append_ass
 use Rattle.std.proofs.lemmas.Int.{ints}
 use Rattle.std.proofs.lemmas.List.{append-nil}
 use Rattle.std.proofs.lemmas.List.Elements.{filter-append}
-use Rattle.fixed_units.specs.Quantities.{IsDay, first_day}
+use Rattle.fixed_units.specs.Quantities.{IsDay, SiteNumber, first_day, last_day}
+use Rattle.day_inputs.specs.Equality.{same_inputs}
 use Rattle.edits.specs.declared.content.Edit.{Edit}
 use Rattle.office_inputs.specs.Calendar.{calendar}
 use Rattle.office_inputs.specs.Changes.{changed_days, keeps_day}
 use Rattle.office_inputs.specs.Kept.{AreStations, records_of}
 use Rattle.office_inputs.specs.KeptStation.{KeptStation}
 use Rattle.office_inputs.specs.Refusals.{refusal_of}
-use Rattle.office_inputs.specs.Stations.{StationRecord}
+use Rattle.office_inputs.specs.Stations.{StationRecord, inputs_of_day, stations_after}
 use Rattle.office_inputs.specs.Touched.{in_reach, touched_by, interval}
 use Rattle.office_inputs.specs.declared.limits.Limits.{Limits}
 use Rattle.depend.specs.Compared.{days_within, IsCover, AreCompared}
 use Rattle.depend.proofs.CalendarLemmas.{within_cons, within_none, calendar_span, calendar_none, span_length}
 use Rattle.depend.proofs.IntervalLemmas.{no_day_outside}
 
--- what was found of the days before the next one, and the steps that were taken for them
-pub record AreFound (changed : ℤ → Bool) (first last next : ℤ) (days : List ℤ) (before steps : ℕ) : Type 0 where
+-- what was found of the days before the next one
+pub record AreFound (changed : ℤ → Bool) (first last next : ℤ) (days : List ℤ) : Type 0 where
   pub low : first_day ≤ℤ next
   pub rest : days ++ filter changed (days_within next last) ≡ filter changed (days_within first last)
-  pub count : steps + length (days_within next last) ≡ before + length (days_within first last)
 
-pub found_first : (changed : ℤ → Bool) (first last : ℤ) (steps : ℕ) → IsDay first → AreFound changed first last first [] steps steps
-found_first changed first last steps h = record { low = h.low; rest = refl; count = refl }
+-- and the steps that were taken for them, one each
+abbrev pub AreCounted : ℤ → ℤ → ℤ → ℕ → ℕ → Type 0
+AreCounted first last next before steps = steps + length (days_within next last) ≡ before + length (days_within first last)
 
-pub found_next : (changed : ℤ → Bool) (first last next : ℤ) (days more : List ℤ) (before steps : ℕ) → next ≤ℤ last
-    → more ≡ days ++ filter changed (next ∷ []) → AreFound changed first last next days before steps
-    → AreFound changed first last (next +ℤ pos 1) more before (steps + 1)
-found_next changed first last next days more before steps l m h =
+pub found_first : (changed : ℤ → Bool) (first last : ℤ) → IsDay first → AreFound changed first last first []
+found_first changed first last h = record { low = h.low; rest = refl }
+
+found_next : (changed : ℤ → Bool) (first last next : ℤ) (days more : List ℤ) → next ≤ℤ last → more ≡ days ++ filter changed (next ∷ [])
+    → AreFound changed first last next days → AreFound changed first last (next +ℤ pos 1) more
+found_next changed first last next days more l m h =
     let rest = days_within (next +ℤ pos 1) last in
     record {
       low = (let a = h.low in omega (arith, ints));
@@ -39,16 +42,27 @@ found_next changed first last next days more before steps l m h =
           ∙ append_assoc days (filter changed (next ∷ [])) (filter changed rest)
           ∙ ap (λ (x : List ℤ). days ++ x) (sym (filter-append changed (next ∷ []) rest) ∙ ap (filter changed) (sym (within_cons next last l)))
           ∙ h.rest;
-      count =
-          (let a = ap length (within_cons next last l) in
-          let b = h.count in
-          omega arith);
     }
 
-pub found_last : (changed : ℤ → Bool) (first last next : ℤ) (days : List ℤ) (before steps : ℕ) → last <ℤ next
-    → AreFound changed first last next days before steps → days ≡ filter changed (days_within first last)
-found_last changed first last next days before steps l h =
+pub found_after : (changed : ℤ → Bool) (first last number next : ℤ) (days more : List ℤ) → number ≤ℤ last → next ≡ number +ℤ pos 1
+    → more ≡ days ++ filter changed (number ∷ []) → AreFound changed first last number days → AreFound changed first last next more
+found_after changed first last number next days more l e m h = rw e (found_next changed first last number days more l m h)
+
+pub found_last : (changed : ℤ → Bool) (first last next : ℤ) (days : List ℤ) → last <ℤ next
+    → AreFound changed first last next days → days ≡ filter changed (days_within first last)
+found_last changed first last next days l h =
     sym (append-nil days) ∙ ap (λ (x : List ℤ). days ++ filter changed x) (sym (within_none next last l)) ∙ h.rest
+
+pub counted_after : (first last number next : ℤ) (before steps after : ℕ) → number ≤ℤ last → next ≡ number +ℤ pos 1 → after ≡ steps + 1
+    → AreCounted first last number before steps → AreCounted first last next before after
+counted_after first last number next before steps after l e f h =
+    rw e (let a = ap length (within_cons number last l) in omega arith)
+
+pub steps_left : (first last number : ℤ) (before steps after : ℕ) → number ≤ℤ last → after ≡ steps + 1
+    → AreCounted first last number before steps → after ≤ before + length (days_within first last)
+steps_left first last number before steps after l f h =
+    let a = ap length (within_cons number last l) in
+    omega arith
 
 -- the changed days are those that are found where the interval is covered
 not_false : (b : Bool) → not b ≡ true → b ≡ false
@@ -81,16 +95,15 @@ few_steps stations edit first last before after c h =
     let n = span_length (in_reach stations edit.site (touched_by edit.what)) first last c.begins c.ends c.only in
     omega arith
 
--- the same as a loop asks it
-pub found_after : (changed : ℤ → Bool) (first last number next : ℤ) (days more : List ℤ) (before steps after : ℕ) → number ≤ℤ last
-    → next ≡ number +ℤ pos 1 → after ≡ steps + 1 → more ≡ days ++ filter changed (number ∷ [])
-    → AreFound changed first last number days before steps → AreFound changed first last next more before after
-found_after changed first last number next days more before steps after l e f m h =
-    rw (e, f) (found_next changed first last number days more before steps l m h)
+-- every day of the calendar asked of the inputs before and after
+pub whole_calendar : days_within first_day last_day ≡ calendar
+unfolding calendar
+whole_calendar = refl
 
-pub steps_left : (changed : ℤ → Bool) (first last number : ℤ) (days : List ℤ) (before steps after : ℕ) → number ≤ℤ last → after ≡ steps + 1
-    → AreFound changed first last number days before steps → after ≤ before + length (days_within first last)
-steps_left changed first last number days before steps after l f h =
-    let a = ap length (within_cons number last l) in
-    let b = h.count in
-    omega arith
+abbrev pub differs : List StationRecord → List StationRecord → SiteNumber → ℤ → Bool
+differs before after site day = not (same_inputs (inputs_of_day before site day) (inputs_of_day after site day))
+
+pub asked_days : (before after : List StationRecord) (edit : Edit) (days : List ℤ) → after ≡ stations_after before edit
+    → days ≡ filter (differs before after edit.site) (days_within first_day last_day) → days ≡ changed_days before edit
+asked_days before after edit days e f =
+    f ∙ ap (filter (differs before after edit.site)) whole_calendar ∙ ap (λ (x : List StationRecord). filter (differs before x edit.site) calendar) e

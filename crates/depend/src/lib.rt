@@ -2,6 +2,7 @@
 #![tactic(auto)]
 
 pub mod days;
+pub mod from_scratch;
 pub mod laws;
 pub mod reaching;
 mod spans;

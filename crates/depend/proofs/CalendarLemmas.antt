@@ -117,18 +117,18 @@ filter_span p day zero first last a b h = ap (filter p) (sym (within_none first 
 filter_span p day (suc n) first last a b h =
     by_lt_z day first
     (λ l. left_step (p day) day (filter p (days_from (day +ℤ pos 1) n)) (filter p (days_within first last))
-      (not_true (p day) (λ t. let k = (h day (within_first day n) t).0 in absurd (omega (arith, ints))))
-      (filter_span p (day +ℤ pos 1) n first last (omega (arith, ints)) (omega (arith, ints)) (λ d k. h d (within_rest day n d k))))
+    (not_true (p day) (λ t. let k = (h day (within_first day n) t).0 in absurd (omega (arith, ints))))
+    (filter_span p (day +ℤ pos 1) n first last (omega (arith, ints)) (omega (arith, ints)) (λ d k. h d (within_rest day n d k))))
     (λ m.
-      let e : day ≡ first = omega (arith, ints) in
-      let rest : filter p (days_from (day +ℤ pos 1) n) ≡ filter p (days_within (day +ℤ pos 1) last) =
-          filter_span p (day +ℤ pos 1) n (day +ℤ pos 1) last (omega (arith, ints)) (omega (arith, ints))
-          (λ d k t. (k.low, (h d (within_rest day n d k) t).1)) in
-      subst (λ (x : ℤ). cond (p day) (day ∷ filter p (days_from (day +ℤ pos 1) n)) (filter p (days_from (day +ℤ pos 1) n)) ≡ filter p (days_within x last)) e
-      (by_lt_z last day
-        (λ l. span_past p day last (filter p (days_from (day +ℤ pos 1) n)) l
-          (not_true (p day) (λ t. let k = h day (within_first day n) t in let low = k.0 in let high = k.1 in absurd (omega (arith, ints)))) rest)
-        (λ l. span_now p day last (filter p (days_from (day +ℤ pos 1) n)) l rest)))
+    let e : day ≡ first = omega (arith, ints) in
+    let rest : filter p (days_from (day +ℤ pos 1) n) ≡ filter p (days_within (day +ℤ pos 1) last) =
+    filter_span p (day +ℤ pos 1) n (day +ℤ pos 1) last (omega (arith, ints)) (omega (arith, ints))
+    (λ d k t. (k.low, (h d (within_rest day n d k) t).1)) in
+    subst (λ (x : ℤ). cond (p day) (day ∷ filter p (days_from (day +ℤ pos 1) n)) (filter p (days_from (day +ℤ pos 1) n)) ≡ filter p (days_within x last)) e
+    (by_lt_z last day
+    (λ l. span_past p day last (filter p (days_from (day +ℤ pos 1) n)) l
+    (not_true (p day) (λ t. let k = h day (within_first day n) t in let low = k.0 in let high = k.1 in absurd (omega (arith, ints)))) rest)
+    (λ l. span_now p day last (filter p (days_from (day +ℤ pos 1) n)) l rest)))
 
 -- the same of the calendar
 pub calendar_span : (p : ℤ → Bool) (first last : ℤ) → IsDay first → IsDay last
@@ -199,9 +199,9 @@ count_two y z e =
     by_lt_z y (pos 0)
     (λ l. let a = uncounted y (omega (arith, ints)) in omega arith)
     (λ l. let a = counted y l in
-      by_lt_z z (pos 0)
-      (λ m. let b = uncounted z (omega (arith, ints)) in omega (arith, ints))
-      (λ m. let b = counted z m in omega (arith, ints)))
+    by_lt_z z (pos 0)
+    (λ m. let b = uncounted z (omega (arith, ints)) in omega (arith, ints))
+    (λ m. let b = counted z m in omega (arith, ints)))
 
 -- a span has at most two days more than pass a test that holds on all days between its ends
 pub span_length : (q : ℤ → Bool) (first last : ℤ) → IsDay first → IsDay last
@@ -209,10 +209,10 @@ pub span_length : (q : ℤ → Bool) (first last : ℤ) → IsDay first → IsDa
 span_length q first last f l h =
     let z = last -ℤ pos 1 +ℤ pos 1 -ℤ (first +ℤ pos 1) in
     let inner = inner_in_calendar first last f l
-        ∙ inner_all first last (count_of z) (elim (count_small z) [
-          | inl a ↦ inl (omega (arith, ints))
-          | inr a ↦ inr a
-        ]) in
+    ∙ inner_all first last (count_of z) (elim (count_small z) [
+      | inl a ↦ inl (omega (arith, ints))
+      | inr a ↦ inr a
+    ]) in
     let n : length (filter (between first last) calendar) ≡ count_of z = ap length inner ∙ length_from (first +ℤ pos 1) (count_of z) in
     let fewer = fewer_in_calendar (between first last) q (λ d k t. let e = between_is first last d t in h d k e.0 e.1) in
     let wide = length_within first last in
@@ -233,7 +233,7 @@ any_days p day zero d w h = absurd (let a = w.low in let b = w.high in omega (ar
 any_days p day (suc n) d w h =
     by_lt_z day d
     (λ l. any_later (p day) (list_any p (days_from (day +ℤ pos 1) n))
-      (any_days p (day +ℤ pos 1) n d (record { low = omega (arith, ints); high = let b = w.high in omega (arith, ints) }) h))
+    (any_days p (day +ℤ pos 1) n d (record { low = omega (arith, ints); high = let b = w.high in omega (arith, ints) }) h))
     (λ m. let e : d ≡ day = (let a = w.low in omega (arith, ints)) in any_here (p day) (list_any p (days_from (day +ℤ pos 1) n)) (ap p (sym e) ∙ h))
 
 pub calendar_any : (p : ℤ → Bool) (d : ℤ) → IsDay d → p d ≡ true → list_any p calendar ≡ true

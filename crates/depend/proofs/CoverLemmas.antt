@@ -48,13 +48,42 @@ pub record IsBefore (day before : ℤ) : Type 0 where
   pub own : IsDay day
   pub other : IsDay before
   pub one : first_day <ℤ day → before ≡ day -ℤ pos 1
-  pub end : day ≡ first_day → before ≡ day
+  pub end : day ≡ first_day → before ≡ first_day
 
 pub record IsAfter (day after : ℤ) : Type 0 where
   pub own : IsDay day
   pub other : IsDay after
   pub one : day <ℤ last_day → after ≡ day +ℤ pos 1
-  pub end : day ≡ last_day → after ≡ day
+  pub end : day ≡ last_day → after ≡ last_day
+
+-- a day of a number that is clipped to the calendar
+pub record IsClipped (number day : ℤ) : Type 0 where
+  pub range : IsDay day
+  pub inside : IsDay number → day ≡ number
+  pub before : number <ℤ first_day → day ≡ first_day
+  pub behind : last_day <ℤ number → day ≡ last_day
+
+pub before_from : (own number before : ℤ) → IsDay own → number ≡ own -ℤ pos 1 → IsClipped number before → IsBefore own before
+before_from own number before k e c =
+    let low = k.low in
+    let high = k.high in
+    record {
+      own = k;
+      other = c.range;
+      one = λ l. c.inside (record { low = omega (arith, ints); high = omega (arith, ints) }) ∙ e;
+      end = λ f. c.before (omega (arith, ints));
+    }
+
+pub after_from : (own number after : ℤ) → IsDay own → number ≡ own +ℤ pos 1 → IsClipped number after → IsAfter own after
+after_from own number after k e c =
+    let low = k.low in
+    let high = k.high in
+    record {
+      own = k;
+      other = c.range;
+      one = λ l. c.inside (record { low = omega (arith, ints); high = omega (arith, ints) }) ∙ e;
+      end = λ f. c.behind (omega (arith, ints));
+    }
 
 met_low : (text : List ℕ) (own before at d : ℤ) → IsZone text → IsBefore own before → IsIn text own at → IsDay d
     → (at -ℤ most_gap_seconds) ≤ℤ day_start_of text (d +ℤ pos 1) → before ≤ℤ d
@@ -65,14 +94,14 @@ met_low text own before at d zone b i k m =
     let own_high = b.own.high in
     by_lt_z first_day own
     (λ l.
-      let e = b.one l in
-      by_lt_z d (own -ℤ pos 1)
-      (λ n.
-        let lasts = day_lasts text (own -ℤ pos 1) own zone (record { low = omega (arith, ints); high = omega (arith, ints) }) (omega (arith, ints)) in
-        let rises = start_from text (d +ℤ pos 1) (own -ℤ pos 1) zone (omega (arith, ints)) (omega (arith, ints)) (omega (arith, ints)) in
-        let from = i.from in
-        absurd (omega (arith, ints)))
-      (λ n. omega (arith, ints)))
+    let e = b.one l in
+    by_lt_z d (own -ℤ pos 1)
+    (λ n.
+    let lasts = day_lasts text (own -ℤ pos 1) own zone (record { low = omega (arith, ints); high = omega (arith, ints) }) (omega (arith, ints)) in
+    let rises = start_from text (d +ℤ pos 1) (own -ℤ pos 1) zone (omega (arith, ints)) (omega (arith, ints)) (omega (arith, ints)) in
+    let from = i.from in
+    absurd (omega (arith, ints)))
+    (λ n. omega (arith, ints)))
     (λ l. let e = b.end (omega (arith, ints)) in omega (arith, ints))
 
 met_high : (text : List ℕ) (own after at d : ℤ) → IsZone text → IsAfter own after → IsIn text own at → IsDay d
@@ -84,14 +113,14 @@ met_high text own after at d zone b i k m =
     let own_high = b.own.high in
     by_lt_z own last_day
     (λ l.
-      let e = b.one l in
-      by_lt_z (own +ℤ pos 1) d
-      (λ n.
-        let lasts = day_lasts text (own +ℤ pos 1) (own +ℤ pos 2) zone (record { low = omega (arith, ints); high = omega (arith, ints) }) (omega (arith, ints)) in
-        let rises = start_from text (own +ℤ pos 2) d zone (omega (arith, ints)) (omega (arith, ints)) (omega (arith, ints)) in
-        let until = i.until in
-        absurd (omega (arith, ints)))
-      (λ n. omega (arith, ints)))
+    let e = b.one l in
+    by_lt_z (own +ℤ pos 1) d
+    (λ n.
+    let lasts = day_lasts text (own +ℤ pos 1) (own +ℤ pos 2) zone (record { low = omega (arith, ints); high = omega (arith, ints) }) (omega (arith, ints)) in
+    let rises = start_from text (own +ℤ pos 2) d zone (omega (arith, ints)) (omega (arith, ints)) (omega (arith, ints)) in
+    let until = i.until in
+    absurd (omega (arith, ints)))
+    (λ n. omega (arith, ints)))
     (λ l. let e = b.end (omega (arith, ints)) in omega (arith, ints))
 
 before_least : (own before d : ℤ) → IsBefore own before → before <ℤ d → own ≤ℤ d
@@ -171,16 +200,16 @@ lesser x y = by_lt_z y x (λ l. let e : int_lt y x ≡ true = grind (arith, ints
     (λ l. let e : int_lt y x ≡ false = grind (arith, ints) in rw e (omega (arith, ints), (omega (arith, ints), inl refl)))
 
 max_day : (x y : ℤ) → IsDay x → IsDay y → IsDay (int_max x y)
-max_day x y k l = elim ((greater x y).1.1) [ | inl e ↦ subst IsDay (sym e) k | inr e ↦ subst IsDay (sym e) l ]
+max_day x y k l = elim ((greater x y).1.1) [ inl e ↦ subst IsDay (sym e) k | inr e ↦ subst IsDay (sym e) l ]
 
 min_day : (x y : ℤ) → IsDay x → IsDay y → IsDay (int_min x y)
-min_day x y k l = elim ((lesser x y).1.1) [ | inl e ↦ subst IsDay (sym e) k | inr e ↦ subst IsDay (sym e) l ]
+min_day x y k l = elim ((lesser x y).1.1) [ inl e ↦ subst IsDay (sym e) k | inr e ↦ subst IsDay (sym e) l ]
 
 max_most : (x y d : ℤ) → x ≤ℤ d → y ≤ℤ d → int_max x y ≤ℤ d
-max_most x y d a b = elim ((greater x y).1.1) [ | inl e ↦ omega (arith, ints) | inr e ↦ omega (arith, ints) ]
+max_most x y d a b = elim ((greater x y).1.1) [ inl e ↦ omega (arith, ints) | inr e ↦ omega (arith, ints) ]
 
 min_least : (x y d : ℤ) → d ≤ℤ x → d ≤ℤ y → d ≤ℤ int_min x y
-min_least x y d a b = elim ((lesser x y).1.1) [ | inl e ↦ omega (arith, ints) | inr e ↦ omega (arith, ints) ]
+min_least x y d a b = elim ((lesser x y).1.1) [ inl e ↦ omega (arith, ints) | inr e ↦ omega (arith, ints) ]
 
 both_cover : (p q : ℤ → Bool) (a b x y : ℤ) → IsCover p a b → IsCover q x y → IsCover (λ d. p d && q d) (int_max a x) (int_min b y)
 both_cover p q a b x y h k = record {
@@ -242,11 +271,11 @@ used_low : (stations : List StationRecord) (site : SiteNumber) (from until day :
 used_low stations site from until day u h =
     by_lt_z day from
     (λ l.
-      let found = (both_of (begun stations site day) (goes_on stations site day) h).0 in
-      let none = calendar_any_none (λ earlier. int_le earlier day && is_filled stations site earlier)
-          (λ d k. not_and (int_le d day) (is_filled stations site d) (λ t f. let a = le_is d day t in let b = (u.2 d k f).0 in omega (arith, ints))) in
-      let n : false ≡ true = sym none ∙ found in
-      absurd (cc))
+    let found = (both_of (begun stations site day) (goes_on stations site day) h).0 in
+    let none = calendar_any_none (λ earlier. int_le earlier day && is_filled stations site earlier)
+    (λ d k. not_and (int_le d day) (is_filled stations site d) (λ t f. let a = le_is d day t in let b = (u.2 d k f).0 in omega (arith, ints))) in
+    let n : false ≡ true = sym none ∙ found in
+    absurd (cc))
     (λ l. l)
 
 used_high : (stations : List StationRecord) (site : SiteNumber) (from until day : ℤ) → IsUsedSpan stations site (Some (from, until))
@@ -254,11 +283,11 @@ used_high : (stations : List StationRecord) (site : SiteNumber) (from until day 
 used_high stations site from until day u h =
     by_lt_z until day
     (λ l.
-      let found = (both_of (begun stations site day) (goes_on stations site day) h).1 in
-      let none = calendar_any_none (λ later. int_le day later && is_filled stations site later)
-          (λ d k. not_and (int_le day d) (is_filled stations site d) (λ t f. let a = le_is day d t in let b = (u.2 d k f).1 in omega (arith, ints))) in
-      let n : false ≡ true = sym none ∙ found in
-      absurd (cc))
+    let found = (both_of (begun stations site day) (goes_on stations site day) h).1 in
+    let none = calendar_any_none (λ later. int_le day later && is_filled stations site later)
+    (λ d k. not_and (int_le day d) (is_filled stations site d) (λ t f. let a = le_is day d t in let b = (u.2 d k f).1 in omega (arith, ints))) in
+    let n : false ≡ true = sym none ∙ found in
+    absurd (cc))
     (λ l. l)
 
 pub used_cover : (stations : List StationRecord) (site : SiteNumber) (from until : ℤ) → IsUsedSpan stations site (Some (from, until)) → IsDay from → IsDay until
@@ -270,17 +299,17 @@ used_cover stations site from until u f l = record {
   only = λ d k m n.
       both_true _ _
       (calendar_any (λ earlier. int_le earlier d && is_filled stations site earlier) from f
-        (both_true (int_le from d) (is_filled stations site from) (le_if from d (omega (arith, ints))) u.0))
+      (both_true (int_le from d) (is_filled stations site from) (le_if from d (omega (arith, ints))) u.0))
       (calendar_any (λ later. int_le d later && is_filled stations site later) until l
-        (both_true (int_le d until) (is_filled stations site until) (le_if d until (omega (arith, ints))) u.1));
+      (both_true (int_le d until) (is_filled stations site until) (le_if d until (omega (arith, ints))) u.1));
 }
 
 pub none_used : (stations : List StationRecord) (site : SiteNumber) → IsUsedSpan stations site None → AreCompared (is_between_filled stations site) None
 none_used stations site u day d =
     not_and _ _ (λ t v.
-      let none = calendar_any_none (λ earlier. int_le earlier day && is_filled stations site earlier) (λ x k. and_none (int_le x day) (is_filled stations site x) (u x k)) in
-      let n : false ≡ true = sym none ∙ t in
-      absurd (cc))
+    let none = calendar_any_none (λ earlier. int_le earlier day && is_filled stations site earlier) (λ x k. and_none (int_le x day) (is_filled stations site x) (u x k)) in
+    let n : false ≡ true = sym none ∙ t in
+    absurd (cc))
 
 -- one day
 pub one_cover : (stations : List StationRecord) (site : SiteNumber) (own : ℤ) → IsDay own → IsCover (in_reach stations site (One own)) own own

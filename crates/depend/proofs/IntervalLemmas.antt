@@ -139,8 +139,8 @@ far_day s day r rs k d h m =
     let g : gap ≤ℤ most_gap_seconds = gap_seconds s.gap k.gap_high in
     let longer = zone_steps s.zone k.zone_is day d.low d.high in
     let same : window a b gap (put_all (r ∷ rs) s.readings) ≡ window a b gap s.readings =
-        far_leave a b gap (r ∷ rs) s.readings k.readings_are.rising (omega (arith, ints)) (omega (arith, ints))
-        (All-weaker (IsFrom r.at (last_of r rs).at) (IsFar a b gap) (λ x i. far_from r.at (last_of r rs).at a b gap x g m i) (r ∷ rs) (from_first r rs h)) in
+    far_leave a b gap (r ∷ rs) s.readings k.readings_are.rising (omega (arith, ints)) (omega (arith, ints))
+    (All-weaker (IsFrom r.at (last_of r rs).at) (IsFar a b gap) (λ x i. far_from r.at (last_of r rs).at a b gap x g m i) (r ∷ rs) (from_first r rs h)) in
     sym ((Decides-same_inputs (station_day s day) (station_day (with_readings (r ∷ rs) s) day)).1
     (ap (λ (w : List Reading). with_window s.gap s.stage_array s.discharge_array a b w) (sym same)))
 
@@ -177,7 +177,7 @@ set_reaches stations site day name gap stages discharges (Some s) d e n =
     by_test (has_inputs (station_day s day))
     (λ t. filled_between stations site day d (rw e t))
     (λ f. absurd (kept_not _
-      (set_told stations site (SetStation name gap stages discharges) day s name gap stages discharges true refl e (empty_kept s day name gap stages discharges f)) n))
+    (set_told stations site (SetStation name gap stages discharges) day s name gap stages discharges true refl e (empty_kept s day name gap stages discharges f)) n))
 
 put_met : (stations : List StationRecord) (site : SiteNumber) (day : ℤ) (r : Reading) (rs : List Reading) (s : StationRecord) → station_of stations site ≡ Some s
     → meets r.at (last_of r rs).at (day_start s day) (day_start s (day +ℤ pos 1)) ≡ true → in_reach stations site (touched_by (PutReadings (r ∷ rs))) day ≡ true
@@ -191,15 +191,15 @@ put_reaches kept site day r rs (Some s) k d h e n =
     by_test (meets r.at (last_of r rs).at (day_start s day) (day_start s (day +ℤ pos 1)))
     (λ t. put_met (records_of kept) site day r rs s e t)
     (λ f. absurd (kept_not _
-      (put_told (records_of kept) site (PutReadings (r ∷ rs)) day s (r ∷ rs) true refl e
-        (far_day s day r rs (station_is kept site s k.each e) d h f)) n))
+    (put_told (records_of kept) site (PutReadings (r ∷ rs)) day s (r ∷ rs) true refl e
+    (far_day s day r rs (station_is kept site s k.each e) d h f)) n))
 
 by_kind : (limits : Limits) (kept : List KeptStation) (edit : Edit) (what : What) (day : ℤ) → edit.what ≡ what → IsLawful what → AreStations kept
     → refusal_of limits (records_of kept) edit ≡ None → IsDay day → Reaches (records_of kept) edit.site day what
 by_kind limits kept edit (AddStation name zone gap stages discharges) day w l k r d n =
     absurd (kept_not _
-      (add_told limits (records_of kept) edit (AddStation name zone gap stages discharges) day w r
-        (not_kept limits (records_of kept) edit (station_of (records_of kept) edit.site) (ap adds_station w) r refl)) n)
+    (add_told limits (records_of kept) edit (AddStation name zone gap stages discharges) day w r
+    (not_kept limits (records_of kept) edit (station_of (records_of kept) edit.site) (ap adds_station w) r refl)) n)
 by_kind limits kept edit (SetStation name gap stages discharges) day w l k r d n =
     set_reaches (records_of kept) edit.site day name gap stages discharges (station_of (records_of kept) edit.site) d refl n
 by_kind limits kept edit (PutReadings []) day w l k r d n = absurd (let f = l.fewest in omega arith)

@@ -85,7 +85,7 @@ pub no_days : (limits : Limits) (kept : List KeptStation) (edit : Edit) → AreS
 no_days limits kept edit k r c =
     sym (calendar_none (λ day. not (keeps_day (records_of kept) edit day))
     (λ d l. not_kept_none (keeps_day (records_of kept) edit d) (in_reach (records_of kept) edit.site (touched_by edit.what) d)
-      (no_day_outside limits kept edit d k r l) (c d l)))
+    (no_day_outside limits kept edit d k r l) (c d l)))
 
 -- and they are at most two more than those of the interval
 pub few_steps : (stations : List StationRecord) (edit : Edit) (first last : ℤ) (before after : ℕ)

@@ -11,7 +11,7 @@ ghost use Rattle.office_inputs.specs.declared.touched.Touched.TheVariants.{Betwe
 
 use civil_days::StationZone;
 use edits::Edit;
-use fixed_units::{Day, Second, Site};
+use fixed_units::{Day, FIRST_DAY, LAST_DAY, Second, Site};
 use office_inputs::{Inputs, Touched, stations_keep_to_their_ranges};
 
 /// The first and the last of the days that are compared for an edit, or `None` where its interval has no day.
@@ -65,7 +65,9 @@ fn near_days(zone: &StationZone, first: Second, last: Second) -> (Day, Day)
     requires last { IsStamp last }
     ensures { IsCover (λ day. meets first last (day_start_of zone.now day) (day_start_of zone.now (day +ℤ pos 1))) result.0 result.1 }
 {
-    (day_before(zone.day_of(first)), day_after(zone.day_of(last)))
+    let from = zone.day_of(first).get();
+    let until = zone.day_of(last).get();
+    (clipped(from - 1), clipped(until + 1))
 }
 
 /// The days from the first that has inputs to the last.
@@ -119,28 +121,22 @@ fn earlier(day: Day, other: Day) -> Day
     if day < other { day } else { other }
 }
 
-/// The day before, or the first of the calendar itself.
-fn day_before(day: Day) -> Day
-    ensures own { IsDay day }
+/// The day of a number, or the end of the calendar that it lies beyond.
+fn clipped(number: i32) -> Day
     ensures range { IsDay result }
-    ensures before { first_day <ℤ day → result ≡ day -ℤ pos 1 }
-    ensures end { day ≡ first_day → result ≡ day }
+    ensures inside { IsDay number → result ≡ number }
+    ensures before { number <ℤ first_day → result ≡ first_day }
+    ensures behind { last_day <ℤ number → result ≡ last_day }
 {
-    match Day::new(day.get() - 1) {
-        Some(before) => before,
-        None => day,
-    }
-}
-
-/// The day after, or the last of the calendar itself.
-fn day_after(day: Day) -> Day
-    ensures own { IsDay day }
-    ensures range { IsDay result }
-    ensures after { day <ℤ last_day → result ≡ day +ℤ pos 1 }
-    ensures end { day ≡ last_day → result ≡ day }
-{
-    match Day::new(day.get() + 1) {
-        Some(after) => after,
-        None => day,
+    let nearest = if number < FIRST_DAY {
+        FIRST_DAY
+    } else if LAST_DAY < number {
+        LAST_DAY
+    } else {
+        number
+    };
+    match Day::new(nearest) {
+        Some(day) => day,
+        None => unreachable!(),
     }
 }

@@ -22,4 +22,4 @@ returns c =
     asked_days (in_force c.args.before.now) (in_force c.args.after.now) c.args.edit.now c.from_vec.result c.requires
     (c.from_vec.ensures
     ∙ found_last (differs (in_force c.args.before.now) (in_force c.args.after.now) c.args.edit.now.site) first_day last_day number c.loop-number.days.items
-      (omega (arith, ints, c.loop-number-test.false)) c.loop-number.invariant)
+    (omega (arith, ints, c.loop-number-test.false)) c.loop-number.invariant)

@@ -44,4 +44,4 @@ returns-clause-days g c =
     let high = c.get-number-end.ensures.range.high in
     c.from_vec.ensures
     ∙ found_last (changed c.args.inputs.now c.args.edit.now) c.args.span.0 c.args.span.1 number c.loop-number.days.items
-      (omega (arith, ints, c.loop-number-test.false)) c.loop-number.invariant.found
+    (omega (arith, ints, c.loop-number-test.false)) c.loop-number.invariant.found

@@ -9,7 +9,7 @@ pub returns-in-Some-clause-days : goal.returns-in-Some-clause-days
 returns-in-Some-clause-days g c =
     IfOk-weaker c.changed_between.result _ _
     (λ days e. e ∙ found_days c.args.inputs.now.limits c.args.inputs.now.kept c.args.edit.now c.in-Some.span.0 c.in-Some.span.1
-      c.stations_keep_to_their_ranges.ensures c.requires c.in-Some.ensures)
+    c.stations_keep_to_their_ranges.ensures c.requires c.in-Some.ensures)
     c.changed_between.ensures.days
 
 pub returns-in-Some-clause-steps : goal.returns-in-Some-clause-steps

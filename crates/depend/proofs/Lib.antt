@@ -1,0 +1,4 @@
+pub mod CalendarLemmas
+pub mod IntervalLemmas
+pub mod CoverLemmas
+pub mod ReachLemmas

@@ -1,0 +1,82 @@
+//! The days that an edit changes.
+
+ghost use Rattle.std.specs.Prelude.{◌≡◌, ◌≤◌, ◌+◌, ◌++◌, [], ◌∷◌, not, None, filter, length, IfOk, OnOk, ℤ};
+ghost use Rattle.depend.specs.Compared.{days_within};
+ghost use Rattle.fixed_units.specs.Quantities.{IsDay};
+ghost use Rattle.office_inputs.specs.Changes.{changed_days, keeps_day};
+ghost use Rattle.office_inputs.specs.Kept.{in_force};
+ghost use Rattle.office_inputs.specs.Refusals.{refusal_of};
+ghost use Rattle.office_inputs.specs.Touched.{interval};
+
+use crate::days::DayList;
+use crate::spans::compared_days;
+use edits::Edit;
+use fixed_units::{Day, NoMemory};
+use office_inputs::{Inputs, stations_keep_to_their_ranges};
+use std::alloc::Global;
+use std::sync::ledger::Ledger;
+use steps::Steps;
+
+/// The days that an edit changes, in order: of every day of the calendar those whose inputs differ before it and after it. The
+/// days of its interval are compared, and at most two others.
+///
+/// # Errors
+///
+/// [`NoMemory`] where the list had no room.
+pub fn reach<L: Ledger>(
+    alloc: Global,
+    inputs: &Inputs,
+    edit: &Edit,
+    steps: &mut Steps<L>,
+) -> Result<DayList, NoMemory>
+    requires { refusal_of inputs.now.limits (in_force inputs.now) edit.now ≡ None }
+    ensures days { IfOk result (λ days. days ≡ changed_days (in_force inputs.now) edit.now) }
+    ensures steps { steps.new ≤ steps.old + length (interval (in_force inputs.now) edit.now) + 9 }
+{
+    stations_keep_to_their_ranges(inputs);
+    match compared_days(inputs, edit) {
+        Some(span) => changed_between(alloc, inputs, edit, span, steps),
+        None => Ok(DayList::from_vec(Vec::new(alloc))),
+    }
+}
+
+/// The days that an edit changes, of those from the first of a span to its last: each is compared once.
+fn changed_between<L: Ledger>(
+    alloc: Global,
+    inputs: &Inputs,
+    edit: &Edit,
+    span: (Day, Day),
+    steps: &mut Steps<L>,
+) -> Result<DayList, NoMemory>
+    requires { refusal_of inputs.now.limits (in_force inputs.now) edit.now ≡ None }
+    ensures days { IfOk result (λ days. days ≡ filter (λ day. not (keeps_day (in_force inputs.now) edit.now day)) (days_within span.0 span.1)) }
+    ensures steps { steps.new ≤ steps.old + length (days_within span.0 span.1) }
+{
+    let mut days = Vec::new(alloc);
+    for number in span.0.get()..span.1.get() + 1 {
+        add_changed(&mut days, inputs, edit, number, steps)?;
+    }
+    Ok(DayList::from_vec(days))
+}
+
+/// Adds the day of a number where the edit changes it.
+fn add_changed<L: Ledger>(
+    days: &mut Vec<Day>,
+    inputs: &Inputs,
+    edit: &Edit,
+    number: i32,
+    steps: &mut Steps<L>,
+) -> Result<(), NoMemory>
+    requires refusal { refusal_of inputs.now.limits (in_force inputs.now) edit.now ≡ None }
+    requires day { IsDay number }
+    ensures days { OnOk result (days.new.items ≡ days.old.items ++ filter (λ day. not (keeps_day (in_force inputs.now) edit.now day)) (number ∷ [])) }
+    ensures step { steps.new ≡ steps.old + 1 }
+{
+    let Some(day) = Day::new(number) else {
+        unreachable!();
+    };
+    if !inputs.same_day_inputs(edit, day, steps) {
+        days.push(day)?;
+    }
+    Ok(())
+}

@@ -1,89 +1,101 @@
 //! What no clause says: that the bytes are the ones meant, by journals written out by hand, and that the calls succeed.
 
+use crate::rows::fixtures::{disk, same};
 use devices::{DiskFailed, MemoryDisk};
 use journal::laws::{
     begun_is_made_anew, damaged_at_one_gate, empty_journal_has_no_records, no_journal_is_damaged,
     nothing_else_has_the_header, one_record_more, stands_for_one_list,
 };
-use journal::{AppendFault, InitFault, Journal, OpenFault, init, open};
+use journal::{AppendFault, InitFault, Journal, OpenFault, Opening, init, open};
 use records::first_path::is_numbered;
 use std::alloc::Global;
-use std::test::Fail;
+use std::process::Abort;
+
+/// The text that a journal begins with.
+const HEADER: &[u8] = b"STREAMOFFICE-J1\n";
 
 /// A journal of no records.
-const EMPTY: [u8; 17] = *b"STREAMOFFICE-J1\n\0";
+const EMPTY: &[u8] = b"STREAMOFFICE-J1\n\0";
+
+/// An open gate.
+const GATE: &[u8] = b"\x01";
 
 /// The first record with the gate behind it: 1.00 feet at 2024-01-05T05:00:00Z.
-const FIRST: [u8; 42] =
-    *b"\x25\0\0\0\x03\x02AB\x02r1\x08\xa4\x1f\x19\0\0\0\0\0\x01\0\0\0\xd0\x8c\x97\x65\0\0\0\0\x40\x42\x0f\0\0\0\0\0\0\0";
+const FIRST: &[u8] =
+    b"\x25\0\0\0\x03\x02AB\x02r1\x08\xa4\x1f\x19\0\0\0\0\0\x01\0\0\0\xd0\x8c\x97\x65\0\0\0\0\x40\x42\x0f\0\0\0\0\0\0\0";
+
+/// It without the gate, that without its last byte, and without its first.
+const RECORD: &[u8] =
+    b"\x25\0\0\0\x03\x02AB\x02r1\x08\xa4\x1f\x19\0\0\0\0\0\x01\0\0\0\xd0\x8c\x97\x65\0\0\0\0\x40\x42\x0f\0\0\0\0\0\0";
+
+const CUT_RECORD: &[u8] =
+    b"\x25\0\0\0\x03\x02AB\x02r1\x08\xa4\x1f\x19\0\0\0\0\0\x01\0\0\0\xd0\x8c\x97\x65\0\0\0\0\x40\x42\x0f\0\0\0\0\0";
+
+const AFTER_ITS_FIRST_BYTE: &[u8] =
+    b"\0\0\0\x03\x02AB\x02r1\x08\xa4\x1f\x19\0\0\0\0\0\x01\0\0\0\xd0\x8c\x97\x65\0\0\0\0\x40\x42\x0f\0\0\0\0\0\0\0";
 
 /// The second.
-const SECOND: [u8; 42] =
-    *b"\x25\0\0\0\x03\x02AB\x02r2\x08\xa4\x1f\x19\0\0\0\0\0\x01\0\0\0\xd0\x8c\x97\x65\0\0\0\0\x40\x42\x0f\0\0\0\0\0\0\0";
-
-fn disk(alloc: Global, bytes: &[u8], failing: &[u64]) -> Result<MemoryDisk, Fail> {
-    Ok(MemoryDisk::new(alloc, bytes.to_vec(alloc)?, failing.to_vec(alloc)?)?)
-}
+const SECOND: &[u8] =
+    b"\x25\0\0\0\x03\x02AB\x02r2\x08\xa4\x1f\x19\0\0\0\0\0\x01\0\0\0\xd0\x8c\x97\x65\0\0\0\0\x40\x42\x0f\0\0\0\0\0\0\0";
 
 /// The header, and these parts behind it.
-fn file(alloc: Global, parts: &[&[u8]]) -> Result<Vec<u8>, Fail> {
-    let mut bytes = EMPTY[..16].to_vec(alloc)?;
+fn file(rt: &impl Abort, alloc: Global, parts: &[&[u8]]) -> Vec<u8> {
+    let mut bytes = HEADER.to_vec(alloc).expect(rt, "memory for the header");
     for part in parts {
-        bytes.extend_from_slice(part)?;
+        bytes
+            .extend_from_slice(part)
+            .expect(rt, "memory for a part");
     }
-    Ok(bytes)
+    bytes
 }
 
+const MAKINGS: [(&[u8], Result<(), InitFault>); 10] = [
+    (b"", Ok(())),
+    (b"S", Ok(())),
+    (b"STREAMOFFICE-J1", Ok(())),
+    (b"STREAMOFFICE-J1\n", Ok(())),
+    (b"STREAMOFFICE-J1\n\x01", Ok(())),
+    (b"STREAMOFFICE-J1\n\x02", Ok(())),
+    (b"17 bytes of a tex", Ok(())),
+    (b"STREAMOFFICE-J1\n\0", Err(InitFault::Exists)),
+    (b"STREAMOFFICE-J1\n\0\0", Err(InitFault::Exists)),
+    (b"18 bytes of a text", Err(InitFault::NotAJournal)),
+];
+
 #[test]
-fn making(rt: HostRuntime) -> Result<(), Fail> {
-    let alloc = rt.alloc();
-    for (bytes, wanted) in [
-        (b"".as_slice(), Ok(())),
-        (b"S".as_slice(), Ok(())),
-        (b"STREAMOFFICE-J1".as_slice(), Ok(())),
-        (b"STREAMOFFICE-J1\n".as_slice(), Ok(())),
-        (b"STREAMOFFICE-J1\n\x01".as_slice(), Ok(())),
-        (b"STREAMOFFICE-J1\n\x02".as_slice(), Ok(())),
-        (b"17 bytes of a tex".as_slice(), Ok(())),
-        (b"STREAMOFFICE-J1\n\0".as_slice(), Err(InitFault::Exists)),
-        (b"STREAMOFFICE-J1\n\0\0".as_slice(), Err(InitFault::Exists)),
-        (
-            b"18 bytes of a text".as_slice(),
-            Err(InitFault::NotAJournal),
-        ),
-    ] {
-        let mut made = disk(alloc, bytes, &[])?;
-        assert_eq!(rt; init(&mut made), wanted);
-        let left = if wanted.is_ok() {
-            EMPTY.as_slice()
-        } else {
-            bytes
-        };
-        assert_eq!(rt; made.bytes(), left);
+fn making(rt: HostRuntime) {
+    for (bytes, wanted) in MAKINGS {
+        let mut made = disk(&rt, rt.alloc(), bytes, &[]);
+        same(&rt, bytes.len(), &init(&mut made), &wanted);
+        let left = if wanted.is_ok() { EMPTY } else { bytes };
+        same(&rt, bytes.len(), &made.bytes(), &left);
     }
-    Ok(())
 }
+
+const MAKINGS_AGAIN: [(u64, Result<(), InitFault>); 4] = [
+    (1, Ok(())),
+    (2, Ok(())),
+    (3, Ok(())),
+    (4, Err(InitFault::Exists)),
+];
 
 /// Each of the four calls fails once; the next making does it anew.
 #[test]
-fn making_fails(rt: HostRuntime) -> Result<(), Fail> {
-    let alloc = rt.alloc();
-    for call in [1, 2, 3, 4] {
-        let mut made = disk(alloc, b"17 bytes of a tex", &[call])?;
-        assert_eq!(rt; init(&mut made), Err(InitFault::Fault));
-        let again = if call == 4 {
-            Err(InitFault::Exists)
-        } else {
-            Ok(())
-        };
-        assert_eq!(rt; init(&mut made), again);
-        assert_eq!(rt; made.bytes(), EMPTY.as_slice());
+fn making_fails(rt: HostRuntime) {
+    for (call, again) in MAKINGS_AGAIN {
+        let mut made = disk(&rt, rt.alloc(), b"17 bytes of a tex", &[call]);
+        same(&rt, call, &init(&mut made), &Err(InitFault::Fault));
+        same(&rt, call, &init(&mut made), &again);
+        same(&rt, call, &made.bytes(), &EMPTY);
     }
-    Ok(())
 }
 
 /// The journal on a disk whose records are read to the end, or why there is none.
-fn opened(alloc: Global, made: MemoryDisk, limit: u64) -> Result<Journal<MemoryDisk>, OpenFault> {
+fn read_to_end(
+    alloc: Global,
+    made: MemoryDisk,
+    limit: u64,
+) -> Result<Journal<MemoryDisk>, OpenFault> {
     let mut opening = match open(alloc, made) {
         Ok(opening) => opening,
         Err(refused) => return Err(refused.fault),
@@ -98,102 +110,148 @@ fn opened(alloc: Global, made: MemoryDisk, limit: u64) -> Result<Journal<MemoryD
     Err(OpenFault::NoMemory)
 }
 
+fn opened(rt: &impl Abort, alloc: Global, made: MemoryDisk, limit: u64) -> Journal<MemoryDisk> {
+    match read_to_end(alloc, made, limit) {
+        Ok(journal) => journal,
+        Err(_) => panic!(rt; "the journal is not opened"),
+    }
+}
+
 /// How many records there are, each of its number, and why not more.
-fn count(alloc: Global, bytes: &[u8]) -> Result<(u64, Option<OpenFault>), Fail> {
-    let mut opening = match open(alloc, disk(alloc, bytes, &[])?) {
+fn count(rt: &impl Abort, alloc: Global, bytes: &[u8]) -> (u64, Option<OpenFault>) {
+    let mut opening = match open(alloc, disk(rt, alloc, bytes, &[])) {
         Ok(opening) => opening,
-        Err(refused) => return Ok((0, Some(refused.fault))),
+        Err(refused) => return (0, Some(refused.fault)),
     };
     for number in 0..9 {
         match opening.next(alloc) {
             Ok(Some(piece)) => {
-                if !is_numbered(&piece, number + 1) || opening.offset() != 16 + 42 * number {
-                    return Err("a record of its number is meant".into());
-                }
+                assert!(rt; is_numbered(&piece, number + 1));
+                assert!(rt; opening.offset() == 16 + 42 * number);
             }
-            Ok(None) => return Ok((number, None)),
-            Err(fault) => return Ok((number, Some(fault))),
+            Ok(None) => return (number, None),
+            Err(fault) => return (number, Some(fault)),
         }
     }
-    Err("a journal ends".into())
+    panic!(rt; "a journal ends");
 }
 
 #[test]
-fn openings(rt: HostRuntime) -> Result<(), Fail> {
-    let alloc = rt.alloc();
+fn openings_of_no_journal(rt: HostRuntime) {
     let none = Some(OpenFault::NotAJournal);
-    assert_eq!(rt; count(alloc, b"STREAMOFFICE-J1")?, (0, none));
-    assert_eq!(rt; count(alloc, b"17 bytes of a tex")?, (0, none));
-    let at_16 = Some(OpenFault::Damaged(16));
-    let at_58 = Some(OpenFault::Damaged(58));
-    let one = FIRST.as_slice();
-    let two = SECOND.as_slice();
-    let open_gate = b"\x01".as_slice();
-    let nothing = b"".as_slice();
-    for (parts, wanted) in [
-        ([nothing, nothing, nothing], (0, at_16)),
-        ([open_gate, nothing, nothing], (0, at_16)),
-        ([open_gate, &one[..3], nothing], (0, at_16)),
-        ([open_gate, &one[..40], nothing], (0, at_16)),
-        ([open_gate, b"\xff\xff\xff\xff", one], (0, at_16)),
-        ([open_gate, b"\x24", &one[1..]], (0, at_16)),
-        ([open_gate, two, nothing], (0, at_16)),
-        ([open_gate, &one[..41], nothing], (1, at_58)),
-        ([open_gate, &one[..41], open_gate], (1, at_58)),
-        ([open_gate, one, two], (1, None)),
-        ([b"\0", one, two], (0, None)),
-        ([b"\x02", nothing, nothing], (0, None)),
-        ([open_gate, &one[..41], b"\xff"], (1, None)),
-    ] {
-        assert_eq!(rt; count(alloc, &file(alloc, &parts)?)?, wanted);
+    same(
+        &rt,
+        15,
+        &count(&rt, rt.alloc(), b"STREAMOFFICE-J1"),
+        &(0, none),
+    );
+    same(
+        &rt,
+        17,
+        &count(&rt, rt.alloc(), b"17 bytes of a tex"),
+        &(0, none),
+    );
+}
+
+/// Parts behind the header, how many records there are, and why not more.
+const OPENINGS: [(&[u8], &[u8], &[u8], &[u8], u64, Option<OpenFault>); 15] = [
+    (b"", b"", b"", b"", 0, Some(OpenFault::Damaged(16))),
+    (GATE, b"", b"", b"", 0, Some(OpenFault::Damaged(16))),
+    (GATE, b"\x25\0\0", b"", b"", 0, Some(OpenFault::Damaged(16))),
+    (GATE, CUT_RECORD, b"", b"", 0, Some(OpenFault::Damaged(16))),
+    (
+        GATE,
+        b"\xff\xff\xff\xff",
+        FIRST,
+        b"",
+        0,
+        Some(OpenFault::Damaged(16)),
+    ),
+    (
+        GATE,
+        b"\x24",
+        AFTER_ITS_FIRST_BYTE,
+        b"",
+        0,
+        Some(OpenFault::Damaged(16)),
+    ),
+    (GATE, SECOND, b"", b"", 0, Some(OpenFault::Damaged(16))),
+    (GATE, RECORD, b"", b"", 1, Some(OpenFault::Damaged(58))),
+    (GATE, RECORD, GATE, b"", 1, Some(OpenFault::Damaged(58))),
+    (GATE, FIRST, SECOND, b"", 1, None),
+    (b"\0", FIRST, SECOND, b"", 0, None),
+    (b"\x02", b"", b"", b"", 0, None),
+    (GATE, RECORD, b"\xff", b"", 1, None),
+    (GATE, RECORD, GATE, FIRST, 1, Some(OpenFault::Damaged(58))),
+    (GATE, RECORD, GATE, SECOND, 2, None),
+];
+
+#[test]
+fn openings(rt: HostRuntime) {
+    let alloc = rt.alloc();
+    for (gate, first, second, third, records, fault) in OPENINGS {
+        let bytes = file(&rt, alloc, &[gate, first, second, third]);
+        same(
+            &rt,
+            bytes.len(),
+            &count(&rt, alloc, &bytes),
+            &(records, fault),
+        );
     }
-    let again = file(alloc, &[open_gate, &one[..41], open_gate, one])?;
-    assert_eq!(rt; count(alloc, &again)?, (1, at_58));
-    let both = file(alloc, &[open_gate, &one[..41], open_gate, two])?;
-    assert_eq!(rt; count(alloc, &both)?, (2, None));
-    Ok(())
+}
+
+/// Whether a read gives the first record; nothing at the end.
+fn read_on(opening: &mut Opening<MemoryDisk>, alloc: Global) -> Result<Option<bool>, OpenFault> {
+    match opening.next(alloc) {
+        Ok(Some(piece)) => Ok(Some(is_numbered(&piece, 1))),
+        Ok(None) => Ok(None),
+        Err(fault) => Err(fault),
+    }
 }
 
 /// A read that fails is made again; once the end was reached there is no more to be read.
 #[test]
-fn reading_again(rt: HostRuntime) -> Result<(), Fail> {
+fn reading_again(rt: HostRuntime) {
     let alloc = rt.alloc();
-    let bytes = file(alloc, &[b"\x01", &FIRST])?;
-    let mut opening = match open(alloc, disk(alloc, &bytes, &[4])?) {
+    let bytes = file(&rt, alloc, &[GATE, FIRST]);
+    let mut opening = match open(alloc, disk(&rt, alloc, &bytes, &[4])) {
         Ok(opening) => opening,
-        Err(_) => return Err("a journal is opened".into()),
+        Err(_) => panic!(rt; "a journal is opened"),
     };
-    assert_eq!(rt; opening.next(alloc).is_err(), true);
-    assert_eq!(rt; opening.offset(), 16);
-    let first = match opening.next(alloc) {
-        Ok(Some(piece)) => is_numbered(&piece, 1),
-        _ => false,
-    };
-    assert_eq!(rt; first, true);
-    for _ in 0..2 {
-        let ended = matches!(opening.next(alloc), Ok(None));
-        assert_eq!(rt; ended, true);
-    }
+    same(&rt, "fault", &read_on(&mut opening, alloc).is_err(), &true);
+    same(&rt, "offset", &opening.offset(), &16);
+    same(&rt, "again", &read_on(&mut opening, alloc), &Ok(Some(true)));
+    same(&rt, "end", &read_on(&mut opening, alloc), &Ok(None));
+    same(&rt, "end again", &read_on(&mut opening, alloc), &Ok(None));
     let back = opening.give_up();
-    assert_eq!(rt; back.bytes(), bytes.as_slice());
-    assert_eq!(rt; (back.call_count(), back.fault_count()), (5, 1));
-    Ok(())
+    same(&rt, "bytes", &back.bytes(), &bytes.as_slice());
+    same(
+        &rt,
+        "calls",
+        &(back.call_count(), back.fault_count()),
+        &(5, 1),
+    );
+}
+
+/// The fault of an opening, and how many calls its disk had.
+fn opening_fault(rt: &impl Abort, alloc: Global, call: u64) -> Option<(OpenFault, u64)> {
+    match open(alloc, disk(rt, alloc, EMPTY, &[call])) {
+        Ok(_) => None,
+        Err(refused) => Some((refused.fault, refused.disk.call_count())),
+    }
 }
 
 /// The first three calls are those of the opening.
 #[test]
-fn opening_fails(rt: HostRuntime) -> Result<(), Fail> {
-    let alloc = rt.alloc();
+fn opening_fails(rt: HostRuntime) {
     for call in [1, 2, 3] {
-        match open(alloc, disk(alloc, &EMPTY, &[call])?) {
-            Ok(_) => return Err("a fault is answered".into()),
-            Err(refused) => {
-                assert_eq!(rt; refused.fault, OpenFault::Fault);
-                assert_eq!(rt; refused.disk.call_count(), call);
-            }
-        }
+        same(
+            &rt,
+            call,
+            &opening_fault(&rt, rt.alloc(), call),
+            &Some((OpenFault::Fault, call)),
+        );
     }
-    Ok(())
 }
 
 /// Appends to a journal that is not in doubt.
@@ -205,57 +263,75 @@ fn append(journal: &mut Journal<MemoryDisk>, bytes: &[u8]) -> Option<Result<(), 
 }
 
 #[test]
-fn appending(rt: HostRuntime) -> Result<(), Fail> {
-    let alloc = rt.alloc();
-    let mut journal = match opened(alloc, disk(alloc, &EMPTY, &[])?, 100) {
-        Ok(journal) => journal,
-        Err(_) => return Err("a journal is opened".into()),
-    };
-    assert_eq!(rt; journal.fits(83), true);
-    assert_eq!(rt; journal.fits(84), false);
-    assert_eq!(rt; journal.fits(usize::MAX), false);
-    assert_eq!(rt; append(&mut journal, &FIRST), Some(Ok(())));
-    assert_eq!(rt; append(&mut journal, &SECOND), Some(Err(AppendFault::Full)));
-    let made = journal.close();
-    assert_eq!(rt; made.bytes(), file(alloc, &[b"\x01", &FIRST])?.as_slice());
+fn what_fits(rt: HostRuntime) {
+    let journal = opened(&rt, rt.alloc(), disk(&rt, rt.alloc(), EMPTY, &[]), 100);
+    for (length, fits) in [(83, true), (84, false), (usize::MAX, false)] {
+        same(&rt, length, &journal.fits(length), &fits);
+    }
+}
 
-    let mut journal = match opened(alloc, made, 101) {
-        Ok(journal) => journal,
-        Err(_) => return Err("a journal is opened again".into()),
-    };
-    assert_eq!(rt; append(&mut journal, &SECOND), Some(Ok(())));
+/// The disk of a journal to which a record was appended.
+fn with_first(rt: &impl Abort, alloc: Global) -> MemoryDisk {
+    let mut journal = opened(rt, alloc, disk(rt, alloc, EMPTY, &[]), 100);
+    same(rt, "first", &append(&mut journal, FIRST), &Some(Ok(())));
+    same(
+        rt,
+        "full",
+        &append(&mut journal, SECOND),
+        &Some(Err(AppendFault::Full)),
+    );
+    journal.close()
+}
+
+#[test]
+fn appending(rt: HostRuntime) {
+    let alloc = rt.alloc();
+    let made = with_first(&rt, alloc);
+    same(
+        &rt,
+        "one",
+        &made.bytes(),
+        &file(&rt, alloc, &[GATE, FIRST]).as_slice(),
+    );
+    let mut journal = opened(&rt, alloc, made, 101);
+    same(&rt, "second", &append(&mut journal, SECOND), &Some(Ok(())));
     let made = journal.close();
-    assert_eq!(rt; made.bytes().len(), 101);
-    assert_eq!(rt; count(alloc, made.bytes())?, (2, None));
-    Ok(())
+    same(&rt, "length", &made.bytes().len(), &101);
+    same(&rt, "two", &count(&rt, alloc, made.bytes()), &(2, None));
+}
+
+/// The call that fails, whether it leaves a doubt, and how many calls and records there are after another append.
+const APPENDINGS: [(u64, bool, u64, u64); 4] = [
+    (5, false, 9, 1),
+    (6, false, 10, 1),
+    (7, true, 7, 0),
+    (8, true, 8, 1),
+];
+
+/// The disk of a journal of which a call failed.
+fn appended_again(rt: &impl Abort, alloc: Global, call: u64, in_doubt: bool) -> MemoryDisk {
+    let mut journal = opened(rt, alloc, disk(rt, alloc, EMPTY, &[call]), 59);
+    let fault = AppendFault::Fault(in_doubt);
+    same(rt, call, &append(&mut journal, FIRST), &Some(Err(fault)));
+    same(rt, call, &journal.in_doubt(), &in_doubt);
+    let again = if in_doubt { None } else { Some(Ok(())) };
+    same(rt, call, &append(&mut journal, FIRST), &again);
+    journal.close()
 }
 
 /// The calls 5 to 8 of the disk are those of the append. One that leaves no doubt is made again.
 #[test]
-fn appending_fails(rt: HostRuntime) -> Result<(), Fail> {
-    let alloc = rt.alloc();
-    for (call, in_doubt, calls, records) in [
-        (5, false, 9, 1),
-        (6, false, 10, 1),
-        (7, true, 7, 0),
-        (8, true, 8, 1),
-    ] {
-        let mut journal = match opened(alloc, disk(alloc, &EMPTY, &[call])?, 59) {
-            Ok(journal) => journal,
-            Err(_) => return Err("a journal is opened".into()),
-        };
-        assert_eq!(rt;
-            append(&mut journal, &FIRST),
-            Some(Err(AppendFault::Fault(in_doubt)))
+fn appending_fails(rt: HostRuntime) {
+    for (call, in_doubt, calls, records) in APPENDINGS {
+        let made = appended_again(&rt, rt.alloc(), call, in_doubt);
+        same(&rt, call, &made.call_count(), &calls);
+        same(
+            &rt,
+            call,
+            &count(&rt, rt.alloc(), made.bytes()),
+            &(records, None),
         );
-        assert_eq!(rt; journal.in_doubt(), in_doubt);
-        let again = if in_doubt { None } else { Some(Ok(())) };
-        assert_eq!(rt; append(&mut journal, &FIRST), again);
-        let made = journal.close();
-        assert_eq!(rt; made.call_count(), calls);
-        assert_eq!(rt; count(alloc, made.bytes())?, (records, None));
     }
-    Ok(())
 }
 
 /// Mends a journal that is in doubt.
@@ -266,28 +342,37 @@ fn mend(journal: &mut Journal<MemoryDisk>) -> Option<Result<(), DiskFailed>> {
     Some(journal.mend())
 }
 
+/// The disk of a journal of which two calls failed, and which was mended.
+fn mended(rt: &impl Abort, alloc: Global, failing: &[u64]) -> MemoryDisk {
+    let mut journal = opened(rt, alloc, disk(rt, alloc, EMPTY, failing), 59);
+    same(rt, "sound", &mend(&mut journal), &None);
+    let fault = AppendFault::Fault(true);
+    same(rt, "fault", &append(&mut journal, FIRST), &Some(Err(fault)));
+    same(
+        rt,
+        "failed mend",
+        &mend(&mut journal),
+        &Some(Err(DiskFailed)),
+    );
+    same(rt, "mend", &mend(&mut journal), &Some(Ok(())));
+    same(rt, "append", &append(&mut journal, FIRST), &Some(Ok(())));
+    journal.close()
+}
+
 /// A mend that failed is made again, and then the record is appended where it was to stand.
 #[test]
-fn mending(rt: HostRuntime) -> Result<(), Fail> {
-    let alloc = rt.alloc();
+fn mending(rt: HostRuntime) {
+    let want = file(&rt, rt.alloc(), &[GATE, FIRST]);
     for (failing, calls) in [([7, 8], 14), ([7, 9], 15), ([8, 9], 15), ([8, 10], 16)] {
-        let mut journal = match opened(alloc, disk(alloc, &EMPTY, &failing)?, 59) {
-            Ok(journal) => journal,
-            Err(_) => return Err("a journal is opened".into()),
-        };
-        assert_eq!(rt; mend(&mut journal), None);
-        assert_eq!(rt;
-            append(&mut journal, &FIRST),
-            Some(Err(AppendFault::Fault(true)))
+        let made = mended(&rt, rt.alloc(), &failing);
+        same(
+            &rt,
+            calls,
+            &(made.call_count(), made.fault_count()),
+            &(calls, 2),
         );
-        assert_eq!(rt; mend(&mut journal), Some(Err(DiskFailed)));
-        assert_eq!(rt; mend(&mut journal), Some(Ok(())));
-        assert_eq!(rt; append(&mut journal, &FIRST), Some(Ok(())));
-        let made = journal.close();
-        assert_eq!(rt; (made.call_count(), made.fault_count()), (calls, 2));
-        assert_eq!(rt; made.bytes(), file(alloc, &[b"\x01", &FIRST])?.as_slice());
+        same(&rt, calls, &made.bytes(), &want.as_slice());
     }
-    Ok(())
 }
 
 #[test]

@@ -3,18 +3,4 @@
 #![tactic(auto)]
 
 #[cfg(test)]
-mod curves_rows;
-#[cfg(test)]
-mod day_inputs_rows;
-#[cfg(test)]
-mod day_values;
-#[cfg(test)]
-mod days;
-#[cfg(test)]
-mod fixtures;
-#[cfg(test)]
-mod quantities;
-#[cfg(test)]
-mod ratings_rows;
-#[cfg(test)]
-mod readings_rows;
+mod rows;

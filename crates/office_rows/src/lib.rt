@@ -3,16 +3,4 @@
 #![tactic(auto)]
 
 #[cfg(test)]
-mod disks;
-#[cfg(test)]
-mod edits;
-#[cfg(test)]
-mod fixtures;
-#[cfg(test)]
-mod journals;
-#[cfg(test)]
-mod payloads;
-#[cfg(test)]
-mod pending_days;
-#[cfg(test)]
-mod streams;
+mod rows;

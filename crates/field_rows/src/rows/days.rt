@@ -1,7 +1,7 @@
 //! Days of zones, and the texts of days and instants: the changes of 2024 by the Energy Policy Act of 2005, and edges of what is a zone.
 ghost use Rattle.std.specs.Prelude.{◌≡◌};
 
-use crate::fixtures::{same, second};
+use crate::rows::fixtures::{same, second};
 use civil_days::{StationZone, ZoneFault, read_day, read_instant, write_day, write_instant};
 use fixed_units::{Day, Second, Text, is_stamp};
 use std::alloc::Global;

@@ -4,7 +4,7 @@ ghost use Rattle.fixed_units.specs.Quantities.{IsStage};
 ghost use Rattle.readings.specs.Readings.{IsRising};
 ghost use Rattle.day_inputs.specs.DayInputs.{AreInputs};
 
-use crate::fixtures::{micro, same};
+use crate::rows::fixtures::{micro, same};
 use daily_values::{
     DayInputs, DayParts, DayValue, Figures, ReadingList, Sum, compute, from_scratch,
 };

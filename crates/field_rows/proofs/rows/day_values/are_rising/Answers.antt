@@ -1,7 +1,7 @@
 use Rattle.std.proofs.Common.{◌<ℤ◌, arith}
 use Rattle.std.proofs.lemmas.Int.{ints}
 use Rattle.daily_values.proofs.RisingLemmas.{rising-from_behind}
-use Rattle.field_rows.proofs.day_values.are_rising.Goals as goal
+use Rattle.field_rows.proofs.rows.day_values.are_rising.Goals as goal
 
 pub loop-rest-preserved : goal.loop-rest-preserved
 loop-rest-preserved c = λ rising. let less : c.left-item.result.at <ℤ c.right-item.result.at = omega (arith, ints) in

@@ -1,6 +1,6 @@
 //! What no clause says: worked tables, periods and RDB texts, and each public call on its happy path.
 
-use crate::fixtures::{micro, same, second};
+use crate::rows::fixtures::{micro, same, second};
 use fixed_units::{Micro, Second};
 use ratings::{Period, Periods, Rated, RdbFault, Table, TableFault, read_rdb};
 use std::alloc::Global;

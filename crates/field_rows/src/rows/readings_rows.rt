@@ -3,7 +3,7 @@
 ghost use Rattle.std.specs.Prelude.{◌≡◌, true};
 ghost use Rattle.readings.specs.Readings.{is_used};
 
-use crate::fixtures::{micro, same, second};
+use crate::rows::fixtures::{micro, same, second};
 use fixed_units::Second;
 use readings::{Flag, Reading, Readings};
 use std::alloc::Global;

@@ -1,6 +1,6 @@
 //! What no clause says: examples of curves and series, and each call that may want memory with ample memory.
 
-use crate::fixtures::{micro, same, second};
+use crate::rows::fixtures::{micro, same, second};
 use curves::{CorrectionSets, Curve, CurveFault, Entry, NoEntry, Series, Shifts};
 use fixed_units::Micro;
 use std::alloc::Global;

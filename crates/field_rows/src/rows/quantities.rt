@@ -1,6 +1,6 @@
 //! What no clause says: that the rules are the ones meant, by values worked out by hand.
 
-use crate::fixtures::{micro, same};
+use crate::rows::fixtures::{micro, same};
 use fixed_units::decimals::{Bad, read_decimal};
 use fixed_units::lines::{line_at, lines_meet_their_ends};
 use fixed_units::published::{

@@ -27,14 +27,23 @@ fn inputs(rt: &impl Abort, alloc: Global, gap: u32, until: i64, window: &[Readin
         discharge_array: RoundingArray::STAGES,
         from: second(rt, 0),
         until: second(rt, until),
-        window: ReadingList::from_vec(
-            Vec::from_slice(alloc, window).expect(rt, "memory for a window"),
-        ),
+        window: ReadingList::from_vec(Vec::from_slice(alloc, window).expect(
+            rt,
+            "memory for a window",
+        )),
     })
 }
 
 // Whether the inputs of a day with this gap tolerance, this end and this window are those of the day before.
-fn compare(rt: &impl Abort, alloc: Global, day: &DayInputs, gap: u32, until: i64, window: &[Reading], want: bool) {
+fn compare(
+    rt: &impl Abort,
+    alloc: Global,
+    day: &DayInputs,
+    gap: u32,
+    until: i64,
+    window: &[Reading],
+    want: bool,
+) {
     let other = inputs(rt, alloc, gap, until, window);
     same(rt, "one way", &are_same(day, &other), &want);
     same(rt, "the other way", &are_same(&other, day), &want);
@@ -55,8 +64,19 @@ fn equal_inputs(rt: HostRuntime) {
 
 #[test]
 fn empty_inputs(rt: HostRuntime) {
-    let day = inputs(&rt, rt.alloc(), 60, 86_400, &[reading(&rt, 10, Flag::Usable)]);
-    same(&rt, "both", &are_same(&DayInputs::Empty, &DayInputs::Empty), &true);
+    let day = inputs(
+        &rt,
+        rt.alloc(),
+        60,
+        86_400,
+        &[reading(&rt, 10, Flag::Usable)],
+    );
+    same(
+        &rt,
+        "both",
+        &are_same(&DayInputs::Empty, &DayInputs::Empty),
+        &true,
+    );
     same(&rt, "one", &are_same(&DayInputs::Empty, &day), &false);
 }
 

@@ -7,11 +7,11 @@ ghost use Rattle.first_records.specs.Edits.{IsWhat};
 use crate::rows::fixtures::{day, disk, reading, same};
 use daily_values::DayValue;
 use devices::MemoryDisk;
+use first_records::What;
 use fixed_units::{Day, Flag, Micro, Published, Reading, Second};
 use office::from_scratch::changed_days;
 use office::{Answer, Limits, Office, Refusal};
 use readings::Readings;
-use first_records::What;
 use std::alloc::Global;
 use std::process::Abort;
 

@@ -3,8 +3,8 @@ ghost use Rattle.fixed_units.specs.Quantities.{IsStage, IsStamp};
 ghost use Rattle.first_records.specs.Edits.{IsWhat};
 
 use devices::MemoryDisk;
-use fixed_units::{Day, Micro, Second};
 use first_records::What;
+use fixed_units::{Day, Micro, Second};
 use std::alloc::Global;
 use std::fmt::{Debug, Display};
 use std::process::Abort;

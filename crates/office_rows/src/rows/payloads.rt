@@ -1,12 +1,12 @@
 //! What no clause says: that the bytes are the ones meant, by records written out by hand, and that the calls succeed.
 
 use crate::rows::fixtures::{reading, same};
-use fixed_units::{Text, is_stage, is_stamp};
 use first_records::first_path::{is_numbered, record_of};
 use first_records::laws::{
     built_in_keeps_grammar, keeps_grammar, none_begins_another, payload_of_one_record, sizes,
 };
 use first_records::{By, DecodeFault, Record, Ref, What, decode, encode};
+use fixed_units::{Text, is_stage, is_stamp};
 use std::alloc::Global;
 use std::process::Abort;
 

@@ -1,0 +1,32 @@
+use Rattle.std.specs.Prelude.{◌≡◌, ◌≢◌, ◌⊎◌, ℕ, ◌+◌, ◌-◌, ◌<◌, ◌≤◌, min, max, Bool, true, false, not, ◌&&◌, cond, List, length, slice_get, set, Option, Some, None, ℤ, pos, ◌+ℤ◌, ◌<ℤ◌, ◌≤ℤ◌, int_lt}
+use Rattle.std.specs.Ordering.{int_eq}
+use Rattle.std.proofs.Common.{rules, arith, refl, ap, sym, subst, ◌∙◌, get_or, inl, inr}
+use Rattle.std.proofs.lemmas.Bool.{cases_lt, cases_eq, false≢true}
+use Rattle.std.proofs.lemmas.Int.{ints}
+use Rattle.std.proofs.lemmas.List.{get_or_default, get_or_past, length-set}
+use Rattle.daily_values.specs.declared.day_values.DayValue.TheVariants.{Empty}
+use Rattle.day_cells.specs.KeptDays.{KeptDays, KeepsPlaces, AreColumns, edit_of, is_edit, is_pending_on, waiting_of, waiting_on, HasCell}
+use Rattle.day_cells.proofs.DayLemmas.{on_day_at, on_day_before, on_day_behind}
+use Rattle.day_cells.proofs.CalendarLemmas.{first_is_found}
+use Rattle.day_cells.proofs.KeptLemmas.{cell_at, first_found, waiting_count, taken_out, published, marked, pending_has_cell, columns_written, count_written, before_cleared, before_marked, joined, unclaimed_cleared, unclaimed_marked, outside}
+use Rattle.day_cells.proofs.kept_days.DayCells.take_out.Goals as goal
+
+no_place : (cells : KeptDays) (day : ℤ) → HasCell cells day → (day <ℤ cells.start) ⊎ ((cells.start +ℤ pos (length cells.awaits)) ≤ℤ day) → ⊥
+no_place cells day has (inl h) = let low = has.low in omega (arith, ints)
+no_place cells day has (inr h) = let high = has.high in omega (arith, ints)
+
+pub returns-in-Some : goal.returns-in-Some
+returns-in-Some c =
+    let cells : KeptDays = record { site = c.self.inside.site; start = c.self.inside.start; awaits = c.self.inside.awaits.items; claims = c.self.inside.claims.items; values = c.self.inside.values.items; span = c.self.inside.span } in
+    let at = rw c.deref.ensures.value at c.in-Some.ensures.found in
+    rw (← c.self.view_is) (taken_out cells c.args.day c.in-Some.place true c.self.invariant.columns at.0 at.1)
+
+pub returns-in_default : goal.returns-in_default
+returns-in_default c =
+    let cells : KeptDays = record { site = c.self.inside.site; start = c.self.inside.start; awaits = c.self.inside.awaits.items; claims = c.self.inside.claims.items; values = c.self.inside.values.items; span = c.self.inside.span } in
+    let out = rw c.deref.ensures.value at c.in_default.ensures.absent in
+    let has : HasCell c.args.self.now c.args.day = pending_has_cell c.args.self.now c.args.day c.requires in
+    let has : HasCell cells c.args.day = rw (← c.self.view_is) at has in
+    let low = has.low in
+    let high = has.high in
+    absurd (no_place cells c.args.day has out)

@@ -65,24 +65,32 @@ module _ {X : Type 0} where
     | inr l ↦ get_or_past (replicate n z) k z (omega (arith, length-replicate n z))
   ]
 
+  -- a column with room at both ends
+  pub widened_front : (xs : List X) (z : X) (front back k : ℕ) → k < front → get_or ((replicate front z ++ xs) ++ replicate back z) k z ≡ z
+  widened_front xs z front back k l =
+      let inner : length (replicate front z ++ xs) ≡ front + length xs = omega (arith, length-append (replicate front z) xs, length-replicate front z) in
+      get_or_append_left (replicate front z ++ xs) (replicate back z) z k (omega arith)
+      ∙ get_or_append_left (replicate front z) xs z k (omega (arith, length-replicate front z)) ∙ blank front z k
+
+  pub widened_rest : (xs : List X) (z : X) (front back k : ℕ) → front ≤ k
+      → get_or ((replicate front z ++ xs) ++ replicate back z) k z ≡ get_or xs (k - front) z
+  widened_rest xs z front back k l =
+      let inner : length (replicate front z ++ xs) ≡ front + length xs = omega (arith, length-append (replicate front z) xs, length-replicate front z) in
+      elim (cases_lt k (front + length xs)) [
+        | inl m ↦ get_or_append_left (replicate front z ++ xs) (replicate back z) z k (omega arith)
+            ∙ get_or-append_right (replicate front z) xs front k z (length-replicate front z) l
+        | inr m ↦ get_or-append_right (replicate front z ++ xs) (replicate back z) (front + length xs) k z inner m
+            ∙ blank back z (k - (front + length xs)) ∙ sym (get_or_past xs (k - front) z (omega arith))
+      ]
+
   -- room at both ends changes nothing that is said
   pub on_day_widened : (start wide : ℤ) (xs : List X) (z : X) (front back : ℕ) → start ≡ wide +ℤ pos front → (day : ℤ)
       → on_day wide ((replicate front z ++ xs) ++ replicate back z) z day ≡ on_day start xs z day
   on_day_widened start wide xs z front back e day =
-      let inner : length (replicate front z ++ xs) ≡ front + length xs = omega (arith, length-append (replicate front z) xs, length-replicate front z) in
+      let ys = (replicate front z ++ xs) ++ replicate back z in
       by_day wide day
-      (λ h. on_day_before wide ((replicate front z ++ xs) ++ replicate back z) z day h ∙ sym (on_day_before start xs z day (omega (arith, ints))))
-      (λ j f. on_day_at wide ((replicate front z ++ xs) ++ replicate back z) z day j f ∙ elim (cases_lt j front) [
-          | inl l ↦ get_or_append_left (replicate front z ++ xs) (replicate back z) z j (omega arith)
-              ∙ get_or_append_left (replicate front z) xs z j (omega (arith, length-replicate front z))
-              ∙ blank front z j ∙ sym (on_day_before start xs z day (omega (arith, ints)))
-          | inr l ↦ (let here : day ≡ start +ℤ pos (j - front) = omega (arith, ints) in
-              elim (cases_lt j (front + length xs)) [
-                | inl m ↦ get_or_append_left (replicate front z ++ xs) (replicate back z) z j (omega arith)
-                    ∙ get_or-append_right (replicate front z) xs front j z (length-replicate front z) l
-                    ∙ sym (on_day_at start xs z day (j - front) here)
-                | inr m ↦ get_or-append_right (replicate front z ++ xs) (replicate back z) (front + length xs) j z inner m
-                    ∙ blank back z (j - (front + length xs)) ∙ sym (get_or_past xs (j - front) z (omega arith))
-                    ∙ sym (on_day_at start xs z day (j - front) here)
-              ])
+      (λ h. on_day_before wide ys z day h ∙ sym (on_day_before start xs z day (omega (arith, ints))))
+      (λ j f. on_day_at wide ys z day j f ∙ elim (cases_lt j front) [
+          | inl l ↦ widened_front xs z front back j l ∙ sym (on_day_before start xs z day (omega (arith, ints)))
+          | inr l ↦ widened_rest xs z front back j l ∙ sym (on_day_at start xs z day (j - front) (omega (arith, ints)))
       ])

@@ -8,11 +8,13 @@ ghost use Rattle.day_cells.specs.Spans as spans;
 ghost use Rattle.day_cells.specs.Spans.{IsSpan, with_days};
 ghost use Rattle.day_cells.specs.KeptDays.{HasCell, HasRoom, SaysTheSame, Marks, TakesOut, Publishes, awaited_on, is_pending_on, value_on, waiting_of};
 
-use crate::columns::{count_to, first_pending, first_unclaimed, place_of, waiting_at, widened};
+use crate::columns::{
+    count_to, distance, first_pending, first_unclaimed, place_of, room_behind, waiting_at, wide_start, widened,
+};
 use crate::spans::{Span, with_day};
 use crate::waiting::Waiting;
 use daily_values::DayValue;
-use fixed_units::{Day, FIRST_DAY, LAST_DAY, NoMemory, Site};
+use fixed_units::{Day, NoMemory, Site};
 use std::alloc::Global;
 use std::marker::Model;
 
@@ -133,6 +135,46 @@ impl DayCells {
         let place = first_unclaimed(&self.awaits, &self.claims, self.first_unclaimed);
         self.first_unclaimed = place;
         waiting_at(self.site, self.start, &self.awaits, &self.claims, place)
+    }
+
+    /// Makes room for a mark of these days. After `NoMemory` all is as before.
+    pub fn prepare(&mut self, alloc: Global, changed: &[Day]) -> Result<(), NoMemory>
+        ensures same { SaysTheSame self.old self.new }
+        ensures waiting { waiting_of self.new ≡ waiting_of self.old }
+        ensures room { OnOk result (HasRoom self.new changed.now) }
+        ensures kept { (day : ℤ) → HasCell self.old day → HasCell self.new day }
+        ensures err { OnErr result (self.new ≡ self.old) }
+    {
+        let start = wide_start(self.start, &self.awaits, changed);
+        let front = distance(start, self.start);
+        let back = room_behind(self.start, &self.awaits, changed);
+        if front + back == 0 {
+            return Ok(());
+        }
+        let awaits = widened(alloc, &self.awaits, 0, front, back)?;
+        let claims = widened(alloc, &self.claims, false, front, back)?;
+        let values = widened(alloc, &self.values, DayValue::Empty, front, back)?;
+        self.start = start;
+        self.awaits = awaits;
+        self.claims = claims;
+        self.values = values;
+        self.first += front;
+        self.first_unclaimed += front;
+        Ok(())
+    }
+
+    /// Makes each of these days await an edit, so that its claim is no longer out. There is room for them.
+    pub fn mark(&mut self, changed: &[Day], edit: u64)
+        requires rising { AllPairs (λ a b. a <ℤ b) changed.now }
+        requires room { HasRoom self.old changed.now }
+        requires edit { 1 ≤ edit }
+        ensures marks { Marks self.old self.new (contains_day changed.now) edit }
+        ensures span { self.new.span ≡ with_days self.old.span changed.now }
+        ensures count { length (waiting_of self.new) ≡ length (waiting_of self.old) + count_by (λ d. not (is_pending_on self.old d)) changed.now }
+    {
+        for day in changed {
+            self.mark_day(*day, edit);
+        }
     }
 
     /// Takes the claim of a pending day out.

@@ -1,5 +1,5 @@
 -- What the kept columns say of a day and of the pending days.
-use Rattle.std.specs.Prelude.{◌≡◌, ◌⊎◌, ℕ, ◌≢◌, ◌+◌, ◌<◌, ◌≤◌, min, Bool, true, false, cond, List, length, set, filter, find, count_by, Option, Some, None, IfSome, ℤ, pos, ◌+ℤ◌, ◌<ℤ◌, ◌≤ℤ◌}
+use Rattle.std.specs.Prelude.{◌≡◌, ◌⊎◌, ℕ, ◌≢◌, ◌+◌, ◌<◌, ◌≤◌, min, Bool, true, false, ◌&&◌, cond, List, length, set, filter, find, count_by, Option, Some, None, IfSome, ℤ, pos, ◌+ℤ◌, ◌<ℤ◌, ◌≤ℤ◌}
 use Rattle.std.proofs.Common.{arith, refl, ap, sym, ◌∙◌, get_or, inl, inr}
 use Rattle.std.proofs.lemmas.Int.{ints}
 use Rattle.std.proofs.lemmas.Bool.{cases_lt, cases_eq, false≢true}
@@ -200,3 +200,17 @@ pub outside : {X : Type 0} (start : ℤ) (awaits : List ℕ) (xs : List X) (z : 
     → (day <ℤ start) ⊎ ((start +ℤ pos (length awaits)) ≤ℤ day) → on_day start xs z day ≡ z
 outside start awaits xs z day e (inl h) = on_day_before start xs z day h
 outside start awaits xs z day e (inr h) = on_day_behind start xs z day (omega (arith, ints))
+
+never : (b : Bool) → (b && false) ≡ false
+never true = refl
+never false = refl
+
+-- a claim that is taken out leaves no more unclaimed
+pub unclaimed_taken : (awaits : List ℕ) (claims : List Bool) (place first : ℕ) → place < length claims → NoneUnclaimedBefore awaits claims first
+    → NoneUnclaimedBefore awaits (set claims place true) first
+unclaimed_taken awaits claims place first l h k high =
+    elim (cases_eq k place) [
+      | inl e ↦ (let m : get_or (set claims place true) k false ≡ true = ap (λ n. get_or (set claims place true) n false) e ∙ get_or-set_same claims place true false l in
+          rw m (never (is_edit (get_or awaits k 0))))
+      | inr e ↦ (let m = get_or-set_other claims place k true false e in rw m (h k high))
+    ]

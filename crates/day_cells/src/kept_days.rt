@@ -4,6 +4,7 @@ ghost use Rattle.std.specs.Prelude.{◌≡◌, true, false, ◌&&◌, not, if◌
 ghost use Rattle.std.specs.Ordering.{int_eq};
 ghost use Rattle.fixed_units.specs.Quantities.{first_day, last_day};
 ghost use Rattle.day_cells.specs.Days.{contains_day, days_of_calendar};
+ghost use Rattle.day_cells.specs.Sites.{station_rank};
 ghost use Rattle.day_cells.specs.Spans as spans;
 ghost use Rattle.day_cells.specs.Spans.{IsSpan, with_days};
 ghost use Rattle.day_cells.specs.KeptDays.{HasCell, HasRoom, SaysTheSame, Marks, TakesOut, Publishes, awaited_on, is_pending_on, value_on, waiting_of};
@@ -11,10 +12,12 @@ ghost use Rattle.day_cells.specs.KeptDays.{HasCell, HasRoom, SaysTheSame, Marks,
 use crate::columns::{
     count_to, distance, first_pending, first_unclaimed, place_of, room_behind, waiting_at, wide_start, widened,
 };
+use crate::sites::rank;
 use crate::spans::{Span, with_day};
 use crate::waiting::Waiting;
 use daily_values::DayValue;
 use fixed_units::{Day, NoMemory, Site};
+use rising::Keyed;
 use std::alloc::Global;
 use std::marker::Model;
 
@@ -128,12 +131,10 @@ impl DayCells {
     }
 
     /// The first pending day whose claim is not out.
-    pub fn first_unclaimed(&mut self) -> Option<Waiting>
-        ensures same { self.new ≡ self.old }
-        ensures first { result ≡ find (λ w. not w.out) (waiting_of self.old) }
+    pub fn first_unclaimed(&self) -> Option<Waiting>
+        ensures { result ≡ find (λ w. not w.out) (waiting_of self.now) }
     {
         let place = first_unclaimed(&self.awaits, &self.claims, self.first_unclaimed);
-        self.first_unclaimed = place;
         waiting_at(self.site, self.start, &self.awaits, &self.claims, place)
     }
 
@@ -180,10 +181,12 @@ impl DayCells {
     /// Takes the claim of a pending day out.
     pub fn take_out(&mut self, day: Day)
         requires { is_pending_on self.old day ≡ true }
-        ensures { TakesOut self.old self.new (λ other. int_eq day other) true }
+        ensures takes_out { TakesOut self.old self.new (λ other. int_eq day other) true }
+        ensures count { length (waiting_of self.new) ≡ length (waiting_of self.old) }
     {
         if let Some(place) = place_of(self.start, &self.awaits, day) {
             self.claims[place] = true;
+            self.first_unclaimed = first_unclaimed(&self.awaits, &self.claims, self.first_unclaimed);
         }
     }
 
@@ -199,6 +202,7 @@ impl DayCells {
             self.values[place] = value;
             self.pending -= 1;
             self.first = first_pending(&self.awaits, self.first);
+            self.first_unclaimed = first_unclaimed(&self.awaits, &self.claims, self.first_unclaimed);
         }
     }
 
@@ -220,5 +224,25 @@ impl DayCells {
             self.first_unclaimed = self.first_unclaimed.min(place);
             self.span = with_day(self.span, day);
         }
+    }
+}
+
+impl Keyed for DayCells {
+    type Key = u64;
+
+    ghost place = { station_rank };
+
+    ghost number = { λ n. pos n };
+
+    fn key(&self) -> u64 {
+        rank(self.site)
+    }
+
+    fn is_before(&self, key: u64) -> bool {
+        rank(self.site) < key
+    }
+
+    fn is_at(&self, key: u64) -> bool {
+        rank(self.site) == key
     }
 }

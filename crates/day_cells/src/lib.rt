@@ -4,9 +4,11 @@
 
 pub mod columns;
 pub mod kept_days;
+pub mod sites;
 pub mod spans;
 pub mod waiting;
 
 pub use kept_days::DayCells;
+pub use sites::rank;
 pub use spans::{Span, count_days, with_day};
 pub use waiting::Waiting;

@@ -15,8 +15,8 @@ no_longer : (b out : Bool) → b ≡ true → (b && not out) ≡ false → not o
 no_longer true out e h = h
 no_longer false out e h = absurd (false≢true e)
 
-pub returns-clause-first : goal.returns-clause-first
-returns-clause-first c =
+pub returns : goal.returns
+returns c =
     let cells : KeptDays = record { site = c.self.inside.site; start = c.self.inside.start; awaits = c.self.inside.awaits.items; claims = c.self.inside.claims.items; values = c.self.inside.values.items; span = c.self.inside.span } in
     let h : AreColumns cells = c.self.invariant.columns in
     let place = c.first_unclaimed-place.result in

@@ -43,13 +43,14 @@ invariant_of-self c =
     let between = rw value at c.first_pending-self-inside.ensures.between in
     let same = length-set cells.awaits place 0 in
     let n = h.claims in
+    let later = rw (c.deref-in-Some-2.ensures.value, c.deref-in-Some-3.ensures.value) at c.first_unclaimed-self-inside.ensures in
     record {
       columns = columns_written cells place 0 false (set cells.values place c.args.value) cells.span h (length-set cells.values place c.args.value) h.span;
       counted = omega (arith, count, counted);
       within = within;
       before = joined awaits c.self.inside.first c.first_pending-self-inside.result (before_cleared cells.awaits place c.self.inside.first at.1 c.self.invariant.before) between;
-      unclaimed_within = (let l = c.self.invariant.unclaimed_within in omega (arith, same));
-      unclaimed_before = unclaimed_cleared cells.awaits cells.claims place c.self.inside.first_unclaimed at.1 c.self.invariant.unclaimed_before;
+      unclaimed_within = later.within;
+      unclaimed_before = later.before;
     }
 
 pub returns-in-Some-clause-publishes : goal.returns-in-Some-clause-publishes

@@ -208,7 +208,8 @@ impl Cells {
     {
         if let Ok(place) = place_of(&self.stations, site) {
             self.stations[place].take_out(day);
-            self.unclaimed = first_unclaimed(&self.stations, self.unclaimed);
+            self.first = self.first.min(place);
+            self.unclaimed = first_unclaimed(&self.stations, self.unclaimed.min(place));
         }
     }
 
@@ -220,8 +221,8 @@ impl Cells {
         if let Ok(place) = place_of(&self.stations, site) {
             self.stations[place].publish(day, value);
             self.pending -= 1;
-            self.first = first_pending(&self.stations, self.first);
-            self.unclaimed = first_unclaimed(&self.stations, self.unclaimed);
+            self.first = first_pending(&self.stations, self.first.min(place));
+            self.unclaimed = first_unclaimed(&self.stations, self.unclaimed.min(place));
         }
     }
 }

@@ -1,8 +1,7 @@
 -- The days of the calendar that pass a test: the first of them, and how many they are.
-use Rattle.std.specs.Prelude.{◌≡◌, ℕ, zero, suc, ◌+◌, ◌<◌, ◌≤◌, Bool, true, false, cond, List, [], ◌∷◌, length, map, filter, find, count_by, slice_get, Option, Some, None, nat_lt, ℤ, pos, ◌+ℤ◌, ◌<ℤ◌, ◌≤ℤ◌}
-use Rattle.std.proofs.Common.{arith, refl, ap, sym, ◌∙◌, get_or, subst, inl, inr}
+use Rattle.std.specs.Prelude.{◌≡◌, ℕ, zero, suc, ◌+◌, Bool, true, false, cond, List, [], ◌∷◌, length, map, filter, find, count_by, slice_get, Some, None, nat_lt, ℤ, pos, ◌+ℤ◌, ◌<ℤ◌, ◌≤ℤ◌}
+use Rattle.std.proofs.Common.{arith, refl, ap, sym, ◌∙◌}
 use Rattle.std.proofs.lemmas.Int.{ints, by_lt_z}
-use Rattle.std.proofs.lemmas.List.{get_or_past}
 use Rattle.std.proofs.lemmas.List.Sums.{sum_by-cons}
 use Rattle.day_cells.specs.Days.{days_from, on_day}
 use Rattle.day_cells.specs.KeptDays.{is_edit}
@@ -63,12 +62,12 @@ count_from day (suc n) start (x ∷ xs) low high =
     by_lt_z day start
     (λ l. rw (none_before start (x ∷ xs) day l) (count_from (day +ℤ pos 1) n start (x ∷ xs) (omega (arith, ints)) (omega (arith, ints))))
     (λ l. let same : day ≡ start = omega (arith, ints) in
-        let here : has_edit start (x ∷ xs) day ≡ is_edit x = ap (has_edit start (x ∷ xs)) same ∙ first_here start x xs in
-        let rest : filter (has_edit start (x ∷ xs)) days ≡ filter (has_edit (start +ℤ pos 1) xs) days =
-        filter_days_same (has_edit start (x ∷ xs)) (has_edit (start +ℤ pos 1) xs) (day +ℤ pos 1) n (λ d k. rest_there start x xs d (omega (arith, ints))) in
-        let more = count_from (day +ℤ pos 1) n (start +ℤ pos 1) xs (omega (arith, ints)) (omega (arith, ints)) in
-        rw (here, rest) (count_step (is_edit x) day (filter (has_edit (start +ℤ pos 1) xs) days) (count_by is_edit xs) more
-        ∙ sym (sum_by-cons (λ k. cond (is_edit k) 1 0) x xs)))
+    let here : has_edit start (x ∷ xs) day ≡ is_edit x = ap (has_edit start (x ∷ xs)) same ∙ first_here start x xs in
+    let rest : filter (has_edit start (x ∷ xs)) days ≡ filter (has_edit (start +ℤ pos 1) xs) days =
+    filter_days_same (has_edit start (x ∷ xs)) (has_edit (start +ℤ pos 1) xs) (day +ℤ pos 1) n (λ d k. rest_there start x xs d (omega (arith, ints))) in
+    let more = count_from (day +ℤ pos 1) n (start +ℤ pos 1) xs (omega (arith, ints)) (omega (arith, ints)) in
+    rw (here, rest) (count_step (is_edit x) day (filter (has_edit (start +ℤ pos 1) xs) days) (count_by is_edit xs) more
+    ∙ sym (sum_by-cons (λ k. cond (is_edit k) 1 0) x xs)))
 
 pub count_of_column : (day : ℤ) (n : ℕ) (start : ℤ) (xs : List ℕ) → day ≤ℤ start → (start +ℤ pos (length xs)) ≤ℤ (day +ℤ pos n)
     → length (filter (λ d. nat_lt 0 (on_day start xs 0 d)) (days_from day n)) ≡ count_by is_edit xs
@@ -84,14 +83,14 @@ found_first q f p day zero d low high here passing earlier = absurd (omega (arit
 found_first q f p day (suc n) d low high here passing earlier =
     by_lt_z day d
     (λ l. let more = found_first q f p (day +ℤ pos 1) n d (omega (arith, ints)) (omega (arith, ints)) here passing earlier in
-        elim (p day) as (λ b. p day ≡ b → find q (map f (cond b (day ∷ filter p (days_from (day +ℤ pos 1) n)) (filter p (days_from (day +ℤ pos 1) n)))) ≡ Some (f d)) [
-          | true ↦ λ t. rw (earlier day l t) more
-          | false ↦ λ t. more
-        ] refl)
+    elim (p day) as (λ b. p day ≡ b → find q (map f (cond b (day ∷ filter p (days_from (day +ℤ pos 1) n)) (filter p (days_from (day +ℤ pos 1) n)))) ≡ Some (f d)) [
+      | true ↦ λ t. rw (earlier day l t) more
+      | false ↦ λ t. more
+    ] refl)
     (λ l. let same : day ≡ d = omega (arith, ints) in
-        let first : p day ≡ true = ap p same ∙ here in
-        let passes : q (f day) ≡ true = ap (λ e. q (f e)) same ∙ passing in
-        rw (first, passes) (ap (λ e. Some (f e)) same))
+    let first : p day ≡ true = ap p same ∙ here in
+    let passes : q (f day) ≡ true = ap (λ e. q (f e)) same ∙ passing in
+    rw (first, passes) (ap (λ e. Some (f e)) same))
 
 pub none_found : {X : Type 0} (q : X → Bool) (f : ℤ → X) (p : ℤ → Bool) (day : ℤ) (n : ℕ)
     → ((e : ℤ) → p e ≡ true → q (f e) ≡ false) → find q (map f (filter p (days_from day n))) ≡ None

@@ -1,7 +1,7 @@
 -- What a column says of a day, by the place of the day.
-use Rattle.std.specs.Prelude.{◌≡◌, ℕ, zero, suc, ◌+◌, ◌-◌, ◌<◌, ◌≤◌, Bool, true, false, cond, List, [], ◌∷◌, ◌++◌, length, replicate, set, ℤ, pos, ◌+ℤ◌, ◌-ℤ◌, ◌<ℤ◌, ◌≤ℤ◌, int_le, unsigned_abs}
+use Rattle.std.specs.Prelude.{◌≡◌, ℕ, ◌+◌, ◌-◌, ◌<◌, ◌≤◌, true, false, cond, List, ◌++◌, length, replicate, set, ℤ, pos, ◌+ℤ◌, ◌-ℤ◌, ◌<ℤ◌, ◌≤ℤ◌, int_le, unsigned_abs}
 use Rattle.std.specs.Ordering.{int_eq}
-use Rattle.std.proofs.Common.{arith, refl, ap, sym, ◌∙◌, get_or, subst, inl, inr}
+use Rattle.std.proofs.Common.{arith, refl, sym, ◌∙◌, get_or, inl, inr}
 use Rattle.std.proofs.lemmas.Bool.{cases_lt, cases_eq}
 use Rattle.std.proofs.lemmas.Bool.Decides.{Decides-int_eq}
 use Rattle.std.proofs.lemmas.Int.{ints, by_lt_z}
@@ -51,12 +51,12 @@ module _ {X : Type 0} where
   on_day_set start xs z day k v e l other =
       by_day start other
       (λ h. let no : int_eq day other ≡ false = grind (arith, ints) in
-          rw no (on_day_before start (set xs k v) z other h ∙ sym (on_day_before start xs z other h)))
+      rw no (on_day_before start (set xs k v) z other h ∙ sym (on_day_before start xs z other h)))
       (λ j f. elim (cases_eq j k) [
-          | inl s ↦ (let yes : int_eq day other ≡ true = (Decides-int_eq day other).1 (omega (arith, ints)) in
-              rw yes (on_day_at start (set xs k v) z other k (omega (arith, ints)) ∙ get_or-set_same xs k v z l))
-          | inr s ↦ (let no : int_eq day other ≡ false = grind (arith, ints) in
-              rw no (on_day_at start (set xs k v) z other j f ∙ get_or-set_other xs k j v z s ∙ sym (on_day_at start xs z other j f)))
+        | inl s ↦ (let yes : int_eq day other ≡ true = (Decides-int_eq day other).1 (omega (arith, ints)) in
+            rw yes (on_day_at start (set xs k v) z other k (omega (arith, ints)) ∙ get_or-set_same xs k v z l))
+        | inr s ↦ (let no : int_eq day other ≡ false = grind (arith, ints) in
+            rw no (on_day_at start (set xs k v) z other j f ∙ get_or-set_other xs k j v z s ∙ sym (on_day_at start xs z other j f)))
       ])
 
   blank : (n : ℕ) (z : X) (k : ℕ) → get_or (replicate n z) k z ≡ z
@@ -91,6 +91,6 @@ module _ {X : Type 0} where
       by_day wide day
       (λ h. on_day_before wide ys z day h ∙ sym (on_day_before start xs z day (omega (arith, ints))))
       (λ j f. on_day_at wide ys z day j f ∙ elim (cases_lt j front) [
-          | inl l ↦ widened_front xs z front back j l ∙ sym (on_day_before start xs z day (omega (arith, ints)))
-          | inr l ↦ widened_rest xs z front back j l ∙ sym (on_day_at start xs z day (j - front) (omega (arith, ints)))
+        | inl l ↦ widened_front xs z front back j l ∙ sym (on_day_before start xs z day (omega (arith, ints)))
+        | inr l ↦ widened_rest xs z front back j l ∙ sym (on_day_at start xs z day (j - front) (omega (arith, ints)))
       ])

@@ -5,7 +5,7 @@ use Rattle.std.proofs.lemmas.Int.{ints}
 use Rattle.std.proofs.lemmas.Bool.{cases_lt, cases_eq, false≢true}
 use Rattle.std.proofs.lemmas.List.{length-map, length-set, get_or_past, get_or-set_same, get_or-set_other}
 use Rattle.std.proofs.lemmas.List.Sums.{sum_by-set}
-use Rattle.fixed_units.specs.Quantities.{first_day, last_day}
+use Rattle.fixed_units.specs.Quantities.{first_day}
 use Rattle.day_cells.specs.Days.{days_from, calendar, on_day}
 use Rattle.day_cells.specs.KeptDays.{KeptDays, AreColumns, TakesOut, Publishes, Marks, HasCell, NonePendingWithin, NoneUnclaimedBefore, is_edit, is_pending_on, waiting_of, waiting_on}
 use Rattle.day_cells.specs.Spans.{IsSpan}
@@ -14,7 +14,7 @@ use Rattle.daily_values.specs.declared.day_values.DayValue.{DayValue}
 use Rattle.daily_values.specs.declared.day_values.DayValue.TheVariants.{Empty}
 use Rattle.std.specs.Ordering.{int_eq}
 use Rattle.day_cells.specs.declared.waiting.Waiting.{Waiting}
-use Rattle.day_cells.proofs.DayLemmas.{by_day, on_day_at, on_day_before, on_day_behind, on_day_set, on_day_widened}
+use Rattle.day_cells.proofs.DayLemmas.{by_day, on_day_at, on_day_before, on_day_behind, on_day_set}
 use Rattle.day_cells.proofs.CalendarLemmas.{count_of_column, found_first, none_found}
 
 -- the pending days are as many as the cells that await an edit
@@ -46,10 +46,10 @@ by_place cells day h f =
     by_day cells.start day
     (λ l. let e : is_pending_on cells day ≡ false = ap is_edit (on_day_before cells.start cells.awaits 0 day l) in absurd (false≢true (sym e ∙ h)))
     (λ k e. let g : is_edit (get_or cells.awaits k 0) ≡ true = ap is_edit (sym (on_day_at cells.start cells.awaits 0 day k e)) ∙ h in
-        elim (cases_lt k (length cells.awaits)) [
-          | inl l ↦ f k e l g
-          | inr l ↦ absurd (false≢true (ap is_edit (sym (get_or_past cells.awaits k 0 l)) ∙ g))
-        ])
+    elim (cases_lt k (length cells.awaits)) [
+      | inl l ↦ f k e l g
+      | inr l ↦ absurd (false≢true (ap is_edit (sym (get_or_past cells.awaits k 0 l)) ∙ g))
+    ])
 
 module _ (cells : KeptDays) (q : Waiting → Bool) where
   others : (place : ℕ) → ((k : ℕ) → k < place → is_edit (get_or cells.awaits k 0) ≡ true → q (cell_at cells k) ≡ false)
@@ -57,7 +57,7 @@ module _ (cells : KeptDays) (q : Waiting → Bool) where
   others place earlier e l h =
       by_place cells e h
       (λ k f m g. let less : k < place = omega (arith, ints) in
-          ap (λ d. q (waiting_on cells d)) f ∙ sym (ap q (cell_is cells k)) ∙ earlier k less g)
+      ap (λ d. q (waiting_on cells d)) f ∙ sym (ap q (cell_is cells k)) ∙ earlier k less g)
 
   -- the first pending day that passes a test, by its place
   found_at : (place : ℕ) → AreColumns cells → place < length cells.awaits → is_edit (get_or cells.awaits place 0) ≡ true

@@ -1,8 +1,8 @@
 -- Days that are marked one after the other, and columns with more room.
-use Rattle.std.specs.Prelude.{◌≡◌, ◌≢◌, ℕ, zero, suc, ◌+◌, ◌-◌, ◌<◌, ◌≤◌, Bool, true, false, not, ◌||◌, cond, List, [], ◌∷◌, ◌++◌, length, take, replicate, count_by, AllPairs, All, ℤ, pos, ◌+ℤ◌, ◌<ℤ◌, ◌≤ℤ◌, map, filter}
+use Rattle.std.specs.Prelude.{◌≡◌, ℕ, zero, suc, ◌+◌, ◌-◌, ◌<◌, ◌≤◌, Bool, true, false, not, ◌||◌, cond, List, [], ◌∷◌, ◌++◌, length, take, replicate, count_by, AllPairs, ℤ, pos, ◌+ℤ◌, ◌<ℤ◌, ◌≤ℤ◌, map, filter}
 use Rattle.std.specs.Ordering.{int_eq}
 use Rattle.std.proofs.Common.{arith, refl, ap, sym, ◌∙◌, get_or, inl, inr}
-use Rattle.std.proofs.lemmas.Bool.{cases_lt, false≢true}
+use Rattle.std.proofs.lemmas.Bool.{cases_lt}
 use Rattle.std.proofs.lemmas.Int.{ints}
 use Rattle.std.proofs.lemmas.List.{get_or-take, get_or_default, length-take, length-append, length-replicate}
 use Rattle.std.proofs.lemmas.List.Elements.{filter_agree}
@@ -10,8 +10,8 @@ use Rattle.std.proofs.lemmas.List.Folds.{list_any_more, list_any_none}
 use Rattle.std.proofs.lemmas.List.Sums.{sum_by_more, sum_by-append}
 use Rattle.fixed_units.specs.Quantities.{first_day, last_day}
 use Rattle.daily_values.specs.declared.day_values.DayValue.TheVariants.{Empty}
-use Rattle.day_cells.specs.Days.{contains_day, on_day, calendar}
-use Rattle.day_cells.specs.KeptDays.{KeptDays, AreColumns, KeepsPlaces, SaysTheSame, Marks, HasCell, NonePendingWithin, NoneUnclaimedBefore, is_edit, is_pending_on, is_out_on, edit_on, waiting_of, waiting_on}
+use Rattle.day_cells.specs.Days.{contains_day, calendar}
+use Rattle.day_cells.specs.KeptDays.{KeptDays, KeepsPlaces, SaysTheSame, Marks, HasCell, NonePendingWithin, NoneUnclaimedBefore, is_edit, is_pending_on, is_out_on, edit_on, waiting_of, waiting_on}
 use Rattle.day_cells.proofs.DayLemmas.{on_day_widened, widened_front, widened_rest}
 
 either : {X : Type 0} (a b : Bool) (x y : X) → cond b x (cond a x y) ≡ cond (a || b) x y
@@ -49,11 +49,11 @@ module _ (old mid new : KeptDays) (changed : List ℤ) (i edit : ℕ) (day : ℤ
   not_yet l e rising =
       list_any_none (λ d. int_eq d day) (take i changed)
       (λ k d m. let short : length (take i changed) ≤ i = omega (arith, length-take i changed) in
-          let less : k < i = omega arith in
-          let earlier = rising k i d less l in
-          let here = get_or_default changed i d day l in
-          let there = get_or-take i changed k d less in
-          other_day (get_or (take i changed) k d) day (omega (arith, ints, earlier, here, there, e)))
+      let less : k < i = omega arith in
+      let earlier = rising k i d less l in
+      let here = get_or_default changed i d day l in
+      let there = get_or-take i changed k d less in
+      other_day (get_or (take i changed) k d) day (omega (arith, ints, earlier, here, there, e)))
 
   opposite : (b : Bool) (m n : ℕ) → cond b m n ≡ cond (not b) n m
   opposite true m n = refl
@@ -120,8 +120,13 @@ module _ (cells : KeptDays) (start : ℤ) (front back : ℕ) where
 
   wider_count : count_by is_edit ((replicate front 0 ++ cells.awaits) ++ replicate back 0) ≡ count_by is_edit cells.awaits
   wider_count =
-      omega (arith, sum_by-append (λ n. cond (is_edit n) 1 0) (replicate front 0 ++ cells.awaits) (replicate back 0),
-      sum_by-append (λ n. cond (is_edit n) 1 0) (replicate front 0) cells.awaits, count_blank front, count_blank back)
+      omega (
+        arith,
+        sum_by-append (λ n. cond (is_edit n) 1 0) (replicate front 0 ++ cells.awaits) (replicate back 0),
+        sum_by-append (λ n. cond (is_edit n) 1 0) (replicate front 0) cells.awaits,
+        count_blank front,
+        count_blank back,
+      )
 
   wider_before : (first : ℕ) → NonePendingWithin cells.awaits 0 first → NonePendingWithin wider.awaits 0 (first + front)
   wider_before first h k low high =

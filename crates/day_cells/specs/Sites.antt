@@ -1,5 +1,5 @@
 -- The order of sites as that of whole numbers.
-use Rattle.std.specs.Prelude.{ℕ, ◌+◌, ◌*◌, ◌^◌, ℤ, pos, ◌==◌, Bool}
+use Rattle.std.specs.Prelude.{ℕ, ◌+◌, ◌*◌, ℤ, pos, ◌==◌, Bool}
 use Rattle.fixed_units.specs.Quantities.{SiteNumber}
 use Rattle.day_cells.specs.KeptDays.{KeptDays}
 

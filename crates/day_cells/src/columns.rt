@@ -19,7 +19,11 @@ pub(crate) fn place_of(start: Day, awaits: &[u64], day: Day) -> Option<usize>
         return None;
     }
     let place = distance(start, day);
-    if place < awaits.len() { Some(place) } else { None }
+    if place < awaits.len() {
+        Some(place)
+    } else {
+        None
+    }
 }
 
 /// A column with so many elements more in front and behind, each of them `blank`.

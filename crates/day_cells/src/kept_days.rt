@@ -10,7 +10,8 @@ ghost use Rattle.day_cells.specs.Spans.{IsSpan, with_days};
 ghost use Rattle.day_cells.specs.KeptDays.{HasCell, HasRoom, SaysTheSame, Marks, TakesOut, Publishes, awaited_on, is_pending_on, value_on, waiting_of};
 
 use crate::columns::{
-    count_to, distance, first_pending, first_unclaimed, place_of, room_behind, waiting_at, wide_start, widened,
+    count_to, distance, first_pending, first_unclaimed, place_of, room_behind, waiting_at,
+    wide_start, widened,
 };
 use crate::sites::rank;
 use crate::spans::{Span, with_day};
@@ -186,7 +187,11 @@ impl DayCells {
     {
         if let Some(place) = place_of(self.start, &self.awaits, day) {
             self.claims[place] = true;
-            self.first_unclaimed = first_unclaimed(&self.awaits, &self.claims, self.first_unclaimed);
+            self.first_unclaimed = first_unclaimed(
+                &self.awaits,
+                &self.claims,
+                self.first_unclaimed,
+            );
         }
     }
 
@@ -202,7 +207,11 @@ impl DayCells {
             self.values[place] = value;
             self.pending -= 1;
             self.first = first_pending(&self.awaits, self.first);
-            self.first_unclaimed = first_unclaimed(&self.awaits, &self.claims, self.first_unclaimed);
+            self.first_unclaimed = first_unclaimed(
+                &self.awaits,
+                &self.claims,
+                self.first_unclaimed,
+            );
         }
     }
 

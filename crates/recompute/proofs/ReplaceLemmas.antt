@@ -1,11 +1,11 @@
 -- The cells of one station replaced by those that it has after a change: what is said of each station, and the counts.
-use Rattle.std.specs.Prelude.{◌≡◌, ℕ, zero, suc, ◌+◌, ◌-◌, ◌*◌, ◌<◌, ◌≤◌, min, Bool, true, false, not, ◌&&◌, cond, List, [], ◌∷◌, ◌++◌, length, set, take, drop, find, slice_get, sum_by, count_by, filter, All, Option, Some, None, option_and_then, option_map, unwrap_or, is_none, IsSome, nat_lt, ℤ, pos, ◌+ℤ◌, int_lt, map}
+use Rattle.std.specs.Prelude.{◌≡◌, ℕ, zero, suc, ◌+◌, ◌*◌, ◌<◌, ◌≤◌, min, Bool, true, false, not, ◌&&◌, cond, List, [], ◌∷◌, ◌++◌, length, set, take, drop, find, slice_get, count_by, filter, All, Option, Some, None, option_and_then, option_map, unwrap_or, is_none, IsSome, nat_lt, ℤ, pos, ◌+ℤ◌, map}
 use Rattle.std.specs.List.{AllWithin, flat_map, insert}
 use Rattle.std.specs.Ordering.{int_eq}
 use Rattle.std.proofs.Common.{arith, refl, ap, sym, subst, ◌∙◌, get_or, inl, inr}
 use Rattle.std.proofs.lemmas.Bool.{cases_lt, cases_eq, false≢true}
 use Rattle.std.proofs.lemmas.Bool.Decides.{Decides-eqb}
-use Rattle.std.proofs.lemmas.List.{get_or_default, get_or-set_same, get_or-set_other, length-set, length-map, take-append-drop}
+use Rattle.std.proofs.lemmas.List.{get_or-set_same, get_or-set_other, length-set, length-map, take-append-drop}
 use Rattle.std.proofs.lemmas.List.Edits.{length-insert, get_or-insert_below}
 use Rattle.std.proofs.lemmas.List.Concat.{length-flat_map, flat_map-append}
 use Rattle.std.proofs.lemmas.List.Elements.{All-set, filter_agree}
@@ -22,7 +22,7 @@ use Rattle.day_cells.specs.Spans.{days_of, with_days}
 use Rattle.day_cells.specs.KeptDays as station
 use Rattle.day_cells.specs.KeptDays.{KeptDays, edit_of, edit_on, awaited_on, is_out_on, value_on, is_pending_on, waiting_of, waiting_on, HasCell}
 use Rattle.day_cells.specs.Sites.{rank_of, rank_number, is_site, station_rank}
-use Rattle.recompute.specs.Cells.{station_of, awaited_in, span_in, waiting, cell_count, cell_count_after, IsPlace, IsGap, HasRoom, SaysTheSame, Marks, TakesOut, Publishes, KeepsCounts, NonePendingWithin, NoneUnclaimedWithin, most_stations}
+use Rattle.recompute.specs.Cells.{station_of, awaited_in, span_in, waiting, cell_count, IsPlace, IsGap, HasRoom, SaysTheSame, Marks, TakesOut, Publishes, KeepsCounts, NonePendingWithin, NoneUnclaimedWithin, most_stations}
 use Rattle.recompute.proofs.StationLemmas.{site_yes, site_no}
 
 -- how many days of a station can be pending at most
@@ -33,8 +33,13 @@ days_length day (suc n) = ap suc (days_length (day +ℤ pos 1) n)
 
 waiting_within : (s : KeptDays) (day : ℤ) (n : ℕ) → length (map (waiting_on s) (filter (is_pending_on s) (days_from day n))) ≤ n
 waiting_within s day n =
-    omega (arith, length-map (filter (is_pending_on s) (days_from day n)) (waiting_on s), length-filter (is_pending_on s) (days_from day n),
-    count_by-le-length (is_pending_on s) (days_from day n), days_length day n)
+    omega (
+      arith,
+      length-map (filter (is_pending_on s) (days_from day n)) (waiting_on s),
+      length-filter (is_pending_on s) (days_from day n),
+      count_by-le-length (is_pending_on s) (days_from day n),
+      days_length day n,
+    )
 
 pub waiting_most : (s : KeptDays) → length (waiting_of s) ≤ 73_049
 unfolding calendar

@@ -1,19 +1,16 @@
 -- Stations in the order of their sites: the first pending day of some, and one of them replaced.
-use Rattle.std.specs.Prelude.{◌≡◌, ◌≢◌, ℕ, zero, suc, ◌+◌, ◌<◌, ◌≤◌, Bool, true, false, not, ◌&&◌, cond, ◌==◌, List, [], ◌∷◌, ◌++◌, length, take, drop, set, find, slice_get, Option, Some, None, ℤ, pos}
-use Rattle.std.specs.List.{flat_map, insert}
-use Rattle.std.specs.Ordering.{int_eq}
-use Rattle.std.proofs.Common.{arith, refl, ap, sym, subst, ◌∙◌, get_or, inl, inr}
+use Rattle.std.specs.Prelude.{◌≡◌, ℕ, zero, suc, ◌<◌, ◌≤◌, Bool, true, false, cond, List, [], ◌∷◌, ◌++◌, length, take, drop, find, slice_get, Some, None, pos}
+use Rattle.std.proofs.Common.{arith, refl, ap, sym, ◌∙◌, get_or}
 use Rattle.std.proofs.lemmas.Bool.{false≢true}
-use Rattle.std.proofs.lemmas.Int.{ints}
-use Rattle.std.proofs.lemmas.Bool.Decides.{Decides-int_eq, Decides-eqb}
+use Rattle.std.proofs.lemmas.Bool.Decides.{Decides-eqb}
 use Rattle.std.proofs.lemmas.List.{get_or_default}
 use Rattle.fixed_units.specs.Quantities.{SiteNumber}
-use Rattle.rising.specs.Lists.{IsRising, at, put, before, from, after}
-use Rattle.rising.proofs.Placing.{write_is_put, put_rises, at_put, at_put_other, place_here, place_elsewhere}
+use Rattle.rising.specs.Lists.{IsRising, before, from}
+use Rattle.rising.proofs.Placing.{place_here, place_elsewhere}
 use Rattle.day_cells.specs.declared.waiting.Waiting.{Waiting}
 use Rattle.day_cells.specs.KeptDays.{KeptDays, waiting_of}
 use Rattle.day_cells.specs.Sites.{rank_of, rank_number, is_site, station_rank}
-use Rattle.recompute.specs.Cells.{station_of, waiting, IsPlace, IsGap}
+use Rattle.recompute.specs.Cells.{waiting, IsPlace, IsGap}
 
 -- the first that passes a test, of two lists
 find_behind : {X : Type 0} (q : X → Bool) (xs ys : List X) → find q xs ≡ None → find q (xs ++ ys) ≡ find q ys

@@ -1,5 +1,5 @@
 -- Which edit each day of each station awaits, whether its claim is out, and the value that was published last.
-use Rattle.std.specs.Prelude.{◌≡◌, ℕ, ◌+◌, ◌-◌, ◌<◌, ◌≤◌, Bool, true, false, not, ◌&&◌, ◌||◌, nat_lt, if◌then◌else◌, List, [], length, find, slice_get, sum_by, take, drop, All, Option, Some, None, option_and_then, option_map, unwrap_or, is_none, IsSomeAnd, ℤ, int_lt}
+use Rattle.std.specs.Prelude.{◌≡◌, ℕ, ◌+◌, ◌-◌, ◌<◌, ◌≤◌, Bool, true, false, not, ◌&&◌, ◌||◌, if◌then◌else◌, List, length, find, slice_get, sum_by, take, drop, All, Option, Some, None, option_and_then, option_map, unwrap_or, IsSomeAnd, ℤ, int_lt}
 use Rattle.std.specs.List.{AllWithin, HoldsAt, flat_map}
 use Rattle.std.specs.Ordering.{int_eq}
 use Rattle.fixed_units.specs.Quantities.{SiteNumber}
@@ -11,7 +11,7 @@ use Rattle.day_cells.specs.Spans.{with_days, days_of}
 use Rattle.day_cells.specs.declared.spans.Span.{Span}
 use Rattle.day_cells.specs.declared.waiting.Waiting.{Waiting}
 use Rattle.day_cells.specs.KeptDays.{KeptDays, HasCell, awaited_on, is_out_on, value_on, waiting_of}
-use Rattle.day_cells.specs.Sites.{rank_of, rank_number, is_site, station_rank}
+use Rattle.day_cells.specs.Sites.{rank_of, is_site, station_rank}
 
 -- the cells of a station, if it has any
 abbrev pub station_of : List KeptDays → SiteNumber → Option KeptDays

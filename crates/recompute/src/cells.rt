@@ -7,8 +7,8 @@ ghost use Rattle.day_cells.specs.Spans.{IsSpan, days_of};
 ghost use Rattle.recompute.specs.Cells.{HasRoom, SaysTheSame, Marks, TakesOut, Publishes, awaited_in, value_in, span_in, waiting, is_behind, cell_count, cell_count_after, most_stations};
 
 use crate::stations::{
-    cells_at, count_after, first_in, first_pending, first_unclaimed, first_unclaimed_in, pending_at,
-    place_of,
+    cells_at, count_after, first_in, first_pending, first_unclaimed, first_unclaimed_in,
+    new_station, pending_at, place_of,
 };
 use daily_values::DayValue;
 use day_cells::{DayCells, Span, Waiting};
@@ -171,8 +171,7 @@ impl Cells {
                 if self.stations.len() >= MOST_STATIONS {
                     return Err(NoMemory);
                 }
-                let mut station = DayCells::new(self.alloc, site, *day);
-                station.prepare(self.alloc, changed)?;
+                let station = new_station(self.alloc, site, *day, changed)?;
                 self.stations.insert(place, station)?;
                 self.first = self.first.min(place);
                 self.unclaimed = self.unclaimed.min(place);

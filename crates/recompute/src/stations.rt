@@ -1,9 +1,9 @@
 //! The cells of the stations in the order of their sites.
 
-ghost use Rattle.std.specs.Prelude.{◌≡◌, ◌+◌, ◌<◌, ◌≤◌, true, not, None, find, length, take, drop, slice_get, AllPairs, IfSome, IfOk, IfErr};
+ghost use Rattle.std.specs.Prelude.{◌≡◌, ◌+◌, ◌<◌, ◌≤◌, true, not, [], None, find, length, take, drop, slice_get, AllPairs, IfSome, IfOk, IfErr};
 ghost use Rattle.std.specs.List.{HoldsAt};
 ghost use Rattle.rising.specs.Lists.{IsRising, at, before, after};
-ghost use Rattle.day_cells.specs.KeptDays.{waiting_of};
+ghost use Rattle.day_cells.specs.KeptDays.{HasRoom, SaysTheSame, waiting_of};
 ghost use Rattle.day_cells.specs.Days.{days_of_calendar};
 ghost use Rattle.day_cells.specs.Spans as spans;
 ghost use Rattle.day_cells.specs.Spans.{IsSpan, days_of};
@@ -11,8 +11,9 @@ ghost use Rattle.day_cells.specs.Sites.{rank_of, station_rank};
 ghost use Rattle.recompute.specs.Cells.{IsPlace, IsGap, NonePendingWithin, NoneUnclaimedWithin, waiting};
 
 use day_cells::{DayCells, Span, Waiting, count_days, rank, with_day};
-use fixed_units::{Day, Site};
+use fixed_units::{Day, NoMemory, Site};
 use rising::count_before;
+use std::alloc::Global;
 
 /// The place of a station, or else where it belongs.
 pub(crate) fn place_of(stations: &[DayCells], site: Site) -> Result<usize, usize>
@@ -119,4 +120,22 @@ pub(crate) fn count_after(span: Option<Span>, days: &[Day]) -> u64
     ensures most { result ≤ days_of_calendar }
 {
     u64::from(count_days(with_days(span, days)))
+}
+
+/// A station without a changed day that has room for a mark of these days.
+pub(crate) fn new_station(
+    alloc: Global,
+    site: Site,
+    first: Day,
+    days: &[Day],
+) -> Result<DayCells, NoMemory>
+    ensures same { IfOk result (SaysTheSame (record { site = site; start = first; awaits = []; claims = []; values = []; span = None })) }
+    ensures waiting { IfOk result (λ s. waiting_of s ≡ []) }
+    ensures room { IfOk result (λ s. HasRoom s days.now) }
+{
+    let mut station = DayCells::new(alloc, site, first);
+    match station.prepare(alloc, days) {
+        Ok(()) => Ok(station),
+        Err(NoMemory) => Err(NoMemory),
+    }
 }

@@ -1,12 +1,9 @@
-use Rattle.std.specs.Prelude.{◌≡◌, ℕ, ◌+◌, ◌<◌, ◌≤◌, Bool, true, false, not, List, length, take, drop, find, slice_get, Some, None, ℤ, pos}
-use Rattle.std.proofs.Common.{arith, refl, ap, sym, ◌∙◌, get_or}
-use Rattle.std.proofs.lemmas.List.{get_or_default}
-use Rattle.rising.specs.Lists.{before, from, after}
+use Rattle.std.specs.Prelude.{◌≡◌, true, find, slice_get, Some}
+use Rattle.std.proofs.Common.{arith, ap, sym, ◌∙◌, get_or}
 use Rattle.day_cells.proofs.CalendarLemmas.{first_is_found}
 use Rattle.day_cells.specs.KeptDays.{KeptDays, waiting_of}
-use Rattle.day_cells.specs.Sites.{rank_of, station_rank}
 use Rattle.recompute.specs.Cells.{waiting}
-use Rattle.recompute.proofs.StationLemmas.{at_place, at_gap, found_in, none_in}
+use Rattle.recompute.proofs.StationLemmas.{found_in, none_in}
 use Rattle.recompute.proofs.stations.first_in.Goals as goal
 
 pub returns-in-Some : goal.returns-in-Some

@@ -1,8 +1,8 @@
-use Rattle.std.specs.Prelude.{◌≡◌, ℕ, ◌+◌, ◌<◌, take, length, count_by, not, All, AllPairs, ℤ, ◌<ℤ◌}
-use Rattle.std.proofs.Common.{rules, arith, ap, sym, ◌∙◌, get_or}
+use Rattle.std.specs.Prelude.{length}
+use Rattle.std.proofs.Common.{ap, sym, ◌∙◌}
 use Rattle.std.proofs.lemmas.List.Sums.{fold_more}
 use Rattle.day_cells.specs.Spans.{with_day}
-use Rattle.day_cells.specs.KeptDays.{waiting_of, HasRoom, HasCell}
+use Rattle.day_cells.specs.KeptDays.{waiting_of}
 use Rattle.day_cells.proofs.MarkLemmas.{marks_more, count_more}
 use Rattle.day_cells.proofs.kept_days.DayCells.mark.Goals as goal
 

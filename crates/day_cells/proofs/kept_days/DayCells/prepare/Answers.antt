@@ -1,8 +1,6 @@
 -- The wider columns say what the narrower ones said, and have a cell for each of the days.
-use Rattle.std.specs.Prelude.{◌≡◌, ℕ, ◌+◌, ◌<◌, length, ℤ, pos, ◌+ℤ◌, ◌<ℤ◌, ◌≤ℤ◌}
-use Rattle.std.proofs.Common.{arith, ap, sym, ◌∙◌, get_or}
-use Rattle.std.proofs.lemmas.Int.{ints}
-use Rattle.day_cells.specs.KeptDays.{KeptDays, AreColumns, HasCell}
+use Rattle.std.proofs.Common.{get_or}
+use Rattle.day_cells.specs.KeptDays.{KeptDays, HasCell}
 use Rattle.day_cells.proofs.MarkLemmas.{wider, wider_same, wider_keeps, wider_has, wider_kept, waiting_same}
 use Rattle.day_cells.proofs.kept_days.DayCells.prepare.Goals as goal
 
@@ -69,4 +67,3 @@ returns-clause-kept c day h =
     let e = c.distance-front.ensures in
     let h : HasCell cells day = rw (← c.self.view_is) at h in
     rw (a, b, d) (wider_kept cells start front back day e h)
-

@@ -6,13 +6,13 @@ use Rattle.std.proofs.lemmas.List.Elements.{All-filter}
 use Rattle.fixed_units.specs.Lines.{line_at}
 use Rattle.fixed_units.proofs.LineLemmas.{line-within}
 use Rattle.rising.specs.Lists.{up_to, after}
-use Rattle.curves.specs.Neighbours.{first, last}
+use Rattle.rising.specs.Ends.{first, last}
 use Rattle.fixed_units.specs.Quantities.{IsAmount, most_amount}
 use Rattle.curves.specs.Curve.{stage_of, amount_by, curve_value}
 use Rattle.curves.specs.Entries.{instant_of, amount_in_force, series_value, AreAmounts}
 use Rattle.curves.specs.declared.entries.Entry.{Entry}
 use Rattle.rising.proofs.Parting.{IsUpTo, IsAfter, up_to_is_up_to, after_is_after}
-use Rattle.curves.proofs.RisingLemmas.{last-kept, first-kept}
+use Rattle.rising.proofs.Ends.{last-kept, first-kept}
 
 zero-IsAmount : IsAmount (pos 0)
 zero-IsAmount = record { low = omega (arith, ints); high = omega (arith, ints) }

@@ -3,14 +3,14 @@ use Rattle.std.specs.Prelude.{◌≡◌, ◌≢◌, Bool, true, false, cond, ◌
 use Rattle.std.proofs.Common.{arith, refl, ap, sym, ◌∙◌, subst, inl, inr}
 use Rattle.std.proofs.lemmas.Int.{ints}
 use Rattle.std.proofs.lemmas.List.Elements.{All-head, All-tail, All-cons, All-nil, All-append, All-weaker, All-contains, All-contains_itself, Contains-append_left, Contains-append_right, Contains-append_cases}
-use Rattle.curves.specs.Neighbours.{first, last}
+use Rattle.rising.specs.Ends.{first, last}
 use Rattle.curves.specs.Entries.{IsRising, instant_of}
 use Rattle.curves.specs.Bearing.{bears, leads, bearing_led, bearing, Reaches, IsLed, IsBearing}
 use Rattle.curves.specs.declared.entries.Entry.{Entry}
 use Rattle.rising.proofs.Selecting.{All-back}
 use Rattle.rising.proofs.Parting.{le_yes, lt_yes, yes_le, yes_lt}
 use Rattle.rising.proofs.Splitting.{rest_rises, rest_is_later}
-use Rattle.curves.proofs.RisingLemmas.{last-cons}
+use Rattle.rising.proofs.Ends.{last-cons}
 
 both : (a b : Bool) → (a && b) ≡ true → (a ≡ true) × (b ≡ true)
 both true b h = (refl, h)

@@ -5,12 +5,12 @@ use Rattle.std.proofs.lemmas.Int.{ints}
 use Rattle.std.proofs.lemmas.List.{append-nil}
 use Rattle.std.proofs.lemmas.List.Elements.{All-head, All-tail, All-nil, All-weaker, All-take, filter-append}
 use Rattle.rising.specs.Lists.{up_to, after}
-use Rattle.curves.specs.Neighbours.{first, last}
+use Rattle.rising.specs.Ends.{first, last}
 use Rattle.curves.specs.Entries.{instant_of, amount_in_force, series_value}
 use Rattle.curves.specs.Bearing.{is_next_after, bears, bearing_led, bearing}
 use Rattle.curves.specs.declared.entries.Entry.{Entry}
 use Rattle.rising.proofs.Parting.{IsUpTo, IsAfter, le_yes, le_no, lt_yes, lt_no, none_up_to, all_after, none_after}
-use Rattle.curves.proofs.RisingLemmas.{last-append, last-cons}
+use Rattle.rising.proofs.Ends.{last-append, last-cons}
 
 and_false : (b : Bool) → (b && false) ≡ false
 and_false true = refl

@@ -6,13 +6,14 @@ use Rattle.std.proofs.lemmas.List.Elements.{All-head, All-cons, All-nil, All-wea
 use Rattle.fixed_units.specs.Lines.{line_at}
 use Rattle.fixed_units.proofs.LineLemmas.{line-first, line-last}
 use Rattle.rising.specs.Lists.{up_to, after}
-use Rattle.curves.specs.Neighbours.{Rises, first, last}
+use Rattle.rising.specs.Lists.{IsRising as Rises}
+use Rattle.rising.specs.Ends.{first, last}
 use Rattle.curves.specs.Curve.{stage_of, amount_by, curve_value, IsCurveValue}
 use Rattle.curves.specs.Entries.{IsRising, instant_of, amount_in_force, amount_prorated, series_value, IsSeriesValue}
 use Rattle.curves.specs.declared.entries.Entry.{Entry}
 use Rattle.rising.proofs.Selecting.{AllPairs-head, AllPairs-tail, AllPairs-across, AllPairs-back}
 use Rattle.rising.proofs.Parting.{IsUpTo, IsAfter, le_yes, lt_no, all_up_to, none_up_to, all_after, none_after}
-use Rattle.curves.proofs.RisingLemmas.{last-append}
+use Rattle.rising.proofs.Ends.{last-append}
 
 -- what stands behind an element of a rising list stands after each number up to it
 rest_after : {X : Type 0} (place : X → ℤ) (n : ℤ) (b : X) (bs : List X) → Rises place (b ∷ bs) → n <ℤ place b → All (IsAfter place n) (b ∷ bs)

@@ -4,4 +4,3 @@ pub mod BearingLemmas
 pub mod BearingRuns
 pub mod CaseLemmas
 pub mod PointLemmas
-pub mod RisingLemmas

@@ -5,7 +5,7 @@ use Rattle.rising.specs.Lists as lists
 use Rattle.fixed_units.specs.Lines.{line_at}
 use Rattle.fixed_units.specs.Quantities.{IsAmount}
 use Rattle.rising.specs.Lists.{up_to, after}
-use Rattle.curves.specs.Neighbours.{Rises, first, last}
+use Rattle.rising.specs.Ends.{first, last}
 use Rattle.curves.specs.Curve.{curve_value}
 use Rattle.curves.specs.declared.entries.Entry.{Entry}
 
@@ -15,7 +15,7 @@ instant_of entry = entry.at
 
 -- the instants strictly rise
 abbrev pub IsRising : List Entry → Type 0
-IsRising entries = Rises instant_of entries
+IsRising entries = lists.IsRising instant_of entries
 
 -- the amount at an instant between two entries: the line between the values of their curves, rounded once more
 abbrev pub amount_prorated : Entry → Entry → ℤ → ℤ → ℤ

@@ -1,9 +1,9 @@
 -- Areas between readings: how great they are, and how many seconds they cover.
-use Rattle.std.proofs.Common.{◌≡◌, refl, sym, ◌∙◌, ℕ, suc, ◌+◌, ◌-◌, ◌*◌, ◌^◌, ◌<◌, ◌≤◌, Bool, true, false, cond, get_or, List, [], ◌∷◌, length, take, drop, ℤ, pos, negsuc, neg_ℤ, ◌+ℤ◌, ◌-ℤ◌, ◌*ℤ◌, ◌≤ℤ◌, ◌<ℤ◌, unsigned_abs, FitsSigned, arith, subst, add-one, drop-cons}
+use Rattle.std.proofs.Common.{◌≡◌, refl, sym, ◌∙◌, ℕ, suc, ◌+◌, ◌-◌, ◌*◌, ◌^◌, ◌<◌, ◌≤◌, Bool, true, false, cond, get_or, List, [], ◌∷◌, length, take, drop, ℤ, pos, negsuc, neg_ℤ, ◌+ℤ◌, ◌-ℤ◌, ◌*ℤ◌, ◌≤ℤ◌, ◌<ℤ◌, FitsSigned, arith, subst, add-one, drop-cons}
 use Rattle.std.specs.Prelude.{All, sum_by, int_le}
 use Rattle.std.specs.Int.{w128, int_max, int_min}
-use Rattle.std.proofs.Math.Nat.{mul-le-mul_right, mul-le-mul_left}
-use Rattle.std.proofs.lemmas.Int.{ints, clamps, fits_signed_mul, fits_signed_from_abs, unsigned_abs-mul}
+use Rattle.std.proofs.Math.Nat.{mul-le-mul_right}
+use Rattle.std.proofs.lemmas.Int.{ints, clamps, fits_signed_mul}
 use Rattle.std.proofs.lemmas.List.{take_all}
 use Rattle.std.proofs.lemmas.List.Elements.{All-head, All-tail, All-cons, All-nil}
 use Rattle.std.proofs.lemmas.List.Sums.{sum_by-cons}
@@ -11,16 +11,11 @@ use Rattle.daily_values.specs.declared.sums.Sum.{Sum}
 use borrow.Author.Differences.{up, down}
 use Rattle.fixed_units.specs.Quantities.{IsStage, most_stage}
 use Rattle.fixed_units.specs.declared.readings.Reading.{Reading}
-use Rattle.fixed_units.proofs.LineLemmas.{line-within}
+use Rattle.fixed_units.proofs.LineLemmas.{abs-le, line-within}
 use Rattle.readings.specs.Readings.{IsRising}
 use Rattle.daily_values.specs.declared.day_inputs.DayParts.{DayParts}
 use Rattle.daily_values.specs.DayInputs.{AreParts}
 use Rattle.daily_values.specs.DayValue.{neighbours, stage_between, left_end, right_end, positive_part, seconds_between, twice_area, twice_areas, stage_sum, day_length}
-
--- what is at most m either way
-abs-le : (z : ℤ) (m : ℕ) → neg_ℤ (pos m) ≤ℤ z → z ≤ℤ pos m → unsigned_abs z ≤ m
-abs-le (pos n) m low high = omega (arith, ints)
-abs-le (negsuc n) m low high = omega (arith, ints)
 
 -- the line between two stages is a stage
 pub stage_between-IsStage : (r s : Reading) (at : ℤ) → r.at <ℤ s.at → IsStage r.raw → IsStage s.raw → r.at ≤ℤ at → at ≤ℤ s.at → IsStage (stage_between r s at)
@@ -71,7 +66,7 @@ cut-le day true left right h le = by (int_min day.until right -ℤ int_max day.f
     by (pos n) e = omega (arith, ints, clamps)
     by (negsuc n) e = omega (arith, ints, clamps)
 
-pub rising-tail : (r : Reading) (rs : List Reading) → IsRising (r ∷ rs) → IsRising rs
+rising-tail : (r : Reading) (rs : List Reading) → IsRising (r ∷ rs) → IsRising rs
 rising-tail r rs h = λ i j d p q. h (suc i) (suc j) d (omega arith) (omega arith)
 
 pub rising-first : (r s : Reading) (rs : List Reading) → IsRising (r ∷ s ∷ rs) → r.at <ℤ s.at

@@ -1,3 +1,2 @@
 pub mod AreaLemmas
 pub mod RisingLemmas
-pub mod WindowLemmas

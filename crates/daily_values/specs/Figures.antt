@@ -1,5 +1,5 @@
 -- The figures of a day: its length, the sum for its stage, and how its mean is published.
-use Rattle.std.specs.Prelude.{ℕ, List, ◌*◌, ◌^◌, ◌≤◌, ◌==◌, if◌then◌else◌, Option, Some, None, pos, neg_ℤ, ◌≤ℤ◌}
+use Rattle.std.specs.Prelude.{ℕ, List, ◌*◌, ◌≤◌, ◌==◌, if◌then◌else◌, Option, Some, None, pos, neg_ℤ, ◌≤ℤ◌}
 use Rattle.fixed_units.specs.Quantities.{most_stage}
 use Rattle.fixed_units.specs.Published.{published}
 use Rattle.fixed_units.specs.declared.published.Published.{Published}

@@ -187,10 +187,7 @@ fn add_areas(parts: &DayParts, pairs: &[(Reading, Reading)]) -> Sum
     ensures low { neg_ℤ (pos (2 * most_stage * result.covered)) ≤ℤ result.twice }
     ensures high { result.twice ≤ℤ pos (2 * most_stage * result.covered) }
 {
-    let mut sum = Sum {
-        twice: 0,
-        covered: 0,
-    };
+    let mut sum = Sum::none();
     for (left, right) in pairs {
         let seconds = seconds_between(parts, left, right);
         sum.twice += twice_area(parts, left, right, seconds);

@@ -20,6 +20,18 @@ pub struct Sum {
     pub covered: u32,
 }
 
+impl Sum {
+    /// The sum over no trapezoid.
+    pub(crate) fn none() -> Sum
+        ensures { result ≡ record { twice = pos 0; covered = 0 } }
+    {
+        Sum {
+            twice: 0,
+            covered: 0,
+        }
+    }
+}
+
 /// The sum for the stage of a day.
 pub(crate) fn sum_stages(parts: &DayParts) -> Sum
     requires { AreParts parts.now }
@@ -28,10 +40,7 @@ pub(crate) fn sum_stages(parts: &DayParts) -> Sum
     ensures low { neg_ℤ (pos (2 * most_stage * result.covered)) ≤ℤ result.twice }
     ensures high { result.twice ≤ℤ pos (2 * most_stage * result.covered) }
 {
-    let mut sum = Sum {
-        twice: 0,
-        covered: 0,
-    };
+    let mut sum = Sum::none();
     let mut rest = parts.window.as_slice();
     while let [left, right, ..] = rest {
         let seconds = seconds_between(parts, left, right);

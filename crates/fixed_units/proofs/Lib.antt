@@ -6,3 +6,4 @@ pub mod PublishLemmas
 pub mod PublishedLemmas
 pub mod RoundingLemmas
 pub mod TextLemmas
+pub mod SiteLemmas

@@ -8,7 +8,7 @@ use Rattle.fixed_units.specs.Lines.{line_at}
 use Rattle.fixed_units.proofs.RoundingLemmas.{line-between, line-start, line-end}
 
 -- what is at most m either way
-abs-le : (z : ℤ) (m : ℕ) → neg_ℤ (pos m) ≤ℤ z → z ≤ℤ pos m → unsigned_abs z ≤ m
+pub abs-le : (z : ℤ) (m : ℕ) → neg_ℤ (pos m) ≤ℤ z → z ≤ℤ pos m → unsigned_abs z ≤ m
 abs-le (pos n) m low high = omega (arith, ints)
 abs-le (negsuc n) m low high = omega (arith, ints)
 

@@ -159,7 +159,7 @@ line-between v1 v2 low high (pos k) (pos n) h some le low1 low2 high1 high2 =
 line-between v1 v2 low high (negsuc k) n h some le low1 low2 high1 high2 = absurd (omega (arith, ints))
 line-between v1 v2 low high (pos k) (negsuc n) h some le low1 low2 high1 high2 = absurd (omega (arith, ints))
 
-quotient_same : (m k n d : ℕ) → m ≡ n → k ≡ d → (2 * m + k) / (2 * k) ≡ (2 * n + d) / (2 * d)
+pub quotient_same : (m k n d : ℕ) → m ≡ n → k ≡ d → (2 * m + k) / (2 * k) ≡ (2 * n + d) / (2 * d)
 quotient_same m k n d e f = cc
 
 -- and meets its ends

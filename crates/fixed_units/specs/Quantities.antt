@@ -1,5 +1,5 @@
 -- The ranges of quantities, instants, days and sites. A number is that of millionths, seconds or days.
-use Rattle.std.specs.Prelude.{ℕ, ◌^◌, ◌<◌, ◌≤◌, Bool, ◌&&◌, ℤ, pos, neg_ℤ, ◌≤ℤ◌, int_le}
+use Rattle.std.specs.Prelude.{ℕ, ◌+◌, ◌*◌, ◌^◌, ◌<◌, ◌≤◌, Bool, ◌&&◌, ℤ, pos, neg_ℤ, ◌≤ℤ◌, int_le}
 use Rattle.std.specs.Ordering.{nat_cmp, ordering_then}
 use Rattle.std.specs.declared.cmp.Ordering.{Ordering}
 
@@ -99,3 +99,7 @@ pub record IsSite (site : SiteNumber) : Type 0 where
 -- the order of sites: fewer digits come first, and of as many the lesser value
 abbrev pub site_order : SiteNumber → SiteNumber → Ordering
 site_order a b = ordering_then (nat_cmp a.digits b.digits) (nat_cmp a.value b.value)
+
+-- the number that a site stands at in that order
+abbrev pub site_place : SiteNumber → ℤ
+site_place site = pos (site.digits * 10 ^ 15 + site.value)

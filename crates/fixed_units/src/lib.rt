@@ -4,6 +4,7 @@
 
 pub mod decimals;
 pub mod lines;
+pub mod points;
 pub mod published;
 pub mod quantities;
 pub mod ranges;

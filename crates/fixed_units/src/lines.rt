@@ -2,6 +2,7 @@
 
 ghost use Rattle.std.specs.Prelude.{◌≡◌, ◌*◌, ◌^◌, ℤ, pos, neg_ℤ, ◌+ℤ◌, ◌-ℤ◌, ◌*ℤ◌, ◌≤ℤ◌, ◌<ℤ◌};
 ghost use Rattle.fixed_units.specs.Lines.{line_at};
+ghost use Rattle.fixed_units.specs.Rounding.{round};
 ghost use Rattle.fixed_units.specs.Quantities.{IsMicro, IsWithin, most_millionths};
 
 use crate::quantities::Micro;
@@ -16,8 +17,7 @@ pub fn line_at(from: (i64, Micro), to: (i64, Micro), x: i64) -> Micro
     ensures value { result ≡ line_at from to x }
     ensures between { (least greatest : ℤ) → IsWithin least greatest from.1 → IsWithin least greatest to.1 → IsWithin least greatest result }
 {
-    let area = product(rise(from.1, to.1), difference(from.0, x));
-    sum(from.1, to.1, div_half_away(area, difference(from.0, to.0)))
+    sum(from.1, to.1, risen(from, to, x))
 }
 
 /// A line meets the points that it is drawn through.
@@ -25,6 +25,17 @@ pub fn lines_meet_their_ends()
     ensures first { (p q : ℤ × ℤ) → p.0 <ℤ q.0 → line_at p q p.0 ≡ p.1 }
     ensures last { (p q : ℤ × ℤ) → p.0 <ℤ q.0 → line_at p q q.0 ≡ q.1 }
 {}
+
+/// How much the straight line from one point to another has risen at `x`, rounded.
+fn risen(from: (i64, Micro), to: (i64, Micro), x: i64) -> i128
+    requires rising { from.0 <ℤ to.0 }
+    requires first { from.0 ≤ℤ x }
+    requires last { x ≤ℤ to.0 }
+    ensures { result ≡ round ((to.1 -ℤ from.1) *ℤ (x -ℤ from.0)) (to.0 -ℤ from.0) }
+{
+    let area = product(rise(from.1, to.1), difference(from.0, x));
+    div_half_away(area, difference(from.0, to.0))
+}
 
 /// How much more one number is than another.
 fn difference(from: i64, to: i64) -> i128

@@ -1,7 +1,9 @@
 //! The numbers that every layer above speaks of: amounts in millionths, instants, days and sites.
 
-ghost use Rattle.std.specs.Prelude.{◌≡◌, ◌^◌, ◌<◌, ◌≤◌, ◌↔◌, ℤ, pos, neg_ℤ, ◌≤ℤ◌, IsSome, IfSome, if◌then◌else◌};
-ghost use Rattle.fixed_units.specs.Quantities.{IsMicro, IsSecond, IsDay, IsSite, most_stated, site_order};
+ghost use Rattle.std.specs.Prelude.{◌≡◌, ◌^◌, ◌<◌, ◌≤◌, ◌↔◌, true, ℤ, pos, neg_ℤ, ◌≤ℤ◌, int_lt, IsSome, IfSome, if◌then◌else◌};
+ghost use Rattle.std.specs.Ordering.{int_eq};
+ghost use Rattle.std.specs.declared.cmp.Ordering.TheVariants.{Less};
+ghost use Rattle.fixed_units.specs.Quantities.{IsMicro, IsSecond, IsDay, IsSite, most_stated, site_order, site_place};
 
 use std::marker::Model;
 
@@ -198,6 +200,22 @@ impl Site {
         ensures range { IsSite self }
     {
         self.value
+    }
+
+    /// Whether the site comes before another: it has fewer digits, or as many and the lesser value.
+    pub fn is_before(self, other: Site) -> bool
+        ensures place { result ≡ int_lt (site_place self) (site_place other) }
+        ensures order { result ≡ true ↔ site_order self other ≡ Less }
+    {
+        self.digits < other.digits || (self.digits == other.digits && self.value < other.value)
+    }
+
+    /// Whether it is the other site.
+    pub fn is_at(self, other: Site) -> bool
+        ensures place { result ≡ int_eq (site_place self) (site_place other) }
+        ensures same { result ≡ true ↔ self ≡ other }
+    {
+        self.digits == other.digits && self.value == other.value
     }
 }
 

@@ -1,6 +1,6 @@
 //! Division that rounds to the nearest whole number.
 
-ghost use Rattle.std.specs.Prelude.{◌≡◌, ◌+◌, ◌*◌, ◌/◌, ◌^◌, ◌<◌, ◌≤◌, ℤ, pos, neg_ℤ, ◌≤ℤ◌, ◌<ℤ◌};
+ghost use Rattle.std.specs.Prelude.{◌≡◌, ◌+◌, ◌*◌, ◌/◌, ◌^◌, ◌<◌, ◌≤◌, ℤ, pos, neg_ℤ, ◌≤ℤ◌, ◌<ℤ◌, unsigned_abs};
 ghost use Rattle.fixed_units.specs.Rounding.{IsRounded, round};
 
 /// The whole number nearest to `num / den`, of two equally near the one farther from zero. `num` is
@@ -12,12 +12,23 @@ pub fn div_half_away(num: i128, den: i128) -> i128
     ensures nearest { IsRounded num den result }
     ensures value { result ≡ round num den }
 {
-    let magnitude = round_up(num.unsigned_abs(), den.unsigned_abs());
+    let magnitude = magnitude(num, den);
     if num < 0 {
         -(magnitude as i128)
     } else {
         magnitude as i128
     }
+}
+
+/// How far that number is from zero.
+fn magnitude(num: i128, den: i128) -> u128
+    requires positive { pos 0 <ℤ den }
+    requires low { neg_ℤ (pos (10 ^ 37)) ≤ℤ num }
+    requires high { num ≤ℤ pos (10 ^ 37) }
+    ensures value { result ≡ (2 * unsigned_abs num + unsigned_abs den) / (2 * unsigned_abs den) }
+    ensures small { result ≤ 10 ^ 37 }
+{
+    round_up(num.unsigned_abs(), den.unsigned_abs())
 }
 
 /// The whole number nearest to `num / den`, of two equally near the greater one.

@@ -1,8 +1,8 @@
 -- What a stop at any moment of an append and of a mend leaves.
 use Rattle.std.proofs.Common.{◌≡◌, inl, ℕ, ◌+◌, List, [], ◌∷◌, ◌++◌, length, Some, IfSome, IsSome, subst}
 use Rattle.devices.specs.declared.disks.Disk.{Ghosts}
-use Rattle.records.specs.Payloads.{encoded}
-use Rattle.records.specs.declared.edits.Record.{Record}
+use Rattle.first_records.specs.Payloads.{encoded}
+use Rattle.first_records.specs.declared.edits.Record.{Record}
 use Rattle.journal.specs.JournalBytes.{IsJournalOf, IsUndecided, StandsFor, front}
 use Rattle.journal.specs.Keeping.{IsNext}
 use Rattle.journal.specs.Moments.{LeavesOnly}

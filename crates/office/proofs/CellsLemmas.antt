@@ -1,10 +1,11 @@
 -- Rising cells: which cell a day has, and what an edit at a place says of every day.
-use Rattle.std.specs.Prelude.{◌≡◌, Bool, true, false, if◌then◌else◌, List, [], ◌∷◌, ℕ, ◌<◌, ◌≤◌, ◌⊎◌, ℤ, ◌<ℤ◌, ◌≤ℤ◌, find, take, drop, set, length, slice_get, Option, Some, None, IsSome, Result, Ok, Err, IfOk, IfErr, All, option_and_then, option_map, unwrap_or}
+use Rattle.std.specs.Prelude.{◌≡◌, Bool, true, false, if◌then◌else◌, List, [], ◌∷◌, ℕ, ◌<◌, ◌≤◌, ℤ, ◌<ℤ◌, ◌≤ℤ◌, find, take, drop, set, length, slice_get, Option, Some, None, IsSome, Result, Ok, Err, IfOk, IfErr, All, option_and_then, option_map, unwrap_or}
 use Rattle.std.specs.Option.{option_or}
 use Rattle.std.specs.List.{insert, position_or_len}
 use Rattle.std.specs.List.Sorted.{IsSearchInRange, IsBinarySearchResult}
 use Rattle.std.specs.Ordering.{int_cmp, ordering_index}
 use Rattle.std.proofs.Common.{arith, refl, ap, sym, ◌∙◌, get_or, subst, inl, inr}
+use Rattle.std.proofs.Math.Nat.{eq-or-lt_of_le}
 use Rattle.std.proofs.lemmas.Bool.{cases_lt}
 use Rattle.std.proofs.lemmas.Cmp.{int_ranked}
 use Rattle.std.proofs.lemmas.Int.{ints}
@@ -217,13 +218,10 @@ inserted cells day place cell gap e =
     (sym (cell_of_insert cells day place cell day gap e ∙ ap (λ b. if b then Some cell else cell_of cells day) k)) refl
 
 -- a binary search for a day ends at its cell, or at the gap for it
-eq_or_lt : (i j : ℕ) → i ≤ j → (i ≡ j) ⊎ (i < j)
-eq_or_lt i j h = grind arith
-
 no_later : (cells : List Cell) → AreCells cells → (i j : ℕ) (d : Cell) → i ≤ j → j < length cells
     → (get_or cells i d).day ≤ℤ (get_or cells j d).day
 no_later cells h i j d l m =
-    elim (eq_or_lt i j l) [ inl e ↦ rw e (omega (arith, ints)) | inr e ↦ (let k = h.rising i j d e m in omega (arith, ints)) ]
+    elim (eq-or-lt_of_le l) [ inl e ↦ rw e (omega (arith, ints)) | inr e ↦ (let k = h.rising i j d e m in omega (arith, ints)) ]
 
 compared_rise : (a b day : ℤ) → a ≤ℤ b → ordering_index (int_cmp a day) ≤ ordering_index (int_cmp b day)
 compared_rise a b day h = grind (arith, ints)

@@ -18,7 +18,7 @@ use Rattle.daily_values.specs.declared.day_inputs.DayParts.{DayParts}
 use Rattle.office.specs.Calendar.{day_start, day_end}
 use Rattle.office.specs.Changes.{same_number, same_flag, same_reading, same_readings, same_inputs, changes}
 use Rattle.office.specs.Inputs.{Inputs, inputs_after, inputs_of_day, reading_of}
-use Rattle.records.specs.declared.edits.What.{What}
+use Rattle.first_records.specs.declared.edits.What.{What}
 
 -- two numbers are one, and so with each member of the inputs
 same_number-refl : (a : ℤ) → same_number a a ≡ true

@@ -4,9 +4,9 @@ use Rattle.std.proofs.Common.{arith, refl, ap, sym, subst, inl, ◌∙◌}
 use Rattle.std.proofs.lemmas.Bool.{lt-ltb, ltb-true}
 use Rattle.std.specs.Result.{IsErrAnd}
 use Rattle.devices.specs.declared.disks.Disk.{Ghosts}
-use Rattle.records.specs.FirstPath.{IsFirstPath}
-use Rattle.records.specs.declared.edits.Record.{Record}
-use Rattle.records.specs.declared.edits.What.{What}
+use Rattle.first_records.specs.FirstPath.{IsFirstPath}
+use Rattle.first_records.specs.declared.edits.Record.{Record}
+use Rattle.first_records.specs.declared.edits.What.{What}
 use Rattle.journal.specs.JournalBytes.{StandsFor}
 use Rattle.journal.specs.Keeping.{Holds, IsNext, Appends, doubt_of, leaves_doubt}
 use Rattle.journal.proofs.Moments.{started, widened}

@@ -9,7 +9,7 @@ use Rattle.office.specs.Calendar.{day_start, day_end}
 use Rattle.office.specs.Changes.{same_number, changes}
 use Rattle.office.specs.Inputs.{reading_of}
 use Rattle.office.specs.Marks.{is_marked}
-use Rattle.records.specs.declared.edits.What.{What}
+use Rattle.first_records.specs.declared.edits.What.{What}
 use Rattle.office.specs.declared.marks.Mark.{Mark}
 use Rattle.office.specs.declared.marks.Marks.{Marks}
 use Rattle.office.proofs.ChangesLemmas.{Decides-same_number, same_window}

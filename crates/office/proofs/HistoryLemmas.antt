@@ -7,8 +7,8 @@ use Rattle.std.proofs.lemmas.List.Elements.{All-push}
 use Rattle.office.specs.Changes.{changes, same_number}
 use Rattle.office.specs.History.{Event, Accepted, Published, Faulted, accepted, inputs_at, awaited, awaited_back, doubt, doubt_back, after_edit, reopen}
 use Rattle.office.specs.Inputs.{inputs_of, inputs_after, no_inputs}
-use Rattle.records.specs.Edits.{IsWhat}
-use Rattle.records.specs.declared.edits.What.{What}
+use Rattle.first_records.specs.Edits.{IsWhat}
+use Rattle.first_records.specs.declared.edits.What.{What}
 
 -- the edits of a history that goes on
 pub accepted-append : (events more : List Event) → accepted (events ++ more) ≡ accepted events ++ accepted more

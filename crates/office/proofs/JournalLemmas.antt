@@ -3,10 +3,10 @@ use Rattle.std.specs.Prelude.{◌≡◌, ℕ, ◌+◌, ◌*◌, ◌^◌, ◌<◌
 use Rattle.std.specs.Int.{w32, to_le_bytes}
 use Rattle.std.proofs.Common.{arith, refl, ap, subst, ◌∙◌, length-append}
 use Rattle.std.proofs.lemmas.List.Concat.{flat_map-cons}
-use Rattle.records.specs.FirstPath.{IsFirstPath, first_by, first_reference, first_site}
-use Rattle.records.specs.Payloads.{payload, encoded, kind, fields, short_text, site_number}
-use Rattle.records.specs.declared.edits.Record.{Record}
-use Rattle.records.specs.declared.edits.What.{What}
+use Rattle.first_records.specs.FirstPath.{IsFirstPath, first_by, first_reference, first_site}
+use Rattle.first_records.specs.Payloads.{payload, encoded, kind, fields, short_text, site_number}
+use Rattle.first_records.specs.declared.edits.Record.{Record}
+use Rattle.first_records.specs.declared.edits.What.{What}
 use Rattle.fixed_units.specs.Quantities.{SiteNumber}
 use Rattle.journal.specs.JournalBytes.{IsNumbered, AreNumbered, block, front, header}
 use Rattle.office.specs.JournalOfEdits.{AreRecords, payload_of, records_size, journal_size}

@@ -12,11 +12,11 @@ use Rattle.office.specs.Cells.{SaysTheSame, Publishes, awaited_in, value_in}
 use Rattle.office.specs.Changes.{changes, same_number}
 use Rattle.office.specs.History.{Event, Accepted, Published, accepted, inputs_at, awaited, value_at, after_edit, after_fault}
 use Rattle.office.specs.Inputs.{Inputs, inputs_of, inputs_of_day, reading_of, AreReadings}
-use Rattle.records.specs.Edits.{IsWhat}
+use Rattle.first_records.specs.Edits.{IsWhat}
 use Rattle.office.specs.Kept.{State, in_force, Keeps}
 use Rattle.office.specs.Marks.{is_marked, MarksDays}
-use Rattle.records.specs.declared.edits.What.{What}
-use Rattle.records.specs.declared.edits.What.TheVariants.{PutReadings}
+use Rattle.first_records.specs.declared.edits.What.{What}
+use Rattle.first_records.specs.declared.edits.What.TheVariants.{PutReadings}
 use Rattle.office.specs.declared.marks.Marks.{Marks}
 use Rattle.office.proofs.ChangesLemmas.{Decides-same_number, unchanged_inputs}
 use Rattle.office.proofs.HistoryLemmas.{count-edit, count-published, inputs-edit, inputs-published, lawful-edit, lawful-published, accepted-faulted, awaited-edit, awaited-faulted, awaited-published, awaited-nothing}

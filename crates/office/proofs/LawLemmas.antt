@@ -7,7 +7,7 @@ use Rattle.office.specs.Changes.{changes, same_number}
 use Rattle.office.specs.History.{Event, Accepted, Published, Faulted, Computed, accepted, inputs_at, awaited, awaited_back, value_at, answer_at, after_edit, after_fault, reopen}
 use Rattle.office.specs.Inputs.{Inputs, inputs_of, inputs_of_day, inputs_after}
 use Rattle.office.specs.Laws.{IsNamed, IsChanged}
-use Rattle.records.specs.declared.edits.What.{What}
+use Rattle.first_records.specs.declared.edits.What.{What}
 use Rattle.office.proofs.ChangesLemmas.{Decides-same_number, unchanged_inputs, same_unchanged}
 use Rattle.office.proofs.HistoryLemmas.{accepted-append, accepted-faulted, inputs-edit, inputs-published, awaited-edit, awaited-published, awaited-faulted, count-back, accepted-reopen, reopen-push, reopen-reverse}
 

@@ -2,9 +2,9 @@
 use Rattle.std.specs.Prelude.{◌≡◌, ℕ, ◌+◌, ◌*◌, ◌<◌, ◌≤◌, List, [], ◌∷◌, ◌++◌, length}
 use Rattle.std.proofs.Common.{arith, ap, subst, ◌∙◌}
 use Rattle.devices.specs.declared.disks.Disk.{Ghosts}
-use Rattle.records.specs.FirstPath.{IsFirstPath}
-use Rattle.records.specs.declared.edits.Record.{Record}
-use Rattle.records.specs.declared.edits.What.{What}
+use Rattle.first_records.specs.FirstPath.{IsFirstPath}
+use Rattle.first_records.specs.declared.edits.Record.{Record}
+use Rattle.first_records.specs.declared.edits.What.{What}
 use Rattle.journal.proofs.Moments.{joined}
 use Rattle.journal.specs.Moments.{OnlyReads}
 use Rattle.journal.specs.Reading.{HasRead, HasEnded}

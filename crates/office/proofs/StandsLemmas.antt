@@ -2,10 +2,10 @@
 use Rattle.std.specs.Prelude.{◌≡◌, ℕ, ◌+◌, Bool, false, List, [], ◌∷◌, ◌++◌, length, Option, Some, None, is_some, IfSome, IfOk, Result, Ok, Err, ℤ}
 use Rattle.std.proofs.Common.{arith, refl, ap, sym, subst, inl, inr, ◌∙◌, length-append}
 use Rattle.devices.specs.declared.disks.Disk.{Ghosts}
-use Rattle.records.specs.FirstPath.{IsFirstPath}
-use Rattle.records.specs.Payloads.{encoded}
-use Rattle.records.specs.declared.edits.Record.{Record}
-use Rattle.records.specs.declared.edits.What.{What}
+use Rattle.first_records.specs.FirstPath.{IsFirstPath}
+use Rattle.first_records.specs.Payloads.{encoded}
+use Rattle.first_records.specs.declared.edits.Record.{Record}
+use Rattle.first_records.specs.declared.edits.What.{What}
 use Rattle.journal.specs.JournalBytes.{IsJournalOf, HasRecords, StandsFor}
 use Rattle.journal.specs.Keeping.{Holds}
 use Rattle.journal.specs.declared.keeping.Journal.{Journal}

@@ -2,7 +2,7 @@
 use Rattle.std.specs.Prelude.{◌≡◌, ℕ, Bool, true, List, [], ◌∷◌, ◌++◌, Option, Some, None, ℤ}
 use Rattle.std.proofs.Common.{refl, ap, sym, subst, inl, ◌∙◌, append_assoc, append-nil}
 use Rattle.devices.specs.declared.disks.Disk.{Ghosts}
-use Rattle.records.specs.declared.edits.What.{What}
+use Rattle.first_records.specs.declared.edits.What.{What}
 use Rattle.journal.proofs.Moments.{started}
 use Rattle.journal.specs.Moments.{LeavesOnly}
 use Rattle.office.specs.Edits.{in_flight}

@@ -7,7 +7,7 @@ use Rattle.daily_values.specs.declared.day_inputs.DayInputs.{DayInputs}
 use Rattle.daily_values.specs.declared.day_inputs.DayInputs.TheVariants.{Empty, Day}
 use Rattle.office.specs.Calendar.{calendar}
 use Rattle.office.specs.Inputs.{Inputs, inputs_after, inputs_of_day}
-use Rattle.records.specs.declared.edits.What.{What}
+use Rattle.first_records.specs.declared.edits.What.{What}
 
 -- two numbers are one
 abbrev pub same_number : ℤ → ℤ → Bool

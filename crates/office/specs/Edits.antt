@@ -1,10 +1,10 @@
 -- What an edit comes to.
 use Rattle.std.specs.Prelude.{◌≡◌, ℕ, ◌+◌, Bool, true, false, List, [], ◌∷◌, ◌++◌, length, Option, Some, None, Result, Ok, Err}
 use Rattle.devices.specs.declared.disks.Disk.{Ghosts}
-use Rattle.records.specs.FirstPath.{IsFirstPath}
-use Rattle.records.specs.Payloads.{encoded}
-use Rattle.records.specs.declared.edits.Record.{Record}
-use Rattle.records.specs.declared.edits.What.{What}
+use Rattle.first_records.specs.FirstPath.{IsFirstPath}
+use Rattle.first_records.specs.Payloads.{encoded}
+use Rattle.first_records.specs.declared.edits.Record.{Record}
+use Rattle.first_records.specs.declared.edits.What.{What}
 use Rattle.journal.specs.Keeping.{AppendCalls}
 use Rattle.journal.specs.declared.keeping.AppendFault.{AppendFault}
 use Rattle.journal.specs.declared.keeping.AppendFault.TheVariants.{Full, Fault}

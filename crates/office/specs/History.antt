@@ -5,7 +5,7 @@ use Rattle.daily_values.specs.declared.day_values.DayValue.{DayValue}
 use Rattle.office.specs.Calendar.{calendar}
 use Rattle.office.specs.Inputs.{Inputs, inputs_of, inputs_of_day}
 use Rattle.office.specs.Changes.{changes, same_number}
-use Rattle.records.specs.declared.edits.What.{What}
+use Rattle.first_records.specs.declared.edits.What.{What}
 
 -- an edit was accepted, the value of a day was published, or a fault of the journal refused an edit, which left the
 -- journal in doubt of it or not

@@ -8,8 +8,8 @@ use Rattle.readings.specs.Readings.{IsRising, put}
 use Rattle.daily_values.specs.DayInputs.{day_inputs}
 use Rattle.daily_values.specs.declared.day_inputs.DayInputs.{DayInputs}
 use Rattle.office.specs.Calendar.{day_start, day_end}
-use Rattle.records.specs.declared.edits.What.{What}
-use Rattle.records.specs.declared.edits.What.TheVariants.{PutReadings}
+use Rattle.first_records.specs.declared.edits.What.{What}
+use Rattle.first_records.specs.declared.edits.What.TheVariants.{PutReadings}
 
 -- what is in force at the built-in station
 pub record Inputs : Type 0 where

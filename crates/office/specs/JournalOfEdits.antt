@@ -1,9 +1,9 @@
 -- The journal of accepted edits: the record of each, numbered from 1.
 use Rattle.std.specs.Prelude.{◌≡◌, ◌⊎◌, ℕ, ◌+◌, Bool, true, nat_lt, List, [], ◌∷◌, ◌++◌, length, Option, Some, None, ⊤}
-use Rattle.records.specs.FirstPath.{IsFirstPath, first_by, first_reference, first_site}
-use Rattle.records.specs.Payloads.{bytes_of_parts}
-use Rattle.records.specs.declared.edits.Record.{Record}
-use Rattle.records.specs.declared.edits.What.{What}
+use Rattle.first_records.specs.FirstPath.{IsFirstPath, first_by, first_reference, first_site}
+use Rattle.first_records.specs.Payloads.{bytes_of_parts}
+use Rattle.first_records.specs.declared.edits.Record.{Record}
+use Rattle.first_records.specs.declared.edits.What.{What}
 use Rattle.journal.specs.JournalBytes.{IsJournalOf}
 use Rattle.office.specs.History.{Event, accepted}
 

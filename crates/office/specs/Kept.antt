@@ -5,7 +5,7 @@ use Rattle.fixed_units.specs.declared.readings.Reading.{Reading}
 use Rattle.office.specs.Cells.{awaited_in, value_in}
 use Rattle.office.specs.History.{Event, accepted, inputs_at, awaited, value_at}
 use Rattle.office.specs.Inputs.{Inputs}
-use Rattle.records.specs.Edits.{IsWhat}
+use Rattle.first_records.specs.Edits.{IsWhat}
 use Rattle.office.specs.declared.cells.Cell.{Cell}
 
 -- the record of a station as contracts see it: beside the readings there is room for some more

@@ -3,7 +3,7 @@ use Rattle.std.specs.Prelude.{◌≡◌, ℕ, ◌+◌, true, List, ◌∷◌, �
 use Rattle.office.specs.Changes.{changes}
 use Rattle.office.specs.History.{Event, Accepted, accepted, inputs_at}
 use Rattle.office.specs.Inputs.{inputs_of}
-use Rattle.records.specs.declared.edits.What.{What}
+use Rattle.first_records.specs.declared.edits.What.{What}
 
 -- the number is that of an accepted edit, which changed the day when it was accepted
 pub record IsNamed (events : List Event) (day : ℤ) (number : ℕ) : Type 0 where

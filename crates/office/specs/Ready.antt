@@ -1,6 +1,6 @@
 -- What an edit needs before it is accepted without taking memory.
 use Rattle.std.specs.Prelude.{◌≡◌, ◌<◌, ℤ}
-use Rattle.records.specs.declared.edits.What.{What}
+use Rattle.first_records.specs.declared.edits.What.{What}
 use Rattle.office.specs.Changes.{changes}
 use Rattle.office.specs.Kept.{State, in_force}
 use Rattle.office.specs.Marks.{HaveRoom, is_marked}

@@ -2,8 +2,8 @@
 use Rattle.std.specs.Prelude.{ℕ, Bool, true, false, List, [], ◌∷◌, ◌++◌, Option, IfSome, Result, Ok, Err, ⊤}
 use Rattle.devices.specs.declared.disks.Disk.{Ghosts}
 use Rattle.devices.specs.Faults.{Rose}
-use Rattle.records.specs.declared.edits.Record.{Record}
-use Rattle.records.specs.declared.edits.What.{What}
+use Rattle.first_records.specs.declared.edits.Record.{Record}
+use Rattle.first_records.specs.declared.edits.What.{What}
 use Rattle.journal.specs.JournalBytes.{IsDamagedAt}
 use Rattle.journal.specs.Reading.{HasRead, HasEnded}
 use Rattle.journal.specs.declared.opening.Opening.{Opening}

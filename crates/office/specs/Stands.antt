@@ -1,8 +1,8 @@
 -- Which history an office stands for, in its memory and on its disk.
 use Rattle.std.specs.Prelude.{◌≡◌, ◌+◌, Bool, true, List, length, Option, is_some}
 use Rattle.devices.specs.declared.disks.Disk.{Ghosts}
-use Rattle.records.specs.declared.edits.Record.{Record}
-use Rattle.records.specs.declared.edits.What.{What}
+use Rattle.first_records.specs.declared.edits.Record.{Record}
+use Rattle.first_records.specs.declared.edits.What.{What}
 use Rattle.journal.specs.Keeping.{Holds}
 use Rattle.journal.specs.declared.keeping.Journal.{Journal}
 use Rattle.office.specs.History.{Event, accepted, doubt}

@@ -1,6 +1,6 @@
 -- What a stop leaves while the history of an office goes on.
 use Rattle.std.specs.Prelude.{◌≡◌, ℕ, List, [], ◌∷◌, ◌++◌, Option}
-use Rattle.records.specs.declared.edits.What.{What}
+use Rattle.first_records.specs.declared.edits.What.{What}
 use Rattle.office.specs.Edits.{in_flight}
 use Rattle.office.specs.History.{Event, Accepted, Published, Faulted, accepted, doubt}
 use Rattle.office.specs.JournalOfEdits.{StandsForEdits}

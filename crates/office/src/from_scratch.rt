@@ -11,7 +11,7 @@ ghost use Rattle.office.specs.Changes.{same_inputs};
 use crate::station::{GAP, bounds};
 use fixed_units::{Day, FIRST_DAY, Flag, LAST_DAY, NoMemory, Reading};
 use readings::Readings;
-use records::What;
+use first_records::What;
 use std::alloc::Global;
 
 /// The days that an edit changes, found by comparing every day of the calendar.

@@ -6,7 +6,7 @@ ghost use Rattle.office.specs.Changes.{changes, changed_days, same_number};
 ghost use Rattle.office.specs.History.{Event, Accepted, Published, DayAnswer, Computed, accepted, inputs_at, awaited, value_at, answer_at, pending_days, doubt, after_edit, after_fault, after_turn, reopen};
 ghost use Rattle.office.specs.Inputs.{Inputs, inputs_of, inputs_of_day, inputs_after};
 ghost use Rattle.office.specs.Laws.{IsNamed, IsChanged};
-ghost use Rattle.records.specs.declared.edits.What.{What};
+ghost use Rattle.first_records.specs.declared.edits.What.{What};
 
 /// An edit leaves a day exactly where the inputs of the day are equal before the edit and after it.
 pub fn unchanged_days_have_equal_inputs()

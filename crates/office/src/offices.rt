@@ -3,7 +3,7 @@
 ghost use Rattle.std.specs.Prelude.{◌≡◌, ◌⊎◌, ◌+◌, ◌-◌, ◌^◌, ◌<◌, ◌≤◌, true, Bool, ℕ, List, length, IfSome, IfOk, IfErr, OnErr, Ok, Err, is_some};
 ghost use Rattle.devices.specs.Disks.{IsUnchanged, IsDurable};
 ghost use Rattle.devices.specs.Faults.{Rose};
-ghost use Rattle.records.specs.Edits.{IsWhat};
+ghost use Rattle.first_records.specs.Edits.{IsWhat};
 ghost use Rattle.journal.specs.Moments.{LeavesOnly, SyncsFirst, IsContent};
 ghost use Rattle.journal.specs.Writing.{Lists};
 ghost use Rattle.office.specs.History.{Event, accepted, doubt, pending_days, next_day, after_turn};
@@ -17,7 +17,7 @@ use crate::station_state::{Answer, StationState};
 use devices::Disk;
 use fixed_units::{Day, NoMemory, Text};
 use journal::{AppendFault, Journal, OpenRefused};
-use records::What;
+use first_records::What;
 use std::alloc::Global;
 use thiserror::Error;
 
@@ -165,8 +165,8 @@ impl<D: Disk> Office<D> {
         requires room { self.now.station.edits < 2 ^ 64 - 1 }
         ensures { IfOk result (IsEncoded (self.now.station.edits + 1) what) }
     {
-        let piece = records::first_path::record_of(self.alloc, self.station.edits() + 1, what)?;
-        let mut bytes = records::encode(self.alloc, &piece)?;
+        let piece = first_records::first_path::record_of(self.alloc, self.station.edits() + 1, what)?;
+        let mut bytes = first_records::encode(self.alloc, &piece)?;
         bytes.push(0)?;
         Ok(bytes)
     }

@@ -1,10 +1,10 @@
 //! Reading the journal of an office that is opened: each edit is accepted as it was when it was made.
 
 ghost use Rattle.std.specs.Prelude.{◌≡◌, ◌+◌, ◌-◌, ◌^◌, ◌<◌, ◌≤◌, true, false, List, [], OnOk, IfOk, IfErr, IfSome, Ok, None};
-ghost use Rattle.records.specs.Edits.{IsWhat};
-ghost use Rattle.records.specs.declared.edits.What.{What};
+ghost use Rattle.first_records.specs.Edits.{IsWhat};
+ghost use Rattle.first_records.specs.declared.edits.What.{What};
 ghost use Rattle.devices.specs.Faults.{Rose};
-ghost use Rattle.records.specs.declared.edits.Record.{Record};
+ghost use Rattle.first_records.specs.declared.edits.Record.{Record};
 ghost use Rattle.journal.specs.Moments.{OnlyReads};
 ghost use Rattle.journal.specs.Reading.{HasRead};
 ghost use Rattle.journal.specs.declared.opening.OpenFault.{OpenFault};
@@ -16,7 +16,7 @@ use crate::station_state::StationState;
 use devices::Disk;
 use fixed_units::NoMemory;
 use journal::{OpenFault, Opening};
-use records::Record;
+use first_records::Record;
 use std::alloc::Global;
 
 /// Reads the records up to the closed gate, and accepts the edit of each.

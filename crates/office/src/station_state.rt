@@ -4,7 +4,7 @@ ghost use Rattle.std.specs.Prelude.{◌≡◌, ◌+◌, ◌-◌, ◌^◌, ◌<�
 ghost use Rattle.daily_values.specs.DayInputs.{AreInputs};
 ghost use Rattle.daily_values.specs.DayValue.{day_value};
 ghost use Rattle.office.specs.Inputs as inputs;
-ghost use Rattle.records.specs.Edits.{IsWhat};
+ghost use Rattle.first_records.specs.Edits.{IsWhat};
 ghost use Rattle.office.specs.Inputs.{AreReadings, inputs_of_day};
 ghost use Rattle.office.specs.Cells.{AreCells, awaited_in, waiting};
 ghost use Rattle.office.specs.Changes.{changes};
@@ -20,7 +20,7 @@ use crate::station::{GAP, STAGE_ARRAY, bounds, day_after, day_before, day_of};
 use daily_values::{DayInputs, DayParts, DayValue, ReadingList, compute};
 use fixed_units::{Day, Flag, NoMemory, Reading};
 use readings::Readings;
-use records::What;
+use first_records::What;
 use std::alloc::Global;
 use std::marker::Model;
 

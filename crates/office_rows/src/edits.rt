@@ -2,7 +2,7 @@
 
 ghost use Rattle.std.specs.Prelude.{◌≡◌, ◌+◌, ◌^◌, ◌<◌, ◌≤◌, IfOk};
 ghost use Rattle.fixed_units.specs.Quantities.{IsStage, IsStamp};
-ghost use Rattle.records.specs.Edits.{IsWhat};
+ghost use Rattle.first_records.specs.Edits.{IsWhat};
 
 use crate::fixtures::reading;
 use daily_values::DayValue;
@@ -11,7 +11,7 @@ use fixed_units::{Day, Flag, Micro, Published, Reading, Second};
 use office::from_scratch::changed_days;
 use office::{Answer, Limits, Office, Refusal};
 use readings::Readings;
-use records::What;
+use first_records::What;
 use std::process::Abort;
 use std::test::Fail;
 

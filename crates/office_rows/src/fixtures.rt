@@ -1,9 +1,9 @@
 //! Edits of the rows.
 ghost use Rattle.fixed_units.specs.Quantities.{IsStage, IsStamp};
-ghost use Rattle.records.specs.Edits.{IsWhat};
+ghost use Rattle.first_records.specs.Edits.{IsWhat};
 
 use fixed_units::{Micro, Second};
-use records::What;
+use first_records::What;
 use std::process::Abort;
 
 /// A reading of so many millionths of a foot.

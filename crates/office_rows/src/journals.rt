@@ -6,7 +6,7 @@ use journal::laws::{
     nothing_else_has_the_header, one_record_more, stands_for_one_list,
 };
 use journal::{AppendFault, InitFault, Journal, OpenFault, init, open};
-use records::first_path::is_numbered;
+use first_records::first_path::is_numbered;
 use std::alloc::Global;
 use std::test::Fail;
 

@@ -2,11 +2,11 @@
 
 use crate::fixtures::reading;
 use fixed_units::{Text, is_stage, is_stamp};
-use records::first_path::{is_numbered, record_of};
-use records::laws::{
+use first_records::first_path::{is_numbered, record_of};
+use first_records::laws::{
     built_in_keeps_grammar, keeps_grammar, none_begins_another, payload_of_one_record, sizes,
 };
-use records::{By, DecodeFault, Record, Ref, What, decode, encode};
+use first_records::{By, DecodeFault, Record, Ref, What, decode, encode};
 use std::alloc::Global;
 use std::process::Abort;
 use std::test::Fail;

@@ -1,4 +1,3 @@
-pub mod Ends
 pub mod FieldLemmas
 pub mod LineTextLemmas
 pub mod PeriodLawLemmas

@@ -1,5 +1,5 @@
 -- Kept periods: a period put among them or taken out, and the one in force.
-use Rattle.std.specs.Prelude.{◌≡◌, ◌≢◌, Bool, true, false, cond, not, ◌&&◌, List, [], ◌∷◌, ◌-◌, ℤ, ◌<ℤ◌, ◌≤ℤ◌, int_lt, int_le, Option, None, Some, IfSome, filter, find, length, slice_get, option_map, All, AllPairs}
+use Rattle.std.specs.Prelude.{◌≡◌, ◌≢◌, Bool, true, false, cond, not, ◌&&◌, List, [], ◌∷◌, ℤ, ◌<ℤ◌, ◌≤ℤ◌, int_lt, int_le, Option, None, Some, IfSome, filter, find, option_map, All, AllPairs}
 use Rattle.std.specs.Ordering.{int_eq}
 use Rattle.std.proofs.Common.{arith, refl, sym, ◌∙◌, get_or, subst}
 use Rattle.std.proofs.lemmas.Int.{ints}
@@ -8,11 +8,12 @@ use Rattle.std.proofs.lemmas.List.Elements.{All-head, All-tail, All-cons, All-ni
 use Rattle.std.proofs.lemmas.List.Kept.{AllPairs-cons, AllPairs-filter}
 use Rattle.rising.specs.Lists as lists
 use Rattle.rising.specs.Lists.{IsRising, before, after, put, without}
-use Rattle.rising.proofs.Selecting.{filter_none, AllPairs-head, AllPairs-tail, AllPairs-append}
+use Rattle.rising.proofs.Selecting.{none_found, filter_none, AllPairs-head, AllPairs-tail, AllPairs-append}
 use Rattle.rising.proofs.Parting.{lt_yes, lt_no, after_is_after}
 use Rattle.rising.proofs.Placing.{before_is_before, put_rises, without_rises, put_keeps, without_keeps}
 use Rattle.ratings.specs.Spans.{Span, EndsLater}
-use Rattle.ratings.proofs.Ends.{last_behind}
+use Rattle.rising.specs.Ends.{last}
+use Rattle.rising.proofs.Ends.{last-cons}
 use Rattle.ratings.specs.Periods.{AreApart, begin, overlap, share, stands_in_the_way, is_before_end, is_in_force}
 
 abbrev pub IsEarlier : Span → Span → Type 0
@@ -45,16 +46,6 @@ across : (at : ℤ) (kept : List Span) → IsRising begin kept → AllPairs IsAp
 across at [] rising h = All-nil (λ q. All (IsApart q) [])
 across at (p ∷ kept) rising h =
     across_step at p kept (int_lt p.from at) refl rising h (across at kept (AllPairs-tail IsEarlier p kept rising) (AllPairs-tail IsApart p kept h))
-
--- nothing passes where none is found
-none_found_step : {X : Type 0} (p : X → Bool) (x : X) (xs : List X) (b : Bool) → p x ≡ b → cond b (Some x) (find p xs) ≡ None
-    → (find p xs ≡ None → All (λ x. p x ≡ false) xs) → All (λ x. p x ≡ false) (x ∷ xs)
-none_found_step p x xs true e h k = absurd (cc)
-none_found_step p x xs false e h k = All-cons (λ x. p x ≡ false) x xs e (k h)
-
-none_found : {X : Type 0} (p : X → Bool) (xs : List X) → find p xs ≡ None → All (λ x. p x ≡ false) xs
-none_found p [] h = All-nil (λ x. p x ≡ false)
-none_found p (x ∷ xs) h = none_found_step p x xs (p x) refl h (none_found p xs)
 
 clear_step : (p q : Span) (b c : Bool) → b ≡ false → not b && c ≡ false → c ≡ false
 clear_step p q true c e h = absurd (cc)
@@ -118,10 +109,7 @@ none_begins at kept h =
     All-weaker (λ (p : Span). int_eq p.from at ≡ false) (λ p. p.from ≢ at) (λ p e k. absurd (let f = (Decides-int_eq p.from at).1 k in cc)) kept
     (none_found (λ (p : Span). int_eq p.from at) kept (sym h))
 
--- the last of a list, and what it says where it is the last period that has begun
-abbrev pub last : List Span → Option Span
-last kept = slice_get kept (length kept - 1)
-
+-- what the last period that has begun says
 abbrev pub held : ℤ → Option Span → Option Span
 held at None = None
 held at (Some p) = cond (is_before_end at p.until) (Some p) None
@@ -161,7 +149,7 @@ begun_step : (at : ℤ) (p : Span) (kept ys : List Span) → filter (λ (r : Spa
 begun_step at p kept [] e h k = rw k refl
 begun_step at p kept (q ∷ qs) e h k =
     let over = kept_first at p kept qs q h e in
-    let behind = last_behind p q qs in
+    let behind = last-cons p q qs in
     rw (over, behind) k
 
 in_force_step : (at : ℤ) (p : Span) (kept : List Span) (b : Bool) → int_le p.from at ≡ b → AreApart (p ∷ kept)

@@ -8,11 +8,12 @@ use Rattle.std.proofs.lemmas.List.{append-nil, append_assoc}
 use Rattle.std.proofs.lemmas.List.Elements.{All-cons, All-nil, All-append, All-weaker, Contains-append_right}
 use Rattle.rising.proofs.Parting.{lt_yes, lt_no, le_yes, le_no}
 use Rattle.fixed_units.specs.Lines.{line_at}
-use Rattle.ratings.specs.Table.{Row, IsTable, stage_of, stage_between, rows_short, last, first, turned}
+use Rattle.ratings.specs.Table.{Row, IsTable, stage_of, stage_between, rows_short, turned}
 use Rattle.ratings.specs.RatedDischarge.{IsFirstOf, IsInside, IsStageOf}
 use Rattle.ratings.proofs.TableLemmas.{IsNoMore}
-use Rattle.ratings.proofs.Ends.{last_behind}
-use Rattle.ratings.proofs.TableLawLemmas.{front_of, back_of, last_at_end, last_split, parts, behind_row, first_two}
+use Rattle.rising.specs.Ends.{first, last}
+use Rattle.rising.proofs.Ends.{last-cons, last-append}
+use Rattle.ratings.proofs.TableLawLemmas.{front_of, back_of, last_split, parts, behind_row, first_two}
 
 -- the rows around a discharge
 abbrev IsShort : ℤ → Row → Type 0
@@ -87,7 +88,7 @@ between_stage rows front back r s discharge h e low high =
     let other = over s.1 discharge high in
     sym (stage_around rows (front ++ r ∷ []) (s ∷ back) discharge whole (up_to_row rows front r (s ∷ back) discharge h e low)
     (from_row rows (front ++ r ∷ []) s back discharge h whole (omega (arith, ints))))
-    ∙ ap (λ o. stage_between o (Some s) discharge) (last_at_end front r) ∙ rw other refl
+    ∙ ap (λ o. stage_between o (Some s) discharge) (last-append front r []) ∙ rw other refl
 
 pub stage_by_cases : (rows : List Row) (discharge : ℤ) (o : Option ℤ) → IsTable rows → IsStageOf rows discharge o → stage_of rows discharge ≡ o
 stage_by_cases rows discharge None h (inl k) = below_all rows discharge h k
@@ -112,7 +113,7 @@ lifted r s rows discharge h (inl (stage, inl k)) =
       }),
     )
 lifted r s rows discharge h (inl (stage, inr k)) = inl (stage, inr (behind_row (λ x. x.1) r (s ∷ rows) discharge k.0, k.1))
-lifted r s rows discharge h (inr k) = inr (subst (λ (o : Option Row). IsSomeAnd o (λ r. r.1 <ℤ discharge)) (sym (last_behind r s rows)) k)
+lifted r s rows discharge h (inr k) = inr (subst (λ (o : Option Row). IsSomeAnd o (λ r. r.1 <ℤ discharge)) (sym (last-cons r s rows)) k)
 
 here : (r : Row) (rows : List Row) (discharge : ℤ) → r.1 ≡ discharge → AtOrAbove (r ∷ rows) discharge
 here r rows discharge h =

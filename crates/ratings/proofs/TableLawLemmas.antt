@@ -1,11 +1,10 @@
 -- Laws of tables: the rated discharge of a stage is the one that stands by cases.
-use Rattle.std.specs.Prelude.{◌≡◌, ◌⊎◌, Bool, true, false, List, [], ◌∷◌, ◌++◌, ◌-◌, suc, ℤ, ◌<ℤ◌, ◌≤ℤ◌, int_lt, int_le, Option, None, Some, IsSomeAnd, filter, take, drop, length, slice_get, All, AllPairs, Contains}
+use Rattle.std.specs.Prelude.{◌≡◌, ◌⊎◌, Bool, true, false, List, [], ◌∷◌, ◌++◌, suc, ℤ, ◌<ℤ◌, ◌≤ℤ◌, int_lt, int_le, Option, None, Some, IsSomeAnd, filter, take, drop, All, AllPairs, Contains}
 use Rattle.std.specs.Ordering.{int_eq}
 use Rattle.std.proofs.Common.{arith, refl, ap, sym, ◌∙◌, subst, inl, inr, drop-cons}
 use Rattle.std.proofs.lemmas.Int.{ints, by_lt_z}
 use Rattle.std.proofs.lemmas.Bool.Decides.{Decides-int_eq}
-use Rattle.std.proofs.lemmas.List.{get_or_at, length-append, append_assoc, append-nil, take-append-drop}
-use Rattle.std.proofs.lemmas.Option.{slice_get_read}
+use Rattle.std.proofs.lemmas.List.{append_assoc, append-nil, take-append-drop}
 use Rattle.std.proofs.lemmas.List.Elements.{All-head, All-cons, All-nil, All-append, All-weaker, filter-append, Contains-append_right}
 use Rattle.rising.proofs.Selecting.{filter_all, filter_none, AllPairs-head, AllPairs-tail, All-back}
 use Rattle.rising.proofs.Parting.{lt_yes, lt_no, le_yes, le_no}
@@ -13,10 +12,11 @@ use Rattle.fixed_units.specs.Lines.{line_at}
 use Rattle.fixed_units.proofs.LineLemmas.{line-first, line-last}
 use Rattle.ratings.specs.declared.table.Rated.{Rated}
 use Rattle.ratings.specs.declared.table.Rated.TheVariants.{Value, Below, Above}
-use Rattle.ratings.specs.Table.{Row, IsTable, rated, rated_between, rows_upto, last, first}
+use Rattle.ratings.specs.Table.{Row, IsTable, rated, rated_between, rows_upto}
 use Rattle.ratings.specs.RatedDischarge.{IsBetween, IsRated}
 use Rattle.ratings.proofs.TableLemmas.{IsBelow}
-use Rattle.ratings.proofs.Ends.{last_behind}
+use Rattle.rising.specs.Ends.{first, last}
+use Rattle.rising.proofs.Ends.{last-cons, last-append}
 
 -- the rows in front of one, and those behind it
 pub front_of : (R : Row → Row → Type 0) (front : List Row) (r : Row) (back : List Row) → AllPairs R (front ++ r ∷ back) → All (λ x. R x r) front
@@ -30,13 +30,6 @@ back_of R [] r back h = AllPairs-head R r back h
 back_of R (x ∷ front) r back h = back_of R front r back (AllPairs-tail R x (front ++ r ∷ back) h)
 
 -- the last row
-pub last_at_end : (front : List Row) (r : Row) → last (front ++ r ∷ []) ≡ Some r
-last_at_end front r =
-    let n = length-append front (r ∷ []) in
-    let place : length (front ++ r ∷ []) - 1 ≡ length front = omega arith in
-    ap (slice_get (front ++ r ∷ [])) place
-    ∙ slice_get_read (front ++ r ∷ []) (length (front ++ r ∷ [])) (length front) r refl (omega arith) (sym (get_or_at front r [] r (length front) refl))
-
 pub record IsLast (rows : List Row) (P : Row → Type 0) : Type 0 where
   pub front : List Row
   pub row : Row
@@ -47,7 +40,7 @@ pub last_split : (P : Row → Type 0) (rows : List Row) → IsSomeAnd (last rows
 last_split P [] h = absurd h
 last_split P (x ∷ []) h = record { front = []; row = x; whole = refl; holds = h }
 last_split P (x ∷ y ∷ rows) h =
-    let rest = last_split P (y ∷ rows) (subst (λ (o : Option Row). IsSomeAnd o P) (last_behind x y rows) h) in
+    let rest = last_split P (y ∷ rows) (subst (λ (o : Option Row). IsSomeAnd o P) (last-cons x y rows) h) in
     record { front = x ∷ rest.front; row = rest.row; whole = ap (λ l. x ∷ l) rest.whole; holds = rest.holds }
 
 -- a row that is there stands between others
@@ -97,7 +90,7 @@ at_row : (rows front : List Row) (r : Row) (back : List Row) (stage : ℤ) → I
     → rated_between (Some r) (first back) stage ≡ rated rows stage
 at_row rows front r back stage h e low high =
     let rising = subst (AllPairs IsBelow) e h.order.rising in
-    ap (λ o. rated_between o (first back) stage) (sym (last_at_end front r))
+    ap (λ o. rated_between o (first back) stage) (sym (last-append front r []))
     ∙ rated_around rows (front ++ r ∷ []) back stage (e ∙ sym (append_assoc front (r ∷ []) back)) (up_to_row front r back stage rising low) high
 
 over_row : (rows front : List Row) (r : Row) (back : List Row) (stage : ℤ) → IsTable rows → rows ≡ front ++ r ∷ back → stage <ℤ r.0 → All (IsOver stage) (r ∷ back)
@@ -177,7 +170,7 @@ OnOrAbove rows stage = ((discharge : ℤ) × IsRated rows stage (Value discharge
 lifted : (r s : Row) (rows : List Row) (stage : ℤ) → OnOrAbove (s ∷ rows) stage → OnOrAbove (r ∷ s ∷ rows) stage
 lifted r s rows stage (inl (discharge, inl k)) = inl (discharge, inl (Contains-append_right (r ∷ []) (s ∷ rows) (stage, discharge) k))
 lifted r s rows stage (inl (discharge, inr k)) = inl (discharge, inr (behind_row (λ x. x.0) r (s ∷ rows) stage k.0, k.1))
-lifted r s rows stage (inr k) = inr (subst (λ (o : Option Row). IsSomeAnd o (λ r. r.0 <ℤ stage)) (sym (last_behind r s rows)) k)
+lifted r s rows stage (inr k) = inr (subst (λ (o : Option Row). IsSomeAnd o (λ r. r.0 <ℤ stage)) (sym (last-cons r s rows)) k)
 
 here : (r : Row) (rows : List Row) (stage : ℤ) → r.0 ≡ stage → OnOrAbove (r ∷ rows) stage
 here r rows stage h =

@@ -1,15 +1,15 @@
 -- Tables: rows without a fault are in order, and where the first fault of rows lies.
-use Rattle.std.specs.Prelude.{◌≡◌, ◌⊎◌, filter, Bool, true, false, cond, List, [], ◌∷◌, ℕ, suc, ◌-◌, ◌<◌, ◌≤◌, ℤ, ◌<ℤ◌, ◌≤ℤ◌, int_lt, int_le, Option, None, Some, drop, length, slice_get, All, AllPairs}
+use Rattle.std.specs.Prelude.{◌≡◌, Bool, true, false, cond, List, [], ◌∷◌, ℕ, suc, ◌-◌, ◌<◌, ◌≤◌, ℤ, ◌<ℤ◌, ◌≤ℤ◌, int_lt, int_le, Option, None, Some, drop, length, All, AllPairs}
 use Rattle.std.specs.List.Sorted.{IsPartitionedBy}
-use Rattle.std.proofs.Common.{arith, refl, ap, sym, ◌∙◌, get_or, subst, inl, inr, drop-cons}
-use Rattle.std.proofs.lemmas.Option.{slice_get_within, get_or_from_slice_get}
+use Rattle.std.proofs.Common.{arith, refl, ap, sym, ◌∙◌, get_or, inl, inr, drop-cons}
+use Rattle.std.proofs.Math.Nat.{eq-or-lt_of_le}
 use Rattle.std.proofs.lemmas.Int.{ints}
 use Rattle.std.proofs.lemmas.List.{length-drop}
-use Rattle.std.proofs.lemmas.List.Elements.{All-cons, All-weaker, filter_passes}
+use Rattle.std.proofs.lemmas.List.Elements.{All-cons, All-weaker}
 use Rattle.std.proofs.lemmas.List.Kept.{AllPairs-cons}
 use Rattle.ratings.specs.declared.table.TableFault.{TableFault}
 use Rattle.ratings.specs.declared.table.TableFault.TheVariants.{Count, NotRising, Falling}
-use Rattle.ratings.specs.Table.{Row, IsInOrder, IsTable, fault_behind, or_else, is_off_count, order_fault, table_fault, rows_upto, rows_above, rows_short, rows_reaching}
+use Rattle.ratings.specs.Table.{Row, IsInOrder, IsTable, fault_behind, or_else, is_off_count, order_fault, table_fault}
 use Rattle.rising.proofs.Parting.{lt_yes, yes_lt}
 
 -- one row behind another
@@ -82,13 +82,10 @@ order_at i rows d e h k =
     let same : suc (i - 1) ≡ i = omega arith in
     rw same at (order_from (i - 1) rows d e (omega arith))
 
-eq_or_lt : (i j : ℕ) → i ≤ j → (i ≡ j) ⊎ (i < j)
-eq_or_lt i j h = grind arith
-
 -- by a number that never falls, no element has more than one from it on
 never_more : {X : Type 0} (n : X → ℤ) (xs : List X) → AllPairs (λ x y. n x ≤ℤ n y) xs → (i j : ℕ) (d : X) → i ≤ j → j < length xs
     → n (get_or xs i d) ≤ℤ n (get_or xs j d)
-never_more n xs h i j d l m = elim (eq_or_lt i j l) [ inl e ↦ rw e (omega (arith, ints)) | inr e ↦ h i j d e m ]
+never_more n xs h i j d l m = elim (eq-or-lt_of_le l) [ inl e ↦ rw e (omega (arith, ints)) | inr e ↦ h i j d e m ]
 
 -- and it is parted by the test of a binary search
 pub parted_short : {X : Type 0} (n : X → ℤ) (at : ℤ) (xs : List X) → AllPairs (λ x y. n x ≤ℤ n y) xs → IsPartitionedBy (λ x. int_lt (n x) at) xs
@@ -96,33 +93,6 @@ parted_short n at xs h i j d l m e =
     let k = never_more n xs h i j d l m in
     let f = yes_lt (n (get_or xs j d)) at e in
     lt_yes (n (get_or xs i d)) at (omega (arith, ints))
-
--- rows that filters keep
-kept_passes : {X : Type 0} (p : X → Bool) (xs : List X) (k : ℕ) (x : X) → slice_get (filter p xs) k ≡ Some x → p x ≡ true
-kept_passes p xs k x h =
-    let within = slice_get_within (filter p xs) k x h in
-    let same = get_or_from_slice_get (filter p xs) k x x h in
-    subst (λ y. p y ≡ true) same (filter_passes p xs k x within)
-
-pub row_upto : (stage : ℤ) (rows part : List Row) (k : ℕ) (r : Row) → part ≡ rows_upto stage rows → Some r ≡ slice_get part k → r.0 ≤ℤ stage
-row_upto stage rows part k r e h =
-    let p = kept_passes (λ (r : Row). int_le r.0 stage) rows k r (ap (λ xs. slice_get xs k) (sym e) ∙ sym h) in
-    omega (arith, ints)
-
-pub row_above : (stage : ℤ) (rows part : List Row) (k : ℕ) (r : Row) → part ≡ rows_above stage rows → Some r ≡ slice_get part k → stage <ℤ r.0
-row_above stage rows part k r e h =
-    let p = kept_passes (λ (r : Row). int_lt stage r.0) rows k r (ap (λ xs. slice_get xs k) (sym e) ∙ sym h) in
-    omega (arith, ints)
-
-pub row_short : (discharge : ℤ) (rows part : List Row) (k : ℕ) (r : Row) → part ≡ rows_short discharge rows → Some r ≡ slice_get part k → r.1 <ℤ discharge
-row_short discharge rows part k r e h =
-    let p = kept_passes (λ (r : Row). int_lt r.1 discharge) rows k r (ap (λ xs. slice_get xs k) (sym e) ∙ sym h) in
-    omega (arith, ints)
-
-pub row_reaching : (discharge : ℤ) (rows part : List Row) (k : ℕ) (r : Row) → part ≡ rows_reaching discharge rows → Some r ≡ slice_get part k → discharge ≤ℤ r.1
-row_reaching discharge rows part k r e h =
-    let p = kept_passes (λ (r : Row). int_le discharge r.1) rows k r (ap (λ xs. slice_get xs k) (sym e) ∙ sym h) in
-    omega (arith, ints)
 
 one_left : (k : ℕ) (rows : List Row) → length rows ≤ 1 → order_fault k rows ≡ None
 one_left k [] h = refl

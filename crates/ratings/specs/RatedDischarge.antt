@@ -3,7 +3,8 @@ use Rattle.std.specs.Prelude.{◌≡◌, ◌≢◌, ◌⊎◌, List, ◌∷◌, 
 use Rattle.fixed_units.specs.Lines.{line_at}
 use Rattle.ratings.specs.declared.table.Rated.{Rated}
 use Rattle.ratings.specs.declared.table.Rated.TheVariants.{Value, Below, Above}
-use Rattle.ratings.specs.Table.{Row, first, last, turned}
+use Rattle.rising.specs.Ends.{first, last}
+use Rattle.ratings.specs.Table.{Row, turned}
 
 -- two rows of which one follows the other, and a number between those of their stages or discharges
 pub record IsBetween (number : Row → ℤ) (rows : List Row) (at : ℤ) : Type 0 where

@@ -1,6 +1,7 @@
 -- An expanded rating: a table of stages and discharges that is read by straight lines.
-use Rattle.std.specs.Prelude.{◌≤◌, ◌-◌, ℕ, suc, Bool, ◌||◌, nat_lt, if◌then◌else◌, List, [], ◌∷◌, length, slice_get, Option, None, Some, ℤ, int_lt, int_le, ◌≤ℤ◌, AllPairs}
+use Rattle.std.specs.Prelude.{◌≤◌, ℕ, suc, Bool, ◌||◌, nat_lt, if◌then◌else◌, List, [], ◌∷◌, length, Option, None, Some, ℤ, int_lt, int_le, ◌≤ℤ◌, AllPairs}
 use Rattle.std.specs.Ordering.{int_eq}
+use Rattle.rising.specs.Ends.{first, last}
 use Rattle.rising.specs.Lists.{IsRising, before, from, up_to, after}
 use Rattle.fixed_units.specs.Lines.{line_at}
 use Rattle.ratings.specs.declared.table.Rated.{Rated}
@@ -30,13 +31,6 @@ pub record IsTable (rows : List Row) : Type 0 where
   pub most : length rows ≤ MOST_ROWS
   pub least : LEAST_ROWS ≤ length rows
   pub order : IsInOrder rows
-
--- the first and the last row of a list
-abbrev pub first : List Row → Option Row
-first rows = slice_get rows 0
-
-abbrev pub last : List Row → Option Row
-last rows = slice_get rows (length rows - 1)
 
 -- the rows up to a stage, and those above it
 abbrev pub rows_upto : ℤ → List Row → List Row

@@ -6,7 +6,8 @@ ghost use Rattle.ratings.specs.RatedDischarge.{IsRated, IsStageOf};
 ghost use Rattle.ratings.specs.Table as tables;
 ghost use Rattle.ratings.specs.Table.{IsTable, rows_upto, rows_above, rows_short, rows_reaching, fault_behind, order_fault, table_fault};
 
-use fixed_units::{Micro, line_at};
+use fixed_units::Micro;
+use fixed_units::points::{count_to, line_between};
 use std::alloc::{AllocError, Global};
 use std::marker::Model;
 use thiserror::Error;
@@ -130,7 +131,7 @@ fn find_discharge(rows: &[(Micro, Micro)], stage: Micro) -> Rated
     requires { IsTable rows.now }
     ensures { result ≡ tables.rated rows.now stage }
 {
-    let (reached, above) = rows.split_at(count_upto(rows, stage));
+    let (reached, above) = rows.split_at(count_to(rows, stage));
     let Some(row) = reached.last() else {
         return Rated::Below;
     };
@@ -138,7 +139,7 @@ fn find_discharge(rows: &[(Micro, Micro)], stage: Micro) -> Rated
         return Rated::Value(row.1);
     }
     match above.first() {
-        Some(next) => Rated::Value(value_on_line(*row, *next, stage)),
+        Some(next) => Rated::Value(line_between(*row, *next, stage)),
         None => Rated::Above,
     }
 }
@@ -154,17 +155,7 @@ fn find_stage(rows: &[(Micro, Micro)], discharge: Micro) -> Option<Micro>
         return Some(next.0);
     }
     let row = short.last()?;
-    Some(value_on_line(turned(*row), turned(*next), discharge))
-}
-
-/// How many rows stand at a stage or below it.
-fn count_upto(rows: &[(Micro, Micro)], stage: Micro) -> usize
-    requires { AllPairs (λ r s. r.0 <ℤ s.0) rows.now }
-    ensures within { result ≤ length rows.now }
-    ensures front { take result rows.now ≡ rows_upto stage rows.now }
-    ensures back { drop result rows.now ≡ rows_above stage rows.now }
-{
-    rows.partition_point(|row| row.0 <= stage)
+    Some(line_between(turned(*row), turned(*next), discharge))
 }
 
 /// How many rows have less than a discharge.
@@ -175,16 +166,6 @@ fn count_short(rows: &[(Micro, Micro)], discharge: Micro) -> usize
     ensures back { drop result rows.now ≡ rows_reaching discharge rows.now }
 {
     rows.partition_point(|row| row.1 < discharge)
-}
-
-/// What the straight line from one point to another has at `x`, rounded once.
-fn value_on_line(from: (Micro, Micro), to: (Micro, Micro), x: Micro) -> Micro
-    requires rising { from.0 <ℤ to.0 }
-    requires first { from.0 ≤ℤ x }
-    requires last { x ≤ℤ to.0 }
-    ensures { result ≡ line_at from to x }
-{
-    line_at((from.0.get(), from.1), (to.0.get(), to.1), x.get())
 }
 
 /// A row the other way round.

@@ -1,11 +1,12 @@
 -- Whether a reading that is put alters a window, by what its neighbours in the list say.
 use Rattle.std.specs.Prelude.{◌≡◌, ◌≢◌, true, false, List, ℤ, ◌<ℤ◌, ◌≤ℤ◌, ◌-ℤ◌, int_le, find, reverse, Option, Some, All}
-use Rattle.std.proofs.Common.{ap, sym, ◌∙◌}
+use Rattle.std.proofs.Common.{ap, sym, ◌∙◌, subst}
+use Rattle.rising.specs.Lists.{Kept}
 use Rattle.fixed_units.specs.declared.readings.Reading.{Reading}
 use Rattle.readings.specs.Readings.{IsRising, instant_of, before_instant, after_instant, at_instant, put, is_used}
 use Rattle.readings.specs.Window.{window, is_found_in_day}
 use Rattle.rising.proofs.Parting.{yes_le}
-use Rattle.rising.proofs.Splitting.{put_same}
+use Rattle.rising.proofs.Splitting.{put_same, not_there}
 use Rattle.readings.proofs.Instants.{no_le}
 use Rattle.readings.proofs.FarReadings.{early_far_put, late_far_put}
 use Rattle.readings.proofs.HiddenReadings.{early_hidden_put, late_hidden_put}
@@ -23,6 +24,33 @@ pub record IsLate (a b gap : ℤ) (r : Reading) (rs : List Reading) (found : Opt
   pub ordered : a ≤ℤ b
   pub late : b ≤ℤ r.at
   pub last : found ≡ find is_used (reverse (before_instant r.at rs))
+
+-- the list as it is kept and as it is seen, and a reading that is not the one at its instant
+pub others_in : (kept seen : Kept Reading) (r : Reading) (here : Option Reading) → kept ≡ seen → IsRising kept.list → here ≡ at_instant r.at kept.list
+    → here ≢ Some r → All (λ s. s ≢ r) seen.list
+others_in kept seen r here same rising found other =
+    not_there instant_of r seen.list (subst (λ (k : Kept Reading). IsRising k.list) same rising)
+    (λ e. other (found ∙ ap (λ (k : Kept Reading). at_instant r.at k.list) same ∙ e))
+
+pub is_early : (kept seen : Kept Reading) (a b gap : ℤ) (r : Reading) (later : List Reading) (found : Option Reading) → kept ≡ seen → IsRising kept.list
+    → later ≡ after_instant r.at kept.list → found ≡ find is_used later → a ≤ℤ b → r.at <ℤ a → IsEarly a b gap r seen.list found
+is_early kept seen a b gap r later found same rising part next ordered early =
+    record {
+      rising = subst (λ (k : Kept Reading). IsRising k.list) same rising;
+      ordered = ordered;
+      early = early;
+      next = next ∙ ap (find is_used) (part ∙ ap (λ (k : Kept Reading). after_instant r.at k.list) same);
+    }
+
+pub is_late : (kept seen : Kept Reading) (a b gap : ℤ) (r : Reading) (earlier : List Reading) (found : Option Reading) → kept ≡ seen → IsRising kept.list
+    → earlier ≡ before_instant r.at kept.list → found ≡ find is_used (reverse earlier) → a ≤ℤ b → b ≤ℤ r.at → IsLate a b gap r seen.list found
+is_late kept seen a b gap r earlier found same rising part last ordered late =
+    record {
+      rising = subst (λ (k : Kept Reading). IsRising k.list) same rising;
+      ordered = ordered;
+      late = late;
+      last = last ∙ ap (λ l. find is_used (reverse l)) (part ∙ ap (λ (k : Kept Reading). before_instant r.at k.list) same);
+    }
 
 pub early_alters : (a b gap : ℤ) (r : Reading) (rs : List Reading) (found : Option Reading) → IsEarly a b gap r rs found
     → All (λ s. s ≢ r) rs → is_used r ≡ true → is_found_in_day a b found ≡ true → int_le (a -ℤ r.at) gap ≡ true

@@ -10,7 +10,8 @@ use Rattle.readings.specs.Readings.{IsRising, instant_of, before_instant, after_
 use Rattle.rising.proofs.Parting.{IsAfter, after_is_after}
 use Rattle.rising.proofs.Placing.{IsBefore, IsFrom, before_is_before}
 use Rattle.rising.proofs.Splitting.{IsAt, IsAbout, whole, about}
-use Rattle.readings.proofs.Selecting.{All-reverse, find_kept}
+use Rattle.rising.proofs.Selecting.{All-reverse}
+use Rattle.readings.proofs.Selecting.{find_kept}
 use Rattle.readings.specs.Window.{inner, lead, follow, neighbour_before, neighbour_after, window}
 use Rattle.readings.proofs.WindowParts.{is_early, is_late, none_inner_before, none_inner_from, none_early, none_late, inner_parts, early_parts, late_parts, far_lead, far_follow, first_leads, first_follows}
 

@@ -12,9 +12,9 @@ use Rattle.readings.specs.Readings.{IsRising, instant_of, before_instant, after_
 use Rattle.rising.proofs.Parting.{IsAfter, lt_yes, le_yes}
 use Rattle.rising.proofs.Placing.{IsBefore, IsFrom, filter_rises}
 use Rattle.rising.proofs.Splitting.{IsAt, IsAbout, whole, about, rest_rises, rest_is_later}
-use Rattle.rising.proofs.Selecting.{filter_none}
+use Rattle.rising.proofs.Selecting.{none_found, All-reverse, filter_none}
 use Rattle.readings.proofs.Instants.{no_lt}
-use Rattle.readings.proofs.Selecting.{none_found, reverse-cons, All-reverse, find_kept, find_passes}
+use Rattle.readings.proofs.Selecting.{reverse-cons, find_kept, find_passes}
 use Rattle.readings.specs.Window.{is_of_day, inner, lead, follow, window, is_found_in_day}
 use Rattle.readings.proofs.WindowParts.{is_inner, is_early, is_late, inner_no_before, inner_no_from, none_inner_before, none_inner_from, inner_parts, early_parts, late_parts, no_inner}
 use Rattle.readings.proofs.FarReadings.{about_one, early_apart, late_apart}

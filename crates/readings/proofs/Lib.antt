@@ -1,4 +1,5 @@
 pub mod AlteringLemmas
+pub mod EqualityLemmas
 pub mod FarReadings
 pub mod HiddenReadings
 pub mod Instants

@@ -3,22 +3,13 @@ use Rattle.std.specs.Prelude.{◌≡◌, Bool, true, false, cond, ◌&&◌, List
 use Rattle.std.proofs.Common.{refl, ap, sym, ◌∙◌}
 use Rattle.std.proofs.lemmas.Grind.{reverse_onto}
 use Rattle.std.proofs.lemmas.List.{append-nil}
-use Rattle.std.proofs.lemmas.List.Elements.{All-head, All-tail, All-cons, All-nil, All-append, filter-append}
+use Rattle.std.proofs.lemmas.List.Elements.{All-head, All-tail, All-cons, All-nil, filter-append}
 
 pub find_none : {X : Type 0} (p : X → Bool) (xs : List X) → All (λ x. p x ≡ false) xs → find p xs ≡ None
 find_none p [] h = refl
 find_none p (x ∷ xs) h =
     let e = All-head (λ x. p x ≡ false) x xs h in
     rw e (find_none p xs (All-tail (λ x. p x ≡ false) x xs h))
-
-none_found_step : {X : Type 0} (p : X → Bool) (x : X) (xs : List X) (b : Bool) → p x ≡ b → cond b (Some x) (find p xs) ≡ None
-    → (find p xs ≡ None → All (λ x. p x ≡ false) xs) → All (λ x. p x ≡ false) (x ∷ xs)
-none_found_step p x xs true e h k = absurd (cc)
-none_found_step p x xs false e h k = All-cons (λ x. p x ≡ false) x xs e (k h)
-
-pub none_found : {X : Type 0} (p : X → Bool) (xs : List X) → find p xs ≡ None → All (λ x. p x ≡ false) xs
-none_found p [] h = All-nil (λ x. p x ≡ false)
-none_found p (x ∷ xs) h = none_found_step p x xs (p x) refl h (none_found p xs)
 
 both_step : {X : Type 0} (p : X → Bool) (x : X) (b c : Bool) → p x ≡ b → (o : Option X) (zs : List X) → o ≡ find p zs
     → cond (b && c) (Some x) o ≡ find p (cond c (x ∷ zs) zs)
@@ -46,11 +37,6 @@ reverse-filter p (x ∷ xs) =
     let e = reverse-cons x xs in
     let f = filter-append p (reverse xs) (x ∷ []) in
     rw (e, f) (reverse_step x (p x) (filter p xs) (filter p (reverse xs)) (reverse-filter p xs))
-
-pub All-reverse : {X : Type 0} (P : X → Type 0) (xs : List X) → All P xs → All P (reverse xs)
-All-reverse P [] h = h
-All-reverse P (x ∷ xs) h =
-    rw reverse-cons (All-append P (reverse xs) (x ∷ []) (All-reverse P xs (All-tail P x xs h)) (All-cons P x [] (All-head P x xs h) (All-nil P)))
 
 kept_step : {X : Type 0} (P : X → Type 0) (b : Bool) (x : X) (o : Option X) → P x → MatchOption o (Unit {0}) P
     → MatchOption (cond b (Some x) o) (Unit {0}) P

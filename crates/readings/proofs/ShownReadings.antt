@@ -7,8 +7,8 @@ use Rattle.std.proofs.lemmas.List.Kept.{AllPairs-filter}
 use Rattle.fixed_units.specs.declared.readings.Reading.{Reading}
 use Rattle.readings.specs.Readings.{IsRising, before_instant, after_instant, put, is_used}
 use Rattle.rising.proofs.Parting.{lt_yes, le_yes, le_no, yes_lt}
-use Rattle.rising.proofs.Selecting.{All-front, All-back}
-use Rattle.readings.proofs.Selecting.{find_none, All-reverse, none_kept}
+use Rattle.rising.proofs.Selecting.{All-reverse, All-front, All-back}
+use Rattle.readings.proofs.Selecting.{find_none, none_kept}
 use Rattle.readings.specs.Window.{is_of_day, inner, lead, follow, neighbour_before, neighbour_after, with_neighbours, window, is_found_in_day}
 use Rattle.readings.proofs.WindowLemmas.{window_keeps}
 use Rattle.readings.proofs.WindowParts.{is_inner, is_early, is_late, early_no, late_no, inner_parts, early_parts, late_parts, both_true}

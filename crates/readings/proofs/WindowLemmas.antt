@@ -9,8 +9,8 @@ use Rattle.readings.specs.Readings.{IsRising, instant_of, put, is_used}
 use Rattle.rising.proofs.Placing as lists
 use Rattle.rising.proofs.Parting.{IsAfter, le_no, yes_lt, yes_le}
 use Rattle.rising.proofs.Placing.{IsBefore, IsFrom, before_is_before}
-use Rattle.rising.proofs.Selecting.{AllPairs-append}
-use Rattle.readings.proofs.Selecting.{All-reverse, find_kept, find_passes}
+use Rattle.rising.proofs.Selecting.{All-reverse, AllPairs-append}
+use Rattle.readings.proofs.Selecting.{find_kept, find_passes}
 use Rattle.readings.specs.Window.{is_of_day, inner, neighbour_before, neighbour_after, with_neighbours, window}
 use Rattle.readings.proofs.WindowParts.{is_inner, is_early, is_late, both_true, lead_keeps, follow_keeps, option_kept, with_neighbours_keeps, no_inner}
 use Rattle.readings.proofs.FarReadings.{early_far_put, late_far_put}

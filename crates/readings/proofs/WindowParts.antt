@@ -9,8 +9,8 @@ use Rattle.fixed_units.specs.declared.readings.Reading.{Reading}
 use Rattle.readings.specs.Readings.{instant_of, before_instant, from_instant, is_used}
 use Rattle.rising.proofs.Parting.{lt_no, le_no}
 use Rattle.rising.proofs.Placing.{IsBefore, IsFrom}
-use Rattle.rising.proofs.Selecting.{filter_none, filter_both}
-use Rattle.readings.proofs.Selecting.{find_both, find_none, reverse-filter, All-reverse}
+use Rattle.rising.proofs.Selecting.{All-reverse, filter_none, filter_both}
+use Rattle.readings.proofs.Selecting.{find_both, find_none, reverse-filter}
 use Rattle.readings.specs.Window.{is_of_day, of_day, inner, near, lead, follow, neighbour_before, neighbour_after, with_neighbours, window}
 
 -- the tests of the window

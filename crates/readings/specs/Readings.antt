@@ -1,5 +1,6 @@
 -- A station's readings: a list that rises by instant.
-use Rattle.std.specs.Prelude.{◌≡◌, Bool, true, false, List, reverse, slice_get, Option, ℤ}
+use Rattle.std.specs.Prelude.{◌≡◌, Bool, true, false, List, [], ◌∷◌, Option, ℤ}
+use Rattle.rising.specs.Ends.{first, last}
 use Rattle.rising.specs.Lists as lists
 use Rattle.readings.specs.declared.lists.Place.{Place}
 use Rattle.fixed_units.specs.declared.readings.Reading.{Reading}
@@ -32,6 +33,11 @@ at_instant at readings = lists.at instant_of at readings
 abbrev pub put : Reading → List Reading → List Reading
 put reading readings = lists.put instant_of reading readings
 
+-- the readings with each of these put, one after another
+abbrev pub put_all : List Reading → List Reading → List Reading
+put_all [] readings = readings
+put_all (r ∷ rs) readings = put_all rs (put r readings)
+
 -- a reading is used unless it is erroneous
 abbrev pub is_used_flag : Flag → Bool
 is_used_flag Usable = true
@@ -40,13 +46,6 @@ is_used_flag Affected = true
 
 abbrev pub is_used : Reading → Bool
 is_used reading = is_used_flag reading.flag
-
--- the first reading of a list, and the last
-abbrev pub first : List Reading → Option Reading
-first readings = slice_get readings 0
-
-abbrev pub last : List Reading → Option Reading
-last readings = first (reverse readings)
 
 -- the neighbours of an instant
 pub record IsPlace (readings : List Reading) (at : ℤ) (place : Place) : Type 0 where

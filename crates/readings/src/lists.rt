@@ -185,7 +185,7 @@ fn first_used(list: &[Reading]) -> Option<Reading>
 }
 
 /// How many readings of a list are used.
-fn count_used(list: &[Reading]) -> usize
+pub(crate) fn count_used(list: &[Reading]) -> usize
     ensures { result ≡ length (filter is_used list.now) }
 {
     list.iter().filter(|r| is_usable(r)).count()
@@ -249,7 +249,7 @@ fn is_found_in_day(found: Option<Reading>, a: Second, b: Second) -> bool
 }
 
 /// Whether a reading may be used: it is not erroneous.
-fn is_usable(reading: &Reading) -> bool
+pub(crate) fn is_usable(reading: &Reading) -> bool
     ensures { result ≡ is_used reading.now }
 {
     reading.flag != Flag::Erroneous

@@ -8,5 +8,5 @@ pub mod lists;
 pub mod places;
 
 pub use keys::Keyed;
-pub use lists::{NoEntry, Parts, RisingList};
-pub use places::{count_before, count_to};
+pub use lists::{NoEntry, Parts, RisingList, put_in};
+pub use places::{count_before, count_to, place_in};

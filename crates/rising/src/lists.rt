@@ -158,8 +158,8 @@ impl<T: Keyed + Drop> RisingList<T> {
     }
 }
 
-/// Puts an element among those of a rising list that has room for it.
-fn put_in<T: Keyed + Drop>(list: &mut Vec<T>, element: T)
+/// Puts an element among those of a rising list that has room for it, in place of the one at its key.
+pub fn put_in<T: Keyed + Drop>(list: &mut Vec<T>, element: T)
     requires rising { IsRising T.place list.old.items }
     requires room { vec_len list.old < vec_capacity list.old }
     ensures items { list.new.items ≡ put T.place element list.old.items }

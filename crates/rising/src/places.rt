@@ -1,7 +1,7 @@
 //! Where a key belongs in a slice that rises: a binary search.
 
-ghost use Rattle.std.specs.Prelude.{◌≡◌, true, false, None, ◌+◌, ◌<◌, ◌≤◌, length, take, drop, slice_get, int_le};
-ghost use Rattle.rising.specs.Lists.{IsRising, before, from, up_to, after, at};
+ghost use Rattle.std.specs.Prelude.{◌≡◌, true, false, None, ◌+◌, ◌<◌, ◌≤◌, length, take, drop, slice_get, slice_set, int_le, IfSome, IfNone};
+ghost use Rattle.rising.specs.Lists.{IsRising, before, from, up_to, after, at, put};
 
 use crate::keys::Keyed;
 
@@ -44,4 +44,20 @@ pub(crate) fn stands_in<T: Keyed>(list: &[T], place: usize, key: T::Key) -> bool
     ensures elsewhere { result ≡ false → drop place list.now ≡ after T.place (T.number key) list.now }
 {
     place < list.len() && list[place].is_at(key)
+}
+
+/// The place of the element at a key, if there is one.
+pub fn place_in<T: Keyed>(list: &[T], key: T::Key) -> Option<usize>
+    requires { IsRising T.place list.now }
+    ensures found { IfSome result (λ place. at T.place (T.number key) list.now ≡ slice_get list.now place) }
+    ensures within { IfSome result (λ place. place < length list.now) }
+    ensures written { IfSome result (λ place. (element : T) → T.place element ≡ T.number key → slice_set list.now place element ≡ put T.place element list.now) }
+    ensures none { IfNone result (at T.place (T.number key) list.now ≡ None) }
+{
+    let place = count_before(list, key);
+    if stands_in(list, place, key) {
+        Some(place)
+    } else {
+        None
+    }
 }

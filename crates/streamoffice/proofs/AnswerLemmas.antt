@@ -2,8 +2,8 @@
 use Rattle.std.proofs.Common.{◌≡◌, ◌≢◌, ◌⊎◌, ℕ, ◌+◌, Bool, true, false, List, length, Option, Some, None, is_some, Result, Ok, Err, OnOk, OnErr, is_err, refl, sym, ◌∙◌, ap, subst, inl, inr, ℤ}
 use Rattle.devices.specs.declared.disks.Disk.{Ghosts}
 use Rattle.devices.specs.Faults.{Rose}
-use Rattle.records.specs.declared.edits.What.{What}
-use Rattle.records.specs.declared.edits.What.TheVariants.{PutReadings}
+use Rattle.first_records.specs.declared.edits.What.{What}
+use Rattle.first_records.specs.declared.edits.What.TheVariants.{PutReadings}
 use Rattle.http_api.specs.Replies.{edit_text, journal_full_text}
 use Rattle.http_api.specs.declared.asks.Ask.{Ask}
 use Rattle.http_api.specs.declared.asks.Ask.TheVariants.{Put}

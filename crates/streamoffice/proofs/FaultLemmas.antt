@@ -2,8 +2,8 @@
 use Rattle.std.proofs.Common.{◌≡◌, ◌≢◌, ℕ, ◌+◌, Bool, true, false, List, [], ◌∷◌, ◌++◌, length, reverse, get_or, Option, Some, None, refl, sym, ◌∙◌, ap, inl, inr, arith}
 use Rattle.std.specs.Fmt.{digits}
 use Rattle.std.proofs.lemmas.List.{reverse-append}
-use Rattle.records.specs.declared.edits.What.{What}
-use Rattle.records.specs.declared.edits.What.TheVariants.{PutReadings}
+use Rattle.first_records.specs.declared.edits.What.{What}
+use Rattle.first_records.specs.declared.edits.What.TheVariants.{PutReadings}
 use Rattle.http_api.specs.Replies.{edit_text, journal_full_text, no_route_text}
 use Rattle.http_api.specs.declared.asks.Ask.{Ask}
 use Rattle.http_api.specs.declared.asks.Ask.TheVariants.{Put, Turn, DayOf}

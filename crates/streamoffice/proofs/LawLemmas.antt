@@ -1,8 +1,8 @@
 -- The proofs of the laws.
 use Rattle.std.proofs.Common.{◌≡◌, ◌≢◌, ℕ, ◌+◌, ◌≤◌, Bool, true, false, List, [], ◌∷◌, ◌++◌, Option, Some, None, refl, sym, ◌∙◌, ap, subst, inl, inr, arith}
 use Rattle.std.specs.List.{concat}
-use Rattle.records.specs.declared.edits.What.{What}
-use Rattle.records.specs.declared.edits.What.TheVariants.{PutReadings}
+use Rattle.first_records.specs.declared.edits.What.{What}
+use Rattle.first_records.specs.declared.edits.What.TheVariants.{PutReadings}
 use Rattle.office.specs.History.{Event, doubt, faulted_count}
 use Rattle.office.specs.JournalOfEdits.{is_full}
 use Rattle.http_api.specs.declared.asks.Ask.{Ask}

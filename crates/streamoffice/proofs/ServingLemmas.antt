@@ -6,7 +6,7 @@ use Rattle.devices.specs.Cabinets.{Place, Free, Kept, Out, is_kept, OthersStay, 
 use Rattle.devices.specs.Disks.{IsUnchanged}
 use Rattle.devices.specs.Faults.{Rose}
 use Rattle.devices.specs.declared.cabinets.Opened.TheVariants as opens
-use Rattle.records.specs.declared.edits.What.{What}
+use Rattle.first_records.specs.declared.edits.What.{What}
 use Rattle.journal.proofs.Moments.{started, joined}
 use Rattle.journal.specs.JournalBytes.{HasHeader, IsDamagedAt}
 use Rattle.journal.specs.Moments.{LeavesOnly, SyncsFirst, IsContent}

@@ -1,7 +1,7 @@
 -- Laws of what is replied: it is determined by what is read, but for want of memory and faults of the journal.
 use Rattle.std.specs.Prelude.{◌≡◌, ◌≢◌, ◌⊎◌, ℕ, Bool, true, List}
 use Rattle.std.specs.List.{concat, AllByRecursion}
-use Rattle.records.specs.declared.edits.What.{What}
+use Rattle.first_records.specs.declared.edits.What.{What}
 use Rattle.office.specs.History.{Event, faulted_count, reopen}
 use Rattle.wire.specs.Messages.{Request, AreRequests, IsMalformed, is_blank}
 use Rattle.wire.specs.declared.replies.TheConstants.{NO_MEMORY_REPLY}

@@ -1,7 +1,7 @@
 -- The office of one thread: what it replies to a request, and what has happened then.
 use Rattle.std.specs.Prelude.{◌≡◌, ℕ, ◌+◌, Bool, true, false, ◌⊎◌, List, [], ◌∷◌, ◌++◌, length, Option, Some, None, option_to_list}
-use Rattle.records.specs.declared.edits.What.{What}
-use Rattle.records.specs.declared.edits.What.TheVariants.{PutReadings}
+use Rattle.first_records.specs.declared.edits.What.{What}
+use Rattle.first_records.specs.declared.edits.What.TheVariants.{PutReadings}
 use Rattle.office.specs.History.{Event, accepted, doubt, pending_days, next_day, after_edit, after_fault, after_turn, DayAnswer, Pending, Computed, answer_at}
 use Rattle.office.specs.JournalOfEdits.{is_full, IsFull}
 use Rattle.http_api.specs.Asks.{ask_of}

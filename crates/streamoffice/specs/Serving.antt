@@ -3,7 +3,7 @@ use Rattle.std.specs.Prelude.{◌≡◌, ◌⊎◌, ℕ, List, Option, IfSome, I
 use Rattle.devices.specs.declared.disks.Disk.{Ghosts}
 use Rattle.devices.specs.Cabinets.{Place, OthersStay}
 use Rattle.devices.specs.Faults.{Rose}
-use Rattle.records.specs.declared.edits.What.{What}
+use Rattle.first_records.specs.declared.edits.What.{What}
 use Rattle.journal.specs.JournalBytes.{HasHeader, IsDamagedAt}
 use Rattle.journal.specs.Moments.{SyncsFirst}
 use Rattle.office.specs.History.{Event, accepted, doubt, reopen, faulted_count}

@@ -15,7 +15,7 @@ use devices::Disk;
 use fixed_units::{Day, Micro, NoMemory, Second, Text};
 use http_api::{Ask, Reply, write_reply};
 use office::{Answer, Office, Refusal};
-use records::What;
+use first_records::What;
 use std::alloc::Global;
 use wire::NO_MEMORY_REPLY;
 

@@ -1,5 +1,5 @@
 -- What is summed and the pairs that are left make up the whole.
-use Rattle.std.proofs.Common.{◌≡◌, ◌+◌, ◌*◌, ◌^◌, pos, neg_ℤ, ◌≤ℤ◌, ◌+ℤ◌, drop}
+use Rattle.std.proofs.Common.{◌≡◌, ◌+◌, ◌*◌, pos, neg_ℤ, ◌≤ℤ◌, ◌+ℤ◌, drop}
 use Rattle.std.specs.Prelude.{sum_by}
 use Rattle.fixed_units.specs.Quantities.{most_stage}
 use Rattle.daily_values.specs.DayValue.{seconds_between, twice_areas}

@@ -1,5 +1,5 @@
 -- What is summed and what is left make up the whole; what is summed keeps to the bounds of a mean that is a stage.
-use Rattle.std.proofs.Common.{◌≡◌, ◌+◌, ◌*◌, ◌^◌, pos, neg_ℤ, ◌≤ℤ◌, ◌+ℤ◌, length}
+use Rattle.std.proofs.Common.{◌≡◌, ◌+◌, ◌*◌, pos, neg_ℤ, ◌≤ℤ◌, ◌+ℤ◌, length}
 use Rattle.std.specs.Prelude.{All, sum_by}
 use Rattle.fixed_units.specs.Quantities.{IsStage, most_stage}
 use Rattle.readings.specs.Readings.{IsRising}

@@ -6,7 +6,7 @@ use Rattle.fixed_units.specs.Quantities.{IsDay}
 use Rattle.fixed_units.specs.declared.readings.Reading.{Reading}
 use Rattle.office.specs.Changes.{changes, same_inputs}
 use Rattle.office.specs.Inputs.{inputs_of_day}
-use Rattle.records.specs.declared.edits.What.{What}
+use Rattle.first_records.specs.declared.edits.What.{What}
 use Rattle.office.proofs.FromScratchLemmas.{found_first, found_next_changed, found_next_same, found_last}
 use Rattle.office.proofs.from_scratch.changed_days.Goals as goal
 use Rattle.office.proofs.from_scratch.changed_days.Goals.{then-branch+in_ok-push, else-branch}

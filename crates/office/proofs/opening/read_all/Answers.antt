@@ -1,7 +1,7 @@
 -- Record after record, until the closed gate.
 use Rattle.std.specs.Prelude.{◌++◌, ◌∷◌, [], Ok, Bool}
 use Rattle.std.proofs.Common.{arith, ap}
-use Rattle.records.specs.declared.edits.What.{What}
+use Rattle.first_records.specs.declared.edits.What.{What}
 use Rattle.office.specs.Replay.{HasReadEdits, HasAllEdits}
 use Rattle.office.proofs.ReplayLemmas.{gate_moves, reads_on}
 use Rattle.office.proofs.opening.read_all.Goals as goal

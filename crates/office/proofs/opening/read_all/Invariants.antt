@@ -1,6 +1,6 @@
 -- The edits so far are accepted, they are few, and nothing was written; the gate moves on.
 use Rattle.std.specs.Prelude.{List, ◌-◌, ◌^◌, ◌≤◌}
-use Rattle.records.specs.declared.edits.What.{What}
+use Rattle.first_records.specs.declared.edits.What.{What}
 use Rattle.journal.specs.Moments.{OnlyReads}
 use Rattle.office.specs.Replay.{HasReadEdits}
 use Rattle.office.proofs.opening.read_all.Given as goal

@@ -1,7 +1,7 @@
 use Rattle.std.proofs.Common.{ℕ, ◌+◌, false, None, Err, refl, sym, ◌∙◌, ap}
 use Rattle.http_api.specs.Replies.{edit_text}
 use Rattle.office.specs.Stands.{Stands}
-use Rattle.records.specs.declared.edits.What.TheVariants.{PutReadings}
+use Rattle.first_records.specs.declared.edits.What.TheVariants.{PutReadings}
 use Rattle.wire.specs.ReplyHead.{reply_bytes}
 use Rattle.wire.specs.declared.replies.Kind.TheVariants.{Json}
 use Rattle.streamoffice.specs.Passing.{Passes}

@@ -1,7 +1,7 @@
 -- The record of the next number, its bytes and the closed gate.
 use Rattle.std.specs.Prelude.{◌+◌, ◌++◌, ◌∷◌, [], List, ℕ}
 use Rattle.std.proofs.Common.{ap, subst, ◌∙◌}
-use Rattle.records.specs.FirstPath.{IsFirstPath}
+use Rattle.first_records.specs.FirstPath.{IsFirstPath}
 use Rattle.office.proofs.offices.Office.encoded.Goals as goal
 
 pub returns : goal.returns

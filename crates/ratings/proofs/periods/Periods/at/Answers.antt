@@ -1,15 +1,16 @@
 -- The period in force is the last that has begun, if it has not ended.
-use Rattle.std.proofs.Common.{◌≡◌, refl, ◌∙◌, ap, sym, ◌-◌, length, List, Option, Some, None, true, false, ℤ}
-use Rattle.std.specs.Prelude.{slice_get, filter, int_le}
+use Rattle.std.proofs.Common.{◌≡◌, refl, ◌∙◌, ap, sym, List, Option, Some, None, true, false, ℤ}
+use Rattle.std.specs.Prelude.{filter, int_le}
 use Rattle.ratings.specs.Spans.{Span}
 use Rattle.rising.specs.Lists.{Kept}
 use Rattle.ratings.specs.Periods.{AreApart, in_force, is_before_end}
-use Rattle.ratings.proofs.PeriodLemmas.{in_force_last, held, last}
+use Rattle.rising.specs.Ends.{last}
+use Rattle.ratings.proofs.PeriodLemmas.{in_force_last, held}
 use Rattle.ratings.proofs.periods.Periods.at.Goals as goal
 
 -- what is in force, by the part of the list that has begun
 by_front : (at : ℤ) (kept list front : List Span) (o : Option Span) → list ≡ kept → AreApart kept → front ≡ filter (λ (p : Span). int_le p.from at) list
-    → o ≡ slice_get front (length front - 1) → held at o ≡ in_force at kept
+    → o ≡ last front → held at o ≡ in_force at kept
 by_front at kept list front o same apart e h =
     ap (held at) (h ∙ ap last (e ∙ ap (filter (λ (p : Span). int_le p.from at)) same)) ∙ sym (in_force_last at kept apart)
 

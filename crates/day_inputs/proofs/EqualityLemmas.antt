@@ -1,0 +1,62 @@
+-- The test of equality decides it. A further member is a line in each of the first three.
+use Rattle.std.specs.Prelude.{◌≡◌, Bool}
+use Rattle.std.specs.Bool.{Decides}
+use Rattle.std.proofs.Common.{refl, ap, sym, subst}
+use Rattle.std.proofs.lemmas.Slice.Eq.{bytes_eq-Decides}
+use Rattle.std.proofs.lemmas.Bool.Decides.{Decides-eqb, Decides-int_eq, Decides-and, Decides-like}
+use Rattle.readings.proofs.EqualityLemmas.{lists_decide}
+use Rattle.day_inputs.specs.declared.day_inputs.DayInputs.{DayInputs}
+use Rattle.day_inputs.specs.declared.day_inputs.DayInputs.TheVariants.{Empty, Day}
+use Rattle.day_inputs.specs.declared.day_inputs.DayParts.{DayParts}
+use Rattle.day_inputs.specs.Equality.{same_parts, same_inputs}
+
+-- the parts in their order
+abbrev AreSame : DayParts → DayParts → Type 0
+AreSame p q =
+    (p.gap ≡ q.gap) × ((p.stage_array ≡ q.stage_array) × ((p.discharge_array ≡ q.discharge_array)
+    × ((p.from ≡ q.from) × ((p.until ≡ q.until) × (p.window ≡ q.window)))))
+
+from_parts : (p q : DayParts) → AreSame p q → p ≡ q
+from_parts p q h =
+    let e : ◌≡◌ {A = DayParts}
+    (record { gap = p.gap; stage_array = p.stage_array; discharge_array = p.discharge_array; from = p.from; until = p.until; window = p.window })
+    (record { gap = q.gap; stage_array = q.stage_array; discharge_array = q.discharge_array; from = q.from; until = q.until; window = q.window }) =
+    rw (h.0, h.1.0, h.1.1.0, h.1.1.1.0, h.1.1.1.1.0, h.1.1.1.1.1) refl in
+    e
+
+to_parts : (p q : DayParts) → p ≡ q → AreSame p q
+to_parts p q e = (
+  ap (λ (x : DayParts). x.gap) e,
+  (
+    ap (λ (x : DayParts). x.stage_array) e,
+    (
+      ap (λ (x : DayParts). x.discharge_array) e,
+      (ap (λ (x : DayParts). x.from) e, (ap (λ (x : DayParts). x.until) e, ap (λ (x : DayParts). x.window) e)),
+    ),
+  ),
+)
+
+pub Decides-same_parts : (p q : DayParts) → Decides (same_parts p q) (p ≡ q)
+Decides-same_parts p q =
+    Decides-like (same_parts p q) (from_parts p q) (to_parts p q)
+    (Decides-and _ _ (Decides-eqb p.gap q.gap)
+    (Decides-and _ _ (bytes_eq-Decides p.stage_array q.stage_array)
+    (Decides-and _ _ (bytes_eq-Decides p.discharge_array q.discharge_array)
+    (Decides-and _ _ (Decides-int_eq p.from q.from)
+    (Decides-and _ _ (Decides-int_eq p.until q.until) (lists_decide p.window q.window))))))
+
+day_from : (p q : DayParts) → p ≡ q → Day p ≡ Day q
+day_from p q e = ap Day e
+
+day_to : (p q : DayParts) → Day p ≡ Day q → p ≡ q
+day_to p q e = cc
+
+pub Decides-same_inputs : (p q : DayInputs) → Decides (same_inputs p q) (p ≡ q)
+Decides-same_inputs Empty Empty = (λ h. refl, λ e. refl)
+Decides-same_inputs Empty (Day q) = (λ h. absurd (cc), λ e. absurd (cc))
+Decides-same_inputs (Day p) Empty = (λ h. absurd (cc), λ e. absurd (cc))
+Decides-same_inputs (Day p) (Day q) = Decides-like (same_parts p q) (day_from p q) (day_to p q) (Decides-same_parts p q)
+
+-- a test that answers the same tells whether they are equal
+pub told_inputs : (p q : DayInputs) (b : Bool) → b ≡ same_inputs p q → Decides b (p ≡ q)
+told_inputs p q b e = subst (λ (x : Bool). Decides x (p ≡ q)) (sym e) (Decides-same_inputs p q)

@@ -1,0 +1,2 @@
+pub mod DayInputs
+pub mod Equality

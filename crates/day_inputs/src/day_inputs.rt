@@ -1,0 +1,30 @@
+//! The inputs of a day.
+
+use fixed_units::{RoundingArray, Second};
+use readings::ReadingList;
+
+/// The inputs of a day that has a window.
+#[derive(Debug, Drop)]
+pub struct DayParts {
+    /// The gap tolerance in minutes, 1 to 720: the greatest distance over which a line is drawn.
+    pub gap: u32,
+    /// The rounding array for stages.
+    pub stage_array: RoundingArray,
+    /// The rounding array for discharges.
+    pub discharge_array: RoundingArray,
+    /// The first instant of the day.
+    pub from: Second,
+    /// The first instant of the next day, 20 to 28 hours later.
+    pub until: Second,
+    /// The readings of the day and its neighbours, rising by instant: stages of at most 100,000 feet either way.
+    pub window: ReadingList,
+}
+
+/// The inputs of a day.
+#[derive(Debug, Drop)]
+pub enum DayInputs {
+    /// The day has no reading that is used.
+    Empty,
+    /// The day has a window.
+    Day(DayParts),
+}

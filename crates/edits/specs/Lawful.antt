@@ -1,0 +1,55 @@
+-- What an edit keeps to, by its kind.
+use Rattle.std.specs.Prelude.{◌≡◌, ℕ, ◌≤◌, List, length, All}
+use Rattle.civil_days.specs.Starts.{IsZone}
+use Rattle.edits.specs.Texts.{IsName}
+use Rattle.edits.specs.declared.content.What.{What}
+use Rattle.edits.specs.declared.content.What.TheVariants.{AddStation, SetStation, PutReadings}
+use Rattle.fixed_units.specs.Quantities.{IsStage, IsStamp}
+use Rattle.fixed_units.specs.RoundingArray.{IsRoundingArray}
+use Rattle.fixed_units.specs.declared.readings.Flag.TheVariants.{Usable}
+use Rattle.fixed_units.specs.declared.readings.Reading.{Reading}
+use Rattle.readings.specs.Readings.{IsRising}
+
+-- a gap tolerance is 1 to 720 minutes
+abbrev pub most_gap : ℕ
+most_gap = 720
+
+pub record IsGap (gap : ℕ) : Type 0 where
+  pub low : 1 ≤ gap
+  pub high : gap ≤ most_gap
+
+-- what can be set of a station: its name, its gap tolerance, and its rounding arrays of stages and of discharges
+pub record AreSettings (name : List ℕ) (gap : ℕ) (stage_array discharge_array : List ℕ) : Type 0 where
+  pub named : IsName name
+  pub near : IsGap gap
+  pub stages : IsRoundingArray stage_array
+  pub discharges : IsRoundingArray discharge_array
+
+-- the text is a name and the zone of a station
+pub record IsStationZone (text : List ℕ) : Type 0 where
+  pub printed : IsName text
+  pub is : IsZone text
+
+-- how many readings one edit puts at most
+abbrev pub most_readings : ℕ
+most_readings = 1
+
+-- a reading that is put: a usable stage at a stamp
+pub record IsPutReading (reading : Reading) : Type 0 where
+  pub stamp : IsStamp reading.at
+  pub stage : IsStage reading.raw
+  pub usable : reading.flag ≡ Usable
+
+-- readings that are put rise by instant
+pub record ArePutReadings (readings : List Reading) : Type 0 where
+  pub fewest : 1 ≤ length readings
+  pub most : length readings ≤ most_readings
+  pub rising : IsRising readings
+  pub each : All IsPutReading readings
+
+-- what an edit of each kind is lawful by
+abbrev pub IsLawful : What → Type 0
+IsLawful (AddStation name zone gap stage_array discharge_array) =
+    AreSettings name gap stage_array discharge_array × IsStationZone zone
+IsLawful (SetStation name gap stage_array discharge_array) = AreSettings name gap stage_array discharge_array
+IsLawful (PutReadings readings) = ArePutReadings readings

@@ -1,0 +1,4 @@
+pub mod Faults
+pub mod Lawful
+pub mod Single
+pub mod Texts

@@ -1,0 +1,33 @@
+-- That an edit is lawful has at most one proof, so that an edit keeps it.
+use Rattle.std.specs.Prelude.{List, ℕ}
+use Rattle.std.proofs.Common.{ap, ◌∙◌}
+use Rattle.std.proofs.Props.{props}
+use Rattle.civil_days.specs.Starts.{IsZone}
+use Rattle.civil_days.proofs.ZoneLemmas.{IsZone-prop}
+use Rattle.edits.specs.Lawful.{IsLawful, AreSettings, ArePutReadings, IsStationZone}
+use Rattle.edits.specs.Texts.{IsName}
+use Rattle.edits.specs.declared.content.What.{What}
+use Rattle.edits.specs.declared.content.What.TheVariants.{AddStation, SetStation, PutReadings}
+use Rattle.fixed_units.specs.declared.readings.Reading.{Reading}
+
+abbrev zone_of : (text : List ℕ) → IsName text → IsZone text → IsStationZone text
+zone_of text name zone = record { printed = name; is = zone }
+
+name_prop : (text : List ℕ) → IsProp (IsName text)
+name_prop text = Prim.hlevel props
+
+IsStationZone-prop : (text : List ℕ) → IsProp (IsStationZone text)
+IsStationZone-prop text a b =
+    ap (λ (x : IsName text). zone_of text x a.is) (name_prop text a.printed b.printed) ∙ ap (λ (x : IsZone text). zone_of text b.printed x) (IsZone-prop text a.is b.is)
+
+settings_prop : (name : List ℕ) (gap : ℕ) (stages discharges : List ℕ) → IsProp (AreSettings name gap stages discharges)
+settings_prop name gap stages discharges = Prim.hlevel props
+
+readings_prop : (readings : List Reading) → IsProp (ArePutReadings readings)
+readings_prop readings = Prim.hlevel props
+
+pub IsLawful-prop : (what : What) → IsProp (IsLawful what)
+IsLawful-prop (AddStation name zone gap stages discharges) a b =
+    ap (λ (x : AreSettings name gap stages discharges). (x, a.1)) (settings_prop name gap stages discharges a.0 b.0) ∙ ap (λ (x : IsStationZone zone). (b.0, x)) (IsStationZone-prop zone a.1 b.1)
+IsLawful-prop (SetStation name gap stages discharges) a b = settings_prop name gap stages discharges a b
+IsLawful-prop (PutReadings readings) a b = readings_prop readings a b

@@ -1,0 +1,16 @@
+//! What may be asked to change the record of a station: the edits, by whom and under which reference they are sent,
+//! what they are lawful by, and whether two are the same.
+#![tactic(auto)]
+
+pub mod content;
+pub mod equality;
+pub mod faults;
+pub mod making;
+pub mod names;
+pub mod senders;
+
+pub use content::{Edit, What};
+pub use faults::EditFault;
+pub use making::{are_put_readings, are_settings, is_gap, is_zone};
+pub use names::{Name, is_name};
+pub use senders::{By, Ref};

@@ -1,0 +1,137 @@
+//! How an edit is made: whether what it changes is lawful is tested here, and nowhere else.
+
+ghost use Rattle.std.specs.Prelude.{◌≡◌, ◌↔◌, true, IfOk, IfErr, OnErr, ◌≤◌, length, IsTrue};
+ghost use Rattle.civil_days.specs.Starts.{IsZone};
+ghost use Rattle.edits.specs.Faults.{IsEditFault};
+ghost use Rattle.edits.specs.Lawful.{IsLawful, AreSettings, ArePutReadings, IsGap, IsPutReading, IsStationZone};
+
+use crate::content::{Edit, What};
+use crate::faults::EditFault;
+use crate::names::is_name;
+use crate::senders::{By, Ref};
+use civil_days::{StationZone, ZoneFault};
+use fixed_units::{Flag, NoMemory, Reading, RoundingArray, Site, is_stage, is_stamp};
+use std::alloc::Global;
+
+impl Edit {
+    /// The edit of these parts.
+    ///
+    /// # Errors
+    ///
+    /// [`EditFault::NotLawful`] exactly where what it changes is not lawful, and [`EditFault::NoMemory`] where there was no
+    /// memory to test the zone of a new station, which is one then.
+    pub fn new(
+        alloc: Global,
+        by: By,
+        reference: Ref,
+        site: Site,
+        what: What,
+    ) -> Result<Edit, EditFault>
+        ensures parts { IfOk result (λ edit. (edit.by ≡ by) × (edit.reference ≡ reference) × (edit.site ≡ site) × (edit.what ≡ what)) }
+        ensures lawful { IfOk result (λ edit. IsLawful what) }
+        ensures fault { IfErr result (IsEditFault what) }
+    {
+        match is_lawful(alloc, &what) {
+            Ok(true) => Ok(Edit {
+                by,
+                reference,
+                site,
+                what,
+            }),
+            Ok(false) => Err(EditFault::NotLawful),
+            Err(NoMemory) => Err(EditFault::NoMemory),
+        }
+    }
+}
+
+/// Whether what an edit changes is lawful. `NoMemory` comes only where it is.
+fn is_lawful(alloc: Global, what: &What) -> Result<bool, NoMemory>
+    ensures told { IfOk result (λ lawful. lawful ≡ true ↔ IsLawful what.now) }
+    ensures memory { OnErr result (IsLawful what.now) }
+{
+    match what {
+        What::AddStation {
+            name,
+            zone,
+            gap,
+            stage_array,
+            discharge_array,
+        } => {
+            if !are_settings(
+                name.as_slice(),
+                *gap,
+                &stage_array.digits(),
+                &discharge_array.digits(),
+            ) {
+                return Ok(false);
+            }
+            is_zone(alloc, zone.as_slice())
+        }
+        What::SetStation {
+            name,
+            gap,
+            stage_array,
+            discharge_array,
+        } => Ok(are_settings(
+            name.as_slice(),
+            *gap,
+            &stage_array.digits(),
+            &discharge_array.digits(),
+        )),
+        What::PutReadings { readings } => Ok(are_put_readings(readings.as_slice())),
+    }
+}
+
+/// Whether these can be set of a station: a name, a gap tolerance in minutes, and two rounding arrays in digits.
+pub fn are_settings(name: &[u8], gap: u32, stage_array: &[u8], discharge_array: &[u8]) -> bool
+    ensures { result ≡ true ↔ AreSettings name.now gap stage_array.now discharge_array.now }
+{
+    is_name(name)
+        && is_gap(gap)
+        && RoundingArray::read(stage_array).is_some()
+        && RoundingArray::read(discharge_array).is_some()
+}
+
+/// Whether the number is a gap tolerance: 1 to 720 minutes.
+pub fn is_gap(gap: u32) -> bool
+    ensures { result ≡ true ↔ IsGap gap }
+{
+    (1..=720).contains(&gap)
+}
+
+/// Whether the text is a name, and the zone of a station. `NoMemory` comes only where it is.
+pub fn is_zone(alloc: Global, text: &[u8]) -> Result<bool, NoMemory>
+    ensures told { IfOk result (λ zone. zone ≡ true ↔ IsStationZone text.now) }
+    ensures memory { OnErr result (IsStationZone text.now) }
+{
+    if !is_name(text) {
+        return Ok(false);
+    }
+    let Ok(text) = str::from_utf8(text) else {
+        return Ok(false);
+    };
+    match StationZone::read(alloc, text) {
+        Ok(_) => Ok(true),
+        Err(ZoneFault::BadZone) => Ok(false),
+        Err(ZoneFault::NoMemory) => Err(NoMemory),
+    }
+}
+
+/// Whether an edit may put these readings.
+pub fn are_put_readings(readings: &[Reading]) -> bool
+    ensures { result ≡ true ↔ ArePutReadings readings.now }
+{
+    match readings {
+        [reading] => is_put_reading(reading),
+        _ => false,
+    }
+}
+
+/// Whether an edit may put this reading.
+fn is_put_reading(reading: &Reading) -> bool
+    ensures { result ≡ true ↔ IsPutReading reading.now }
+{
+    is_stamp(reading.at.get())
+        && is_stage(reading.raw.get())
+        && matches!(reading.flag, Flag::Usable)
+}

@@ -1,0 +1,168 @@
+-- What an edit makes of the stations that are kept, of their records and of how many readings they have.
+use Rattle.std.specs.Prelude.{◌≡◌, ℕ, zero, suc, ◌+◌, ◌<◌, ◌≤◌, Bool, true, false, cond, List, [], ◌∷◌, ◌++◌, filter, length, slice_set, slice_index_or, option_to_list, option_map, Option, Some, None, IfNone, ℤ, ◌<ℤ◌, int_lt, All}
+use Rattle.std.proofs.Common.{arith, refl, ap, sym, subst, ◌∙◌}
+use Rattle.std.proofs.lemmas.List.Sums.{sum_by-append, sum_by-cons}
+use Rattle.std.proofs.lemmas.List.{length-append}
+use Rattle.std.proofs.lemmas.List.Elements.{All-head, All-tail, All-cons, All-nil, All-append, All-filter}
+use Rattle.std.proofs.lemmas.List.Kept.{AllPairs-cons}
+use Rattle.rising.proofs.Selecting.{AllPairs-head, AllPairs-tail}
+use Rattle.fixed_units.specs.Quantities.{SiteNumber, site_place}
+use Rattle.fixed_units.specs.declared.readings.Reading.{Reading}
+use Rattle.rising.specs.Lists as lists
+use Rattle.rising.proofs.Splitting.{whole}
+use Rattle.rising.proofs.Placing.{put_rises as put_rises_by}
+use Rattle.readings.specs.Readings.{IsRising, put, put_all, instant_of}
+use Rattle.readings.proofs.WindowLemmas.{put_rises}
+use Rattle.office_inputs.specs.KeptStation.{KeptStation, IsStation}
+use Rattle.office_inputs.specs.Stations.{StationRecord, station_of, place_of, with_changed, changed_at}
+use Rattle.office_inputs.specs.Refusals.{reading_count}
+use Rattle.office_inputs.specs.Kept.{records_of, kept_at, place_of_kept, AreStations}
+use Rattle.office_inputs.proofs.InputsLemmas.{record_at}
+use Rattle.office_inputs.proofs.KeepLemmas.{at_place}
+use Rattle.office_inputs.proofs.RoomLemmas.{StandsAt, stands_at}
+
+-- records of the stations that pass
+filter_step : (k : KeptStation) (kept : List KeptStation) (records : List StationRecord) (b : Bool) → records ≡ records_of kept
+    → cond b (k.station ∷ records) records ≡ records_of (cond b (k ∷ kept) kept)
+filter_step k kept records true e = ap (λ (rs : List StationRecord). k.station ∷ rs) e
+filter_step k kept records false e = e
+
+records_filter : (p : StationRecord → Bool) (kept : List KeptStation) → filter p (records_of kept) ≡ records_of (filter (λ k. p k.station) kept)
+records_filter p [] = refl
+records_filter p (k ∷ kept) = filter_step k (filter (λ k. p k.station) kept) (filter p (records_of kept)) (p k.station) (records_filter p kept)
+
+records_append : (xs ys : List KeptStation) → records_of (xs ++ ys) ≡ records_of xs ++ records_of ys
+records_append [] ys = refl
+records_append (x ∷ xs) ys = ap (λ (rs : List StationRecord). x.station ∷ rs) (records_append xs ys)
+
+-- the records with a station put
+pub records_put : (k : KeptStation) (kept : List KeptStation) → records_of (lists.put place_of_kept k kept) ≡ lists.put place_of k.station (records_of kept)
+records_put k kept =
+    let n = place_of_kept k in
+    let before = records_filter (λ s. int_lt (place_of s) n) kept in
+    let after = records_filter (λ s. int_lt n (place_of s)) kept in
+    records_append (lists.before place_of_kept n kept) (k ∷ lists.after place_of_kept n kept) ∙ rw (before, after) refl
+
+records_all : (n : ℤ) (kept : List KeptStation) → All (λ k. n <ℤ place_of_kept k) kept → All (λ s. n <ℤ place_of s) (records_of kept)
+records_all n [] h = All-nil (λ s. n <ℤ place_of s)
+records_all n (k ∷ kept) h =
+    All-cons (λ s. n <ℤ place_of s) k.station (records_of kept) (All-head (λ k. n <ℤ place_of_kept k) k kept h)
+    (records_all n kept (All-tail (λ k. n <ℤ place_of_kept k) k kept h))
+
+pub records_rise : (kept : List KeptStation) → lists.IsRising place_of_kept kept → lists.IsRising place_of (records_of kept)
+records_rise [] h = λ i j d l m. absurd (omega arith)
+records_rise (k ∷ kept) h =
+    AllPairs-cons (λ a b. place_of a <ℤ place_of b) k.station (records_of kept)
+    (records_all (place_of_kept k) kept (AllPairs-head (λ a b. place_of_kept a <ℤ place_of_kept b) k kept h))
+    (records_rise kept (AllPairs-tail (λ a b. place_of_kept a <ℤ place_of_kept b) k kept h))
+
+-- how many readings there are, with a station put where none stands
+count_parts : (xs ys : List StationRecord) (s : StationRecord) → reading_count (xs ++ s ∷ ys) ≡ reading_count (xs ++ ys) + length s.readings
+count_parts xs ys s =
+    let a : reading_count (xs ++ s ∷ ys) ≡ reading_count xs + (length s.readings + reading_count ys) =
+    sum_by-append (λ (s : StationRecord). length s.readings) xs (s ∷ ys) ∙ ap (λ (n : ℕ). reading_count xs + n) (sum_by-cons (λ (s : StationRecord). length s.readings) s ys) in
+    let b : reading_count (xs ++ ys) ≡ reading_count xs + reading_count ys = sum_by-append (λ (s : StationRecord). length s.readings) xs ys in
+    omega (arith, a, b)
+
+pub count_put_new : (s : StationRecord) (stations : List StationRecord) → lists.IsRising place_of stations → lists.at place_of (place_of s) stations ≡ None → s.readings ≡ []
+    → reading_count (lists.put place_of s stations) ≡ reading_count stations
+count_put_new s stations r n e =
+    let xs = lists.before place_of (place_of s) stations in
+    let ys = lists.after place_of (place_of s) stations in
+    let w : stations ≡ xs ++ ys = whole place_of (place_of s) stations r ∙ ap (λ (o : Option StationRecord). xs ++ (option_to_list o ++ ys)) n in
+    let c = count_parts xs ys s in
+    let l = ap (λ (rs : List Reading). length rs) e in
+    let m = ap reading_count w in
+    omega (arith, c, l, m)
+
+-- how many there are with one station written over
+pub count_set : (kept : List KeptStation) (i : ℕ) (x y : KeptStation) → i < length kept → x ≡ slice_index_or kept i x
+    → reading_count (records_of (slice_set kept i y)) + length x.station.readings ≡ reading_count (records_of kept) + length y.station.readings
+count_set [] i x y l e = absurd (omega arith)
+count_set (k ∷ kept) zero x y l e =
+    let f : length x.station.readings ≡ length k.station.readings = ap (λ (k : KeptStation). length k.station.readings) e in
+    let a : reading_count (records_of (slice_set (k ∷ kept) zero y)) ≡ length y.station.readings + reading_count (records_of kept) =
+    sum_by-cons (λ (s : StationRecord). length s.readings) y.station (records_of kept) in
+    let b : reading_count (records_of (k ∷ kept)) ≡ length k.station.readings + reading_count (records_of kept) =
+    sum_by-cons (λ (s : StationRecord). length s.readings) k.station (records_of kept) in
+    omega (arith, f, a, b)
+count_set (k ∷ kept) (suc i) x y l e =
+    let h = count_set kept i x y (omega arith) e in
+    let a : reading_count (records_of (slice_set (k ∷ kept) (suc i) y)) ≡ length k.station.readings + reading_count (records_of (slice_set kept i y)) =
+    sum_by-cons (λ (s : StationRecord). length s.readings) k.station (records_of (slice_set kept i y)) in
+    let b : reading_count (records_of (k ∷ kept)) ≡ length k.station.readings + reading_count (records_of kept) =
+    sum_by-cons (λ (s : StationRecord). length s.readings) k.station (records_of kept) in
+    omega (arith, h, a, b)
+
+-- the records with a station of the site written over
+pub records_set : (kept : List KeptStation) (site : SiteNumber) (i : ℕ) (x y : KeptStation) (change : StationRecord → StationRecord) → StandsAt site i kept
+    → x ≡ slice_index_or kept i x → y.station ≡ change x.station → place_of (change x.station) ≡ place_of x.station
+    → records_of (slice_set kept i y) ≡ changed_at site change (records_of kept)
+records_set kept site i x y change h e f p =
+    let there = stands_at kept site i x h.within e h.found in
+    let n : place_of_kept y ≡ site_place site = ap place_of f ∙ p ∙ at_place place_of_kept (site_place site) kept x there in
+    let found : station_of (records_of kept) site ≡ Some x.station = record_at kept site ∙ ap (λ (o : Option KeptStation). option_map (λ (k : KeptStation). k.station) o) there in
+    ap records_of (h.written y n) ∙ records_put y kept ∙ ap (λ (s : StationRecord). lists.put place_of s (records_of kept)) f
+    ∙ ap (λ (o : Option StationRecord). with_changed change o (records_of kept)) (sym found)
+
+-- a site that is not kept has no station to change
+pub records_none : (kept : List KeptStation) (site : SiteNumber) (change : StationRecord → StationRecord) → kept_at kept site ≡ None
+    → records_of kept ≡ changed_at site change (records_of kept)
+records_none kept site change e =
+    let found : station_of (records_of kept) site ≡ None = record_at kept site ∙ ap (λ (o : Option KeptStation). option_map (λ (k : KeptStation). k.station) o) e in
+    ap (λ (o : Option StationRecord). with_changed change o (records_of kept)) (sym found)
+
+-- puts never take readings away
+at_most : (xs ys : List Reading) (o : Option Reading) (r : Reading) → length (xs ++ (option_to_list o ++ ys)) ≤ length (xs ++ r ∷ ys)
+at_most xs ys None r = let a = length-append xs ys in let b = length-append xs (r ∷ ys) in omega (arith, a, b)
+at_most xs ys (Some s) r = let a = length-append xs (s ∷ ys) in let b = length-append xs (r ∷ ys) in omega (arith, a, b)
+
+put_longer : (r : Reading) (rs : List Reading) → IsRising rs → length rs ≤ length (put r rs)
+put_longer r rs h =
+    let w = whole instant_of r.at rs h in
+    let m = at_most (lists.before instant_of r.at rs) (lists.after instant_of r.at rs) (lists.at instant_of r.at rs) r in
+    subst (λ (l : List Reading). length l ≤ length (put r rs)) (sym w) m
+
+pub put_all_longer : (rs xs : List Reading) → IsRising xs → length xs ≤ length (put_all rs xs)
+put_all_longer [] xs h = omega arith
+put_all_longer (r ∷ rs) xs h =
+    let one = put_longer r xs h in
+    let rest = put_all_longer rs (put r xs) (put_rises r xs h) in
+    omega (arith, one, rest)
+
+-- and so the list is longer by what it has more
+pub longer_by : (rs xs old new before after : List Reading) → IsRising xs → old ≡ xs → before ≡ xs → new ≡ put_all rs xs → after ≡ new → length before ≤ length after
+longer_by rs xs old new before after h o b n a =
+    let l = put_all_longer rs xs h in
+    let p = ap (λ (r : List Reading). length r) b in
+    let q = ap (λ (r : List Reading). length r) (a ∙ n) in
+    omega (arith, l, p, q)
+
+-- a station of a site that has none, put among those that are kept
+pub count_put_kept : (k : KeptStation) (kept : List KeptStation) → lists.IsRising place_of_kept kept → kept_at kept k.station.site ≡ None → k.station.readings ≡ []
+    → reading_count (lists.put place_of k.station (records_of kept)) ≡ reading_count (records_of kept)
+count_put_kept k kept r n e =
+    count_put_new k.station (records_of kept) (records_rise kept r)
+    (record_at kept k.station.site ∙ ap (λ (o : Option KeptStation). option_map (λ (k : KeptStation). k.station) o) n) e
+
+pub none_kept : (found : Option ℕ) (kept list : List KeptStation) (site : SiteNumber) → list ≡ kept → ((i : ℕ) → found ≡ Some i → ⊥)
+    → IfNone found (kept_at list site ≡ None) → kept_at kept site ≡ None
+none_kept None kept list site e n h = ap (λ (k : List KeptStation). kept_at k site) (sym e) ∙ h
+none_kept (Some i) kept list site e n h = absurd (n i refl)
+
+-- stations with one put that keeps to its ranges
+pub stations_put : (k : KeptStation) (kept : List KeptStation) → AreStations kept → IsStation k.station → AreStations (lists.put place_of_kept k kept)
+stations_put k kept h i = record {
+  rising = put_rises_by place_of_kept k kept h.rising;
+  each =
+      All-append (λ (k : KeptStation). IsStation k.station) (lists.before place_of_kept (place_of_kept k) kept) (k ∷ lists.after place_of_kept (place_of_kept k) kept)
+      (All-filter (λ x. int_lt (place_of_kept x) (place_of_kept k)) (λ (k : KeptStation). IsStation k.station) kept h.each)
+      (All-cons (λ (k : KeptStation). IsStation k.station) k (lists.after place_of_kept (place_of_kept k) kept) i
+      (All-filter (λ x. int_lt (place_of_kept k) (place_of_kept x)) (λ (k : KeptStation). IsStation k.station) kept h.each));
+}
+
+pub stations_set : (kept : List KeptStation) (site : SiteNumber) (i : ℕ) (x y : KeptStation) → AreStations kept → StandsAt site i kept → x ≡ slice_index_or kept i x
+    → place_of_kept y ≡ place_of_kept x → IsStation y.station → AreStations (slice_set kept i y)
+stations_set kept site i x y a h e p k =
+    let n : place_of_kept y ≡ site_place site = p ∙ at_place place_of_kept (site_place site) kept x (stands_at kept site i x h.within e h.found) in
+    subst AreStations (sym (h.written y n)) (stations_put y kept a k)

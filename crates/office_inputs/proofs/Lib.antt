@@ -1,0 +1,10 @@
+pub mod StationLemmas
+pub mod SpanLemmas
+pub mod InputsLemmas
+pub mod KeepLemmas
+pub mod RoomLemmas
+pub mod ApplyLemmas
+pub mod RefusalLemmas
+pub mod DayLemmas
+pub mod CountLemmas
+pub mod RefusingLemmas

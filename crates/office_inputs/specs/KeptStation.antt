@@ -1,0 +1,27 @@
+-- What is kept of one station, as contracts see it: its record, and room beside it.
+use Rattle.std.specs.Prelude.{ℕ, ◌≤◌, List, All}
+use Rattle.fixed_units.specs.Quantities.{IsSite, IsStage, IsStamp}
+use Rattle.fixed_units.specs.declared.readings.Reading.{Reading}
+use Rattle.readings.specs.Readings.{IsRising}
+use Rattle.civil_days.specs.Starts.{IsZone}
+use Rattle.day_inputs.specs.DayInputs.{most_gap}
+use Rattle.office_inputs.specs.Stations.{StationRecord}
+
+-- readings in force: stages at stamps, rising by instant
+pub record AreReadings (readings : List Reading) : Type 0 where
+  pub rising : IsRising readings
+  pub stages : All (λ r. IsStage r.raw) readings
+  pub stamps : All (λ r. IsStamp r.at) readings
+
+-- what each station keeps to
+pub record IsStation (station : StationRecord) : Type 0 where
+  pub site_range : IsSite station.site
+  pub zone_is : IsZone station.zone
+  pub gap_low : 1 ≤ station.gap
+  pub gap_high : station.gap ≤ most_gap
+  pub readings_are : AreReadings station.readings
+
+-- a station that is kept, and for how many more readings it has room
+pub record KeptStation : Type 0 where
+  pub station : StationRecord
+  pub spare : ℕ

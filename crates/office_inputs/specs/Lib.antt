@@ -1,0 +1,8 @@
+pub mod Calendar
+pub mod Changes
+pub mod Counting
+pub mod Kept
+pub mod KeptStation
+pub mod Refusals
+pub mod Stations
+pub mod Touched

@@ -1,0 +1,77 @@
+-- What an edit touches, and the interval of days that it may change: those within 720 minutes of what it touches, whatever the
+-- station's gap tolerance is.
+use Rattle.std.specs.List.{list_any}
+use Rattle.rising.specs.Ends.{first, last}
+use Rattle.std.specs.Prelude.{◌≡◌, Bool, true, false, not, ◌&&◌, ◌||◌, List, filter, Option, Some, None, ℤ, pos, ◌+ℤ◌, ◌-ℤ◌, ◌≤ℤ◌, int_le}
+use Rattle.std.specs.Ordering.{int_eq}
+use Rattle.fixed_units.specs.Quantities.{IsDay, SiteNumber}
+use Rattle.fixed_units.specs.declared.readings.Reading.{Reading}
+use Rattle.day_inputs.specs.declared.day_inputs.DayInputs.{DayInputs}
+use Rattle.day_inputs.specs.declared.day_inputs.DayInputs.TheVariants.{Empty, Day}
+use Rattle.edits.specs.declared.content.What.{What}
+use Rattle.edits.specs.declared.content.What.TheVariants.{AddStation, SetStation, PutReadings}
+use Rattle.edits.specs.declared.content.Edit.{Edit}
+use Rattle.office_inputs.specs.Calendar.{calendar}
+use Rattle.office_inputs.specs.Stations.{StationRecord, station_of, inputs_of_day, day_start}
+use Rattle.office_inputs.specs.declared.touched.Touched.{Touched}
+use Rattle.office_inputs.specs.declared.touched.Touched.TheVariants.{Nothing, One, Between, Cells}
+
+-- the day has inputs
+abbrev pub has_inputs : DayInputs → Bool
+has_inputs Empty = false
+has_inputs (Day parts) = true
+
+abbrev pub is_filled : List StationRecord → SiteNumber → ℤ → Bool
+is_filled stations site day = has_inputs (inputs_of_day stations site day)
+
+-- the first and the last day of those that are filled, or none where no day is
+abbrev pub IsSpanOf : (ℤ → Bool) → Option (ℤ × ℤ) → Type 0
+IsSpanOf filled None = (day : ℤ) → IsDay day → filled day ≡ false
+IsSpanOf filled (Some span) =
+    (filled span.0 ≡ true) × (filled span.1 ≡ true) × ((day : ℤ) → IsDay day → filled day ≡ true → (span.0 ≤ℤ day) × (day ≤ℤ span.1))
+
+-- the first and the last day of a site that have inputs
+abbrev pub IsUsedSpan : List StationRecord → SiteNumber → Option (ℤ × ℤ) → Type 0
+IsUsedSpan stations site span = IsSpanOf (is_filled stations site) span
+
+-- the time between the first and the last of some readings
+abbrev pub between_readings : Option Reading → Option Reading → Touched
+between_readings None last = Nothing
+between_readings (Some first) None = Nothing
+between_readings (Some first) (Some last) = Between first.at last.at false
+
+-- what an edit touches
+abbrev pub touched_by : What → Touched
+touched_by (AddStation name zone gap stage_array discharge_array) = Nothing
+touched_by (SetStation name gap stage_array discharge_array) = Cells
+touched_by (PutReadings readings) = between_readings (first readings) (last readings)
+
+-- the greatest gap tolerance, in seconds
+abbrev pub most_gap_seconds : ℤ
+most_gap_seconds = pos 43_200
+
+-- the day from a to b, both ends included, meets the time from 720 minutes before an instant to 720 minutes after another
+abbrev pub meets : ℤ → ℤ → ℤ → ℤ → Bool
+meets first last a b = int_le (first -ℤ most_gap_seconds) b && int_le a (last +ℤ most_gap_seconds)
+
+abbrev pub meets_day : ℤ → ℤ → Option StationRecord → ℤ → Bool
+meets_day first last None day = false
+meets_day first last (Some station) day = meets first last (day_start station day) (day_start station (day +ℤ pos 1))
+
+-- the day lies between two days that have inputs, these included
+abbrev pub is_between_filled : List StationRecord → SiteNumber → ℤ → Bool
+is_between_filled stations site day =
+    list_any (λ earlier. int_le earlier day && is_filled stations site earlier) calendar
+    && list_any (λ later. int_le day later && is_filled stations site later) calendar
+
+-- the day is in the interval of what is touched at the site
+abbrev pub in_reach : List StationRecord → SiteNumber → Touched → ℤ → Bool
+in_reach stations site Nothing day = false
+in_reach stations site (One own) day = int_eq own day
+in_reach stations site (Between first last cells_only) day =
+    meets_day first last (station_of stations site) day && (not cells_only || is_between_filled stations site day)
+in_reach stations site Cells day = is_between_filled stations site day
+
+-- the days of an edit's interval
+abbrev pub interval : List StationRecord → Edit → List ℤ
+interval stations edit = filter (in_reach stations edit.site (touched_by edit.what)) calendar

@@ -1,0 +1,138 @@
+//! The acceptance of an edit: what is in force changes, and no memory is taken.
+
+ghost use Rattle.std.specs.Prelude.{◌≡◌, ℕ, List, ◌+◌, ◌≤◌, ◌<◌, false, None, [], length, All, vec_len, vec_capacity};
+ghost use Rattle.day_inputs.specs.DayInputs.{most_gap};
+ghost use Rattle.edits.specs.Lawful.{IsPutReading};
+ghost use Rattle.office_inputs.specs.Kept.{HasRoom, IsStagedName, IsStagedStation, HasReadingRoom, IsStagedNew, AreStations, in_force, records_of, kept_at};
+ghost use Rattle.office_inputs.specs.Refusals.{refusal_of, reading_count, passes};
+ghost use Rattle.office_inputs.specs.Stations.{StationRecord, stations_after, changed_at, described, with_readings, place_of};
+ghost use Rattle.rising.specs.Lists.{put};
+
+use crate::inputs::Inputs;
+use crate::staged::Staged;
+use crate::stations::Station;
+use edits::{Edit, Name, What};
+use fixed_units::{Reading, RoundingArray, Site};
+use rising::{place_in, put_in};
+use std::mem;
+
+impl Inputs {
+    /// Accepts an edit for which room is made and that is not refused. It takes no memory.
+    pub fn apply(&mut self, edit: &Edit)
+        requires accepted { refusal_of self.old.limits (in_force self.old) edit.now ≡ None }
+        requires room { HasRoom self.old edit.now }
+        ensures stations { in_force self.new ≡ stations_after (in_force self.old) edit.now }
+        ensures limits { self.new.limits ≡ self.old.limits }
+    {
+        match &edit.what {
+            What::AddStation { .. } => self.add_staged(edit.site),
+            What::SetStation {
+                gap,
+                stage_array,
+                discharge_array,
+                ..
+            } => self.describe_staged(edit.site, *gap, *stage_array, *discharge_array),
+            What::PutReadings { readings } => self.put(edit.site, readings.as_slice()),
+        }
+    }
+
+    /// Adds the station that is staged.
+    fn add_staged(&mut self, site: Site)
+        requires staged { IsStagedNew site self.old.staged }
+        requires room { 0 < self.old.spare }
+        requires absent { kept_at self.old.kept site ≡ None }
+        ensures stations { (station : StationRecord) → IsStagedStation station self.old.staged → in_force self.new ≡ put place_of station (in_force self.old) }
+        ensures limits { self.new.limits ≡ self.old.limits }
+    {
+        if let Staged::Whole(station) = mem::replace(&mut self.staged, Staged::Nothing) {
+            add_in(&mut self.stations, station);
+        }
+    }
+
+    /// Describes the station of a site anew, with the name that is staged.
+    fn describe_staged(
+        &mut self,
+        site: Site,
+        gap: u32,
+        stage_array: RoundingArray,
+        discharge_array: RoundingArray,
+    )
+        requires gap_low { 1 ≤ gap }
+        requires gap_high { gap ≤ most_gap }
+        ensures stations { (name : List ℕ) → IsStagedName name self.old.staged → in_force self.new ≡ changed_at site (described name gap stage_array discharge_array) (in_force self.old) }
+        ensures limits { self.new.limits ≡ self.old.limits }
+    {
+        if let Staged::Named(name) = mem::replace(&mut self.staged, Staged::Nothing) {
+            describe_in(
+                &mut self.stations,
+                site,
+                name,
+                gap,
+                stage_array,
+                discharge_array,
+            );
+        }
+    }
+
+    /// Puts readings at a site.
+    fn put(&mut self, site: Site, readings: &[Reading])
+        requires room { HasReadingRoom self.old.kept site (length readings.now) }
+        requires lawful { All IsPutReading readings.now }
+        requires counted { passes self.old.limits.readings (reading_count (in_force self.old)) (reading_count (changed_at site (with_readings readings.now) (in_force self.old))) ≡ false }
+        ensures stations { in_force self.new ≡ changed_at site (with_readings readings.now) (in_force self.old) }
+        ensures limits { self.new.limits ≡ self.old.limits }
+    {
+        let added = put_readings_in(&mut self.stations, site, readings);
+        self.readings += added as u64;
+    }
+}
+
+/// Adds a station that is not kept yet and has no readings.
+fn add_in(stations: &mut Vec<Station>, station: Station)
+    requires kept { AreStations stations.old.items }
+    requires room { vec_len stations.old < vec_capacity stations.old }
+    requires absent { kept_at stations.old.items station.station.site ≡ None }
+    requires empty { station.station.readings ≡ [] }
+    ensures records { records_of stations.new.items ≡ put place_of station.station (records_of stations.old.items) }
+    ensures count { reading_count (records_of stations.new.items) ≡ reading_count (records_of stations.old.items) }
+    ensures kept { AreStations stations.new.items }
+{
+    let _site = station.site();
+    put_in(stations, station);
+}
+
+/// Describes the station of a site anew, where it is kept.
+fn describe_in(
+    stations: &mut Vec<Station>,
+    site: Site,
+    name: Name,
+    gap: u32,
+    stage_array: RoundingArray,
+    discharge_array: RoundingArray,
+)
+    requires kept { AreStations stations.old.items }
+    requires gap_low { 1 ≤ gap }
+    requires gap_high { gap ≤ most_gap }
+    ensures records { records_of stations.new.items ≡ changed_at site (described name gap stage_array discharge_array) (records_of stations.old.items) }
+    ensures count { reading_count (records_of stations.new.items) ≡ reading_count (records_of stations.old.items) }
+    ensures kept { AreStations stations.new.items }
+{
+    if let Some(place) = place_in(stations.as_slice(), site) {
+        stations[place].describe(name, gap, stage_array, discharge_array);
+    }
+}
+
+/// Puts readings at the station of a site, where it is kept, and tells how many more it has then.
+fn put_readings_in(stations: &mut Vec<Station>, site: Site, readings: &[Reading]) -> usize
+    requires kept { AreStations stations.old.items }
+    requires room { HasReadingRoom stations.old.items site (length readings.now) }
+    requires lawful { All IsPutReading readings.now }
+    ensures records { records_of stations.new.items ≡ changed_at site (with_readings readings.now) (records_of stations.old.items) }
+    ensures count { reading_count (records_of stations.new.items) ≡ reading_count (records_of stations.old.items) + result }
+    ensures kept { AreStations stations.new.items }
+{
+    match place_in(stations.as_slice(), site) {
+        Some(place) => stations[place].put(readings),
+        None => 0,
+    }
+}

@@ -1,0 +1,194 @@
+//! The inputs in force of all stations.
+
+ghost use Rattle.std.specs.Prelude.{◌≡◌, ◌↔◌, ◌+◌, true, [], ◌∷◌, length, IfOk, IfSome, IfNone, OnOk, None, option_map};
+ghost use Rattle.day_inputs.specs.DayInputs.{AreInputs};
+ghost use Rattle.office_inputs.specs.Changes.{keeps_day};
+ghost use Rattle.rising.specs.Lists.{IsRising};
+ghost use Rattle.office_inputs.specs.Kept.{AreStations, HasRoom, in_force, kept_at, place_of_kept};
+ghost use Rattle.office_inputs.specs.Refusals.{refusal_of};
+ghost use Rattle.office_inputs.specs.Stations.{station_of, stations_after, inputs_of_day};
+ghost use Rattle.office_inputs.specs.Touched.{IsUsedSpan, touched_by};
+ghost use Rattle.edits.specs.declared.content.What.TheVariants.{PutReadings};
+
+use crate::limits::Limits;
+use crate::refusals::{Refusal, Which};
+use crate::staged::Staged;
+use crate::stations::Station;
+use crate::touched::Touched;
+use civil_days::StationZone;
+use day_inputs::DayInputs;
+use edits::{Edit, Name, What};
+use fixed_units::{Day, NoMemory, Reading, Site};
+use rising::{place_in, put_in};
+use std::alloc::Global;
+use std::marker::Model;
+use std::sync::Arc;
+use std::sync::ledger::Ledger;
+use steps::Steps;
+
+/// What is in force: the stations that are kept. Contracts see them as a list that rises by site, with the limits that they
+/// keep to and the room that is made for an edit.
+#[derive(Debug, Drop)]
+pub struct Inputs {
+    pub(crate) alloc: Global,
+    pub(crate) limits: Limits,
+    pub(crate) stations: Vec<Station>,
+    pub(crate) readings: u64,
+    pub(crate) staged: Staged,
+}
+
+impl Model for Inputs {
+    ghost use Rattle.std.specs.Prelude.{◌≡◌, ◌-◌, vec_len, vec_capacity};
+    ghost use Rattle.office_inputs.specs.Kept.{InForce, AreStations, records_of};
+    ghost use Rattle.office_inputs.specs.Refusals.{reading_count};
+
+    ghost Value = { InForce };
+
+    ghost view = { λ i. record { limits = i.limits; kept = i.stations.items; spare = vec_capacity i.stations - vec_len i.stations; staged = i.staged } };
+
+    ghost invariant = { λ i. AreStations i.stations.items × (i.readings ≡ reading_count (records_of i.stations.items)) };
+}
+
+impl Inputs {
+    /// No stations, which takes no memory.
+    pub fn new(alloc: Global, limits: Limits) -> Inputs
+        ensures limits { result.limits ≡ limits }
+        ensures stations { in_force result ≡ [] }
+    {
+        Inputs {
+            alloc,
+            limits,
+            stations: Vec::new(alloc),
+            readings: 0,
+            staged: Staged::Nothing,
+        }
+    }
+
+    /// The numbers that the inputs keep to.
+    pub fn limits(&self) -> Limits
+        ensures { result ≡ self.now.limits }
+    {
+        self.limits
+    }
+
+    /// The station of a site, or `None` exactly where it is not kept.
+    pub fn station(&self, site: Site) -> Option<&Station>
+        ensures { option_map (λ s. s.now.station) result ≡ station_of (in_force self.now) site }
+    {
+        find_station(self.stations.as_slice(), site)
+    }
+
+    /// The inputs of a day of a site: none where it is not kept.
+    pub fn day_inputs(&self, site: Site, day: Day) -> Result<DayInputs, NoMemory>
+        ensures inputs { IfOk result (λ inputs. inputs ≡ inputs_of_day (in_force self.now) site day) }
+        ensures kept { IfOk result AreInputs }
+    {
+        match self.station(site) {
+            Some(station) => station.day_inputs(self.alloc, day),
+            None => Ok(DayInputs::Empty),
+        }
+    }
+
+    /// Whether these are the inputs of a day of a site. It takes no memory.
+    pub fn is_day_inputs(&self, site: Site, day: Day, other: &DayInputs) -> bool
+        ensures { result ≡ true ↔ other.now ≡ inputs_of_day (in_force self.now) site day }
+    {
+        match self.station(site) {
+            Some(station) => station.is_day_inputs(day, other),
+            None => matches!(other, DayInputs::Empty),
+        }
+    }
+
+    /// Whether the inputs of a day of the edit's site are equal before the edit and after it: one step, and no memory.
+    pub fn same_day_inputs<L: Ledger>(&self, edit: &Edit, day: Day, steps: &mut Steps<L>) -> bool
+        requires { refusal_of self.now.limits (in_force self.now) edit.now ≡ None }
+        ensures same { result ≡ keeps_day (in_force self.now) edit.now day }
+        ensures step { steps.new ≡ steps.old + 1 }
+    {
+        steps.tick();
+        self.keeps_day(edit, day)
+    }
+
+    /// Whether the inputs of a day of the edit's site are equal before the edit and after it.
+    fn keeps_day(&self, edit: &Edit, day: Day) -> bool
+        requires { refusal_of self.now.limits (in_force self.now) edit.now ≡ None }
+        ensures { result ≡ keeps_day (in_force self.now) edit.now day }
+    {
+        let Some(station) = self.station(edit.site) else {
+            return true;
+        };
+        match &edit.what {
+            What::AddStation { .. } => true,
+            What::SetStation {
+                gap,
+                stage_array,
+                discharge_array,
+                ..
+            } => station.keeps_day_described(*gap, *stage_array, *discharge_array, day),
+            What::PutReadings { readings } => {
+                station.keeps_day_with(only_one(readings.as_slice()), day)
+            }
+        }
+    }
+
+    /// The first and the last day of a site that have inputs, or `None` exactly where no day has. It takes no memory.
+    pub fn used_span(&self, site: Site) -> Option<(Day, Day)>
+        ensures { IsUsedSpan (in_force self.now) site result }
+    {
+        match self.station(site) {
+            Some(station) => station.used_span(),
+            None => None,
+        }
+    }
+
+    /// What an edit touches. It takes no memory.
+    pub fn touched(&self, edit: &Edit) -> Touched
+        ensures { result ≡ touched_by edit.now.what }
+    {
+        match &edit.what {
+            What::AddStation { .. } => Touched::Nothing,
+            What::SetStation { .. } => Touched::Cells,
+            What::PutReadings { readings } => touched_by(readings.as_slice()),
+        }
+    }
+}
+
+/// The stations that are kept rise by site, and each keeps to its ranges.
+pub fn stations_keep_to_their_ranges(inputs: &Inputs)
+    ensures { AreStations inputs.now.kept }
+{
+    let _ = &inputs.stations;
+}
+
+/// The station of a site among those that are kept.
+fn find_station(stations: &[Station], site: Site) -> Option<&Station>
+    requires { IsRising place_of_kept stations.now }
+    ensures { option_map (λ s. s.now) result ≡ kept_at stations.now site }
+{
+    match place_in(stations, site) {
+        Some(place) => Some(&stations[place]),
+        None => None,
+    }
+}
+
+/// The reading of a list of one.
+pub(crate) fn only_one(readings: &[Reading]) -> Reading
+    requires { length readings.now ≡ 1 }
+    ensures { readings.now ≡ result ∷ [] }
+{
+    readings[0]
+}
+
+/// What putting readings touches.
+fn touched_by(readings: &[Reading]) -> Touched
+    ensures { result ≡ touched_by (PutReadings readings.now) }
+{
+    match (readings.first().copied(), readings.last().copied()) {
+        (Some(first), Some(last)) => Touched::Between {
+            first: first.at,
+            last: last.at,
+            cells_only: false,
+        },
+        _ => Touched::Nothing,
+    }
+}

@@ -13,8 +13,8 @@ use Rattle.fixed_units.specs.Quantities.{IsStage, most_stage}
 use Rattle.fixed_units.specs.declared.readings.Reading.{Reading}
 use Rattle.fixed_units.proofs.LineLemmas.{abs-le, line-within}
 use Rattle.readings.specs.Readings.{IsRising}
-use Rattle.daily_values.specs.declared.day_inputs.DayParts.{DayParts}
-use Rattle.daily_values.specs.DayInputs.{AreParts}
+use Rattle.day_inputs.specs.declared.day_inputs.DayParts.{DayParts}
+use Rattle.day_inputs.specs.DayInputs.{AreParts}
 use Rattle.daily_values.specs.DayValue.{neighbours, stage_between, left_end, right_end, positive_part, seconds_between, twice_area, twice_areas, stage_sum, day_length}
 
 -- the line between two stages is a stage

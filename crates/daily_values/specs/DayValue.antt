@@ -4,12 +4,12 @@ use Rattle.std.specs.Prelude.{ℕ, ◌*◌, if◌then◌else◌, List, [], ◌�
 use Rattle.std.specs.Int.{int_max, int_min}
 use Rattle.fixed_units.specs.Lines.{line_at}
 use Rattle.fixed_units.specs.declared.readings.Reading.{Reading}
-use Rattle.daily_values.specs.declared.day_inputs.DayInputs.{DayInputs}
-use Rattle.daily_values.specs.declared.day_inputs.DayInputs.TheVariants as inputs
+use Rattle.day_inputs.specs.declared.day_inputs.DayInputs.{DayInputs}
+use Rattle.day_inputs.specs.declared.day_inputs.DayInputs.TheVariants as inputs
 use Rattle.daily_values.specs.declared.day_values.DayValue.{DayValue}
 use Rattle.daily_values.specs.declared.day_values.DayValue.TheVariants as values
 use Rattle.daily_values.specs.declared.sums.Sum.{Sum}
-use Rattle.daily_values.specs.declared.day_inputs.DayParts.{DayParts}
+use Rattle.day_inputs.specs.declared.day_inputs.DayParts.{DayParts}
 
 -- each reading with the one behind it
 abbrev pub neighbours : List Reading → List (Reading × Reading)

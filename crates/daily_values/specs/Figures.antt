@@ -4,7 +4,7 @@ use Rattle.fixed_units.specs.Quantities.{most_stage}
 use Rattle.fixed_units.specs.Published.{published}
 use Rattle.fixed_units.specs.declared.published.Published.{Published}
 use Rattle.daily_values.specs.declared.sums.Sum.{Sum}
-use Rattle.daily_values.specs.DayInputs.{shortest_day, longest_day}
+use Rattle.day_inputs.specs.DayInputs.{shortest_day, longest_day}
 
 -- the figures of a day, as contracts see them
 pub record DayFigures : Type 0 where

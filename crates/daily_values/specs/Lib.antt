@@ -1,3 +1,2 @@
-pub mod DayInputs
 pub mod DayValue
 pub mod Figures

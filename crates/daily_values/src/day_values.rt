@@ -1,15 +1,17 @@
 //! The value of a day.
 
-ghost use Rattle.std.specs.Prelude.{◌≡◌, ◌≤◌};
-ghost use Rattle.daily_values.specs.DayInputs.{AreInputs};
+ghost use Rattle.std.specs.Prelude.{◌≡◌, ◌+◌, ◌≤◌};
+ghost use Rattle.day_inputs.specs.DayInputs.{AreInputs};
 ghost use Rattle.daily_values.specs.DayValue.{day_value, stage_sum};
 ghost use Rattle.daily_values.specs.DayValue as values;
-ghost use Rattle.daily_values.specs.declared.day_inputs.DayParts.{DayParts};
+ghost use Rattle.day_inputs.specs.declared.day_inputs.DayParts.{DayParts};
 
-use crate::day_inputs::DayInputs;
 use crate::sums::{Sum, day_length, sum_stages};
+use day_inputs::DayInputs;
 use fixed_units::{Published, RoundingArray, publish};
 use std::marker::Model;
+use std::sync::ledger::Ledger;
+use steps::Steps;
 
 /// The figures of a day that has a window.
 #[derive(Clone, Copy, Debug, PartialEq, Eq)]
@@ -43,11 +45,13 @@ pub enum DayValue {
     Day(Figures),
 }
 
-/// The value that the inputs of a day have.
-pub fn compute(inputs: &DayInputs) -> DayValue
+/// The value that the inputs of a day have. One call is one step, and takes no memory.
+pub fn compute<L: Ledger>(inputs: &DayInputs, steps: &mut Steps<L>) -> DayValue
     requires { AreInputs inputs.now }
-    ensures { result ≡ day_value inputs.now }
+    ensures value { result ≡ day_value inputs.now }
+    ensures steps { steps.new ≡ steps.old + 1 }
 {
+    steps.tick();
     match inputs {
         DayInputs::Empty => DayValue::Empty,
         DayInputs::Day(parts) => DayValue::Day(Figures {

@@ -6,23 +6,25 @@ ghost use Rattle.fixed_units.specs.Quantities.{IsStage, most_stage};
 ghost use Rattle.readings.specs.Readings as readings_of;
 ghost use Rattle.readings.specs.Readings.{IsRising};
 ghost use Rattle.readings.specs.Window as windows;
-ghost use Rattle.daily_values.specs.DayInputs as inputs;
-ghost use Rattle.daily_values.specs.DayInputs.{AreParts, shortest_day, longest_day, most_gap};
+ghost use Rattle.day_inputs.specs.DayInputs as inputs;
+ghost use Rattle.day_inputs.specs.DayInputs.{AreParts, shortest_day, longest_day, most_gap};
 ghost use Rattle.daily_values.specs.DayValue as values;
 ghost use Rattle.daily_values.specs.DayValue.{stage_sum};
 
-use crate::day_inputs::{DayParts, ReadingList};
 use crate::day_values::{DayValue, Figures};
 use crate::sums::{Sum, day_length, seconds_between, twice_area};
+use day_inputs::DayParts;
 use fixed_units::{Flag, NoMemory, Reading, RoundingArray, Second};
+use readings::ReadingList;
 use std::alloc::Global;
 
 /// The value of the day from `from` until `until`, 20 to 28 hours later, of a station with a gap tolerance of 1 to 720
-/// minutes and these readings, rising by instant.
+/// minutes, these rounding arrays and these readings, rising by instant.
 pub fn day_value(
     alloc: Global,
     gap: u32,
     stage_array: RoundingArray,
+    discharge_array: RoundingArray,
     from: Second,
     until: Second,
     readings: &[Reading],
@@ -33,7 +35,7 @@ pub fn day_value(
     requires longest { (until -ℤ from) ≤ℤ pos longest_day }
     requires rising { IsRising readings.now }
     requires stages { All (λ r. IsStage r.raw) readings.now }
-    ensures { IfOk result (λ v. v ≡ values.day_value (inputs.day_inputs gap stage_array from until readings.now)) }
+    ensures { IfOk result (λ v. v ≡ values.day_value (inputs.day_inputs gap stage_array discharge_array from until readings.now)) }
 {
     let window = window(alloc, gap, from, until, readings)?;
     if window.is_empty() {
@@ -41,10 +43,11 @@ pub fn day_value(
     }
     let parts = DayParts {
         gap,
+        stage_array,
+        discharge_array,
         from,
         until,
         window: ReadingList::from_vec(window),
-        stage_array,
     };
     let pairs = neighbours(alloc, parts.window.as_slice())?;
     Ok(DayValue::Day(Figures::new(day_length(&parts), add_areas(&parts, &pairs), stage_array)))

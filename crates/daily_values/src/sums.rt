@@ -3,11 +3,11 @@
 ghost use Rattle.std.specs.Prelude.{◌≡◌, ◌+◌, ◌*◌, ◌^◌, ◌≤◌, pos, neg_ℤ, ◌-ℤ◌, ◌*ℤ◌, ◌≤ℤ◌, ◌<ℤ◌};
 ghost use Rattle.std.specs.Int.{int_max, int_min};
 ghost use Rattle.fixed_units.specs.Quantities.{IsStage, most_stage};
-ghost use Rattle.daily_values.specs.DayInputs.{AreParts, longest_day};
+ghost use Rattle.day_inputs.specs.DayInputs.{AreParts, longest_day};
 ghost use Rattle.daily_values.specs.DayValue as values;
 ghost use Rattle.daily_values.specs.DayValue.{stage_sum, stage_between};
 
-use crate::day_inputs::DayParts;
+use day_inputs::DayParts;
 use fixed_units::{Reading, Second, line_at};
 
 /// Twice an area in millionths of a foot times seconds, and the seconds that it covers. Half the one over the other is

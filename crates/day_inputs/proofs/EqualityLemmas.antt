@@ -1,6 +1,8 @@
--- The test of equality decides it. A further member is a line in each of the first three.
-use Rattle.std.specs.Prelude.{◌≡◌, Bool}
+-- The test of equality decides it. A further member is a line in each of `AreSame`, `from_parts`, `to_parts` and
+-- `Decides-same_parts`: a list by `pointwise` and `slice_eq-Decides`, one that may be missing by `option_eq` and `options_decide`.
+use Rattle.std.specs.Prelude.{◌≡◌, Bool, Option, Some, None}
 use Rattle.std.specs.Bool.{Decides}
+use Rattle.std.specs.Option.{option_eq}
 use Rattle.std.proofs.Common.{refl, ap, sym, subst}
 use Rattle.std.proofs.lemmas.Slice.Eq.{bytes_eq-Decides}
 use Rattle.std.proofs.lemmas.Bool.Decides.{Decides-eqb, Decides-int_eq, Decides-and, Decides-like}
@@ -9,6 +11,13 @@ use Rattle.day_inputs.specs.declared.day_inputs.DayInputs.{DayInputs}
 use Rattle.day_inputs.specs.declared.day_inputs.DayInputs.TheVariants.{Empty, Day}
 use Rattle.day_inputs.specs.declared.day_inputs.DayParts.{DayParts}
 use Rattle.day_inputs.specs.Equality.{same_parts, same_inputs}
+
+-- values that may be missing are equal where the test of values tells so
+pub options_decide : {A : Type 0} {E : A → A → Bool} → ((a b : A) → Decides (E a b) (a ≡ b)) → (x y : Option A) → Decides (option_eq E x y) (x ≡ y)
+options_decide h None None = (λ k. refl, λ e. refl)
+options_decide h None (Some b) = (λ k. absurd (cc), λ e. absurd (cc))
+options_decide h (Some a) None = (λ k. absurd (cc), λ e. absurd (cc))
+options_decide h (Some a) (Some b) = Decides-like _ (λ e. ap Some e) (λ e. cc) (h a b)
 
 -- the parts in their order
 abbrev AreSame : DayParts → DayParts → Type 0

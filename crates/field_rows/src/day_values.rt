@@ -1,16 +1,19 @@
 //! Days worked by hand.
-ghost use Rattle.std.specs.Prelude.{◌≡◌, true, All, IsTrue};
+ghost use Rattle.std.specs.Prelude.{◌≡◌, ◌<◌, true, All, IsTrue};
 ghost use Rattle.fixed_units.specs.Quantities.{IsStage};
 ghost use Rattle.readings.specs.Readings.{IsRising};
-ghost use Rattle.daily_values.specs.DayInputs.{AreInputs};
+ghost use Rattle.day_inputs.specs.DayInputs.{AreInputs};
 
 use daily_values::{
     DayInputs, DayParts, DayValue, Figures, ReadingList, Sum, compute, from_scratch,
 };
 use fixed_units::{Flag, Micro, Published, Reading, RoundingArray, Second, is_stage};
 use std::alloc::Global;
+use std::marker::Brand;
 use std::process::Abort;
+use std::sync::ledger::{Blank, Ledger};
 use std::test::Fail;
+use steps::Steps;
 
 // The day of the examples: 2024-01-05 at UTC-5.
 const START: i64 = 1_704_430_800;
@@ -48,6 +51,22 @@ fn are_inputs(inputs: &DayInputs) -> bool
     are_rising(window) && are_stages(window)
 }
 
+fn value_of(inputs: &DayInputs) -> DayValue
+    requires { AreInputs inputs.now }
+{
+    counted::<Brand>(inputs, Blank::new(1))
+}
+
+fn counted<L: Ledger>(inputs: &DayInputs, blank: Blank) -> DayValue
+    requires inputs { AreInputs inputs.now }
+    requires name { blank.name ≡ L.name }
+    requires parts { blank.parts ≡ L.parts }
+    requires some { 0 < blank.parts }
+{
+    let mut steps = Steps::<L>::new(blank);
+    compute(inputs, &mut steps)
+}
+
 fn second(rt: &impl Abort, after_start: i32) -> Second {
     Second::new(START + i64::from(after_start)).expect(rt, "an instant")
 }
@@ -76,13 +95,14 @@ fn figures_of(
 ) -> Result<Figures, Fail> {
     let inputs = DayInputs::Day(DayParts {
         gap,
+        stage_array,
+        discharge_array: RoundingArray::STAGES,
         from: second(rt, 0),
         until: second(rt, length),
         window: ReadingList::from_vec(readings(rt, alloc, listed)?),
-        stage_array,
     });
     assert!(rt; are_inputs(&inputs));
-    let DayValue::Day(figures) = compute(&inputs) else {
+    let DayValue::Day(figures) = value_of(&inputs) else {
         panic!(rt; "a day with a window has figures");
     };
     Ok(figures)
@@ -201,7 +221,15 @@ fn from_all(
     let until = second(rt, 86_400);
     let length = until.get() - from.get();
     assert!(rt; length == 86_400);
-    Ok(from_scratch::day_value(alloc, gap, RoundingArray::STAGES, from, until, readings)?)
+    Ok(from_scratch::day_value(
+        alloc,
+        gap,
+        RoundingArray::STAGES,
+        RoundingArray::STAGES,
+        from,
+        until,
+        readings,
+    )?)
 }
 
 #[test]
@@ -235,5 +263,5 @@ fn from_the_whole_list(rt: HostRuntime) -> Result<(), Fail> {
 
 #[test]
 fn no_window_no_figures(rt: HostRuntime) {
-    assert_eq!(rt; compute(&DayInputs::Empty), DayValue::Empty);
+    assert_eq!(rt; value_of(&DayInputs::Empty), DayValue::Empty);
 }

@@ -5,6 +5,8 @@
 #[cfg(test)]
 mod curves_rows;
 #[cfg(test)]
+mod day_inputs_rows;
+#[cfg(test)]
 mod day_values;
 #[cfg(test)]
 mod days;

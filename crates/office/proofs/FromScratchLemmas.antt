@@ -1,52 +1,30 @@
 -- Day by day over the calendar, with two windows compared for each day.
-use Rattle.std.specs.Prelude.{◌≡◌, ◌&&◌, ◌*◌, Bool, true, false, List, [], ◌∷◌, ◌++◌, ℕ, suc, ℤ, pos, negsuc, ◌+ℤ◌, ◌<ℤ◌, ◌≤ℤ◌, filter, All, int_lt, length, take, get_or, ◌<◌, ◌+◌}
+use Rattle.std.specs.Prelude.{◌≡◌, ◌*◌, Bool, true, false, List, [], ◌∷◌, ◌++◌, ℕ, suc, ℤ, pos, negsuc, ◌+ℤ◌, ◌<ℤ◌, ◌≤ℤ◌, filter, All, int_lt, length, take, get_or, ◌<◌, ◌+◌}
 use Rattle.std.specs.Bool.{Decides}
-use Rattle.std.proofs.Common.{arith, refl, ap, sym, subst, ◌∙◌, int_eq, rules, append_assoc}
+use Rattle.std.proofs.Common.{arith, refl, ap, sym, subst, ◌∙◌, append_assoc}
 use Rattle.std.proofs.lemmas.Int.{ints}
-use Rattle.std.proofs.lemmas.Bool.Decides.{Decides-int_eq, Decides-and, Decides-like, same_from_decides}
+use Rattle.std.proofs.lemmas.Bool.Decides.{Decides-like, same_from_decides}
 use Rattle.std.proofs.lemmas.List.{append-nil, get_or-take, get_or_default, length-take}
 use Rattle.std.proofs.lemmas.List.Elements.{All-weaker}
 use Rattle.std.proofs.Math.Seq.{take-suc}
 use Rattle.std.proofs.Math.Numerals.{suc-eq-add-one}
-use denote.Enum.Bare.{sameb, same_true, true_same}
-use Rattle.fixed_units.specs.contracts.readings.Flag.{the_type}
 use Rattle.fixed_units.specs.RoundingArray.{stage_array}
-use Rattle.fixed_units.specs.declared.readings.Flag.{Flag}
 use Rattle.fixed_units.specs.declared.readings.Reading.{Reading}
 use Rattle.readings.specs.Readings.{IsRising, put, before_instant, after_instant}
 use Rattle.readings.specs.Window.{window}
-use Rattle.daily_values.specs.DayInputs.{with_window}
+use Rattle.day_inputs.specs.DayInputs.{with_window}
 use Rattle.office.specs.Calendar.{day_start, day_end, days_from, calendar}
-use Rattle.office.specs.Changes.{same_inputs}
+use Rattle.day_inputs.specs.Equality.{same_inputs}
+use Rattle.day_inputs.proofs.EqualityLemmas.{Decides-same_inputs}
 use Rattle.office.specs.Inputs.{Inputs, inputs_of_day}
-use Rattle.office.proofs.ChangesLemmas.{Decides-same_inputs, window_told, day_window}
-
--- readings are the same where each of their parts is
-abbrev pub is_same : Reading → Reading → Bool
-is_same r s = int_eq r.at s.at && (int_eq r.raw s.raw && sameb the_type r.flag s.flag)
-
-flags_decide : (f g : Flag) → Decides (sameb the_type f g) (f ≡ g)
-flags_decide f g = (same_true the_type (search rules) f g, true_same the_type f g)
-
-same_parts : (r s : Reading) → r.at ≡ s.at → r.raw ≡ s.raw → r.flag ≡ s.flag → r ≡ s
-same_parts r s a b c =
-    let e : ◌≡◌ {A = Reading} (record { at = r.at; raw = r.raw; flag = r.flag }) (record { at = s.at; raw = s.raw; flag = s.flag }) = rw (a, b, c) refl in
-    e
-
-pub readings_decide : (r s : Reading) → Decides (is_same r s) (r ≡ s)
-readings_decide r s =
-    Decides-like (is_same r s)
-    (λ h. same_parts r s h.0 h.1.0 h.1.1)
-    (λ e. (ap (λ (x : Reading). x.at) e, (ap (λ (x : Reading). x.raw) e, ap (λ (x : Reading). x.flag) e)))
-    (Decides-and (int_eq r.at s.at) (int_eq r.raw s.raw && sameb the_type r.flag s.flag) (Decides-int_eq r.at s.at)
-    (Decides-and (int_eq r.raw s.raw) (sameb the_type r.flag s.flag) (Decides-int_eq r.raw s.raw) (flags_decide r.flag s.flag)))
+use Rattle.office.proofs.ChangesLemmas.{window_told, day_window}
 
 -- the inputs of a day are equal where the windows are
 inputs_decided : (before after : Inputs) (day : ℤ) (b : Bool) → Decides b (day_window before day ≡ day_window after day)
     → Decides b (inputs_of_day before day ≡ inputs_of_day after day)
 inputs_decided before after day b h =
-    Decides-like b (ap (with_window 720 stage_array (day_start day) (day_end day)))
-    (window_told 720 stage_array (day_start day) (day_end day) (day_window before day) (day_window after day)) h
+    Decides-like b (ap (with_window 720 stage_array stage_array (day_start day) (day_end day)))
+    (window_told 720 stage_array stage_array (day_start day) (day_end day) (day_window before day) (day_window after day)) h
 
 pub windows_tell : (before after : List Reading) (day from until : ℤ) (xs ys : List Reading) (b : Bool)
     → from ≡ day_start day → until ≡ day_end day

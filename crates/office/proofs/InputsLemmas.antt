@@ -8,13 +8,13 @@ use Rattle.fixed_units.specs.declared.readings.Reading.{Reading}
 use Rattle.readings.specs.Readings.{IsRising}
 use Rattle.readings.specs.Window.{window}
 use Rattle.readings.proofs.WindowLemmas.{window_keeps, window_rises}
-use Rattle.daily_values.specs.DayInputs.{AreParts}
+use Rattle.day_inputs.specs.DayInputs.{AreParts}
 use Rattle.office.specs.Calendar.{day_start, day_end}
 use Rattle.office.specs.Inputs.{AreReadings}
 
 pub inputs_kept : (readings items : List Reading) (day from until : ℤ) → AreReadings readings → from ≡ day_start day → until ≡ day_end day
     → items ≡ window from until (pos (60 * 720)) readings
-    → AreParts (record { gap = 720; from = from; until = until; window = items; stage_array = stage_array })
+    → AreParts (record { gap = 720; stage_array = stage_array; discharge_array = stage_array; from = from; until = until; window = items })
 inputs_kept readings items day from until h f u w = record {
   gap_low = omega arith;
   gap_high = omega arith;

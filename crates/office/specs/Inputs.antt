@@ -5,8 +5,8 @@ use Rattle.fixed_units.specs.RoundingArray.{stage_array}
 use Rattle.fixed_units.specs.declared.readings.Reading.{Reading}
 use Rattle.fixed_units.specs.declared.readings.Flag.TheVariants.{Usable}
 use Rattle.readings.specs.Readings.{IsRising, put}
-use Rattle.daily_values.specs.DayInputs.{day_inputs}
-use Rattle.daily_values.specs.declared.day_inputs.DayInputs.{DayInputs}
+use Rattle.day_inputs.specs.DayInputs.{day_inputs}
+use Rattle.day_inputs.specs.declared.day_inputs.DayInputs.{DayInputs}
 use Rattle.office.specs.Calendar.{day_start, day_end}
 use Rattle.first_records.specs.declared.edits.What.{What}
 use Rattle.first_records.specs.declared.edits.What.TheVariants.{PutReadings}
@@ -40,6 +40,6 @@ pub record AreReadings (readings : List Reading) : Type 0 where
   pub rising : IsRising readings
   pub stages : All (λ r. IsStage r.raw) readings
 
--- the inputs of a day of the built-in station, whose gap tolerance is 720 minutes
+-- the inputs of a day of the built-in station, whose gap tolerance is 720 minutes and whose two rounding arrays are one
 abbrev pub inputs_of_day : Inputs → ℤ → DayInputs
-inputs_of_day inputs day = day_inputs 720 stage_array (day_start day) (day_end day) inputs.readings
+inputs_of_day inputs day = day_inputs 720 stage_array stage_array (day_start day) (day_end day) inputs.readings

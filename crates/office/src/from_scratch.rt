@@ -6,7 +6,7 @@ ghost use Rattle.readings.specs.Readings.{put};
 ghost use Rattle.office.specs.Inputs as inputs;
 ghost use Rattle.office.specs.Inputs.{inputs_of_day};
 ghost use Rattle.office.specs.Changes as changes;
-ghost use Rattle.office.specs.Changes.{same_inputs};
+ghost use Rattle.day_inputs.specs.Equality.{same_inputs};
 
 use crate::station::{GAP, bounds};
 use fixed_units::{Day, FIRST_DAY, Flag, LAST_DAY, NoMemory, Reading};

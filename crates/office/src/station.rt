@@ -1,4 +1,4 @@
-//! The built-in station: its days, its gap tolerance and its rounding array.
+//! The built-in station: its days, its gap tolerance and its rounding arrays.
 
 ghost use Rattle.std.specs.Prelude.{◌≡◌, pos, neg_ℤ, ◌+ℤ◌, ◌-ℤ◌, ◌≤ℤ◌, ◌<ℤ◌};
 ghost use Rattle.fixed_units.specs.Quantities.{IsStamp};
@@ -11,6 +11,9 @@ pub(crate) const GAP: u32 = 720;
 
 /// The rounding array for stages.
 pub(crate) const STAGE_ARRAY: RoundingArray = RoundingArray::STAGES;
+
+/// The rounding array for discharges, none of which is published yet.
+pub(crate) const DISCHARGE_ARRAY: RoundingArray = RoundingArray::STAGES;
 
 /// The seconds from midnight in UTC to the station's midnight.
 const OFFSET: i64 = 18_000;

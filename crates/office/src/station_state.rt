@@ -1,7 +1,7 @@
 //! The record of the built-in station in memory: its readings, and which days await a computation.
 
 ghost use Rattle.std.specs.Prelude.{◌≡◌, ◌+◌, ◌-◌, ◌^◌, ◌<◌, ℤ, List, [], length, map, slice_get, IfSome, IsSome, IfOk, OnErr};
-ghost use Rattle.daily_values.specs.DayInputs.{AreInputs};
+ghost use Rattle.day_inputs.specs.DayInputs.{AreInputs};
 ghost use Rattle.daily_values.specs.DayValue.{day_value};
 ghost use Rattle.office.specs.Inputs as inputs;
 ghost use Rattle.first_records.specs.Edits.{IsWhat};
@@ -16,13 +16,16 @@ ghost use Rattle.office.specs.Answers.{IsAnswer};
 
 use crate::cells::Cells;
 use crate::marks::{Mark, Marks, make_room, mark_days};
-use crate::station::{GAP, STAGE_ARRAY, bounds, day_after, day_before, day_of};
-use daily_values::{DayInputs, DayParts, DayValue, ReadingList, compute};
+use crate::station::{DISCHARGE_ARRAY, GAP, STAGE_ARRAY, bounds, day_after, day_before, day_of};
+use daily_values::{DayValue, compute};
+use day_inputs::{DayInputs, DayParts};
 use fixed_units::{Day, Flag, NoMemory, Reading};
-use readings::Readings;
+use readings::{ReadingList, Readings};
 use first_records::What;
 use std::alloc::Global;
-use std::marker::Model;
+use std::marker::{Brand, Model};
+use std::sync::ledger::{Blank, Ledger};
+use steps::Steps;
 
 /// What is answered for a day.
 #[derive(Clone, Copy, Debug, Drop)]
@@ -151,7 +154,7 @@ impl StationState {
         ensures { IfOk result (λ value. value ≡ day_value (inputs_of_day (in_force self.now) day)) }
     {
         let inputs = self.day_inputs(day)?;
-        Ok(compute(&inputs))
+        Ok(value_of::<Brand>(&inputs, Blank::new(1)))
     }
 
     /// The inputs of a day that are in force.
@@ -166,10 +169,11 @@ impl StationState {
         }
         Ok(DayInputs::Day(DayParts {
             gap: GAP,
+            stage_array: STAGE_ARRAY,
+            discharge_array: DISCHARGE_ARRAY,
             from,
             until,
             window: ReadingList::from_vec(window),
-            stage_array: STAGE_ARRAY,
         }))
     }
 
@@ -197,6 +201,18 @@ impl StationState {
         let altered = self.readings.alters_window(reading, from, until, GAP);
         Mark { day, altered }
     }
+}
+
+/// The value of the inputs of a day, with a counter of its own: nobody asks what a computation costs.
+fn value_of<L: Ledger>(inputs: &DayInputs, blank: Blank) -> DayValue
+    requires inputs { AreInputs inputs.now }
+    requires name { blank.name ≡ L.name }
+    requires parts { blank.parts ≡ L.parts }
+    requires some { 0 < blank.parts }
+    ensures { result ≡ day_value inputs.now }
+{
+    let mut steps = Steps::<L>::new(blank);
+    compute(inputs, &mut steps)
 }
 
 /// The reading that an edit puts.

@@ -4,7 +4,8 @@ use Rattle.std.specs.Prelude.{ℤ, List, [], ◌∷◌, ◌++◌, pos, negsuc, �
 use Rattle.std.proofs.lemmas.Int.{ints}
 use Rattle.fixed_units.specs.Quantities.{IsDay}
 use Rattle.fixed_units.specs.declared.readings.Reading.{Reading}
-use Rattle.office.specs.Changes.{changes, same_inputs}
+use Rattle.day_inputs.specs.Equality.{same_inputs}
+use Rattle.office.specs.Changes.{changes}
 use Rattle.office.specs.Inputs.{inputs_of_day}
 use Rattle.first_records.specs.declared.edits.What.{What}
 use Rattle.office.proofs.FromScratchLemmas.{found_first, found_next_changed, found_next_same, found_last}

@@ -1,6 +1,6 @@
 //! The kept cells of all stations.
 
-ghost use Rattle.std.specs.Prelude.{◌≡◌, true, false, not, ◌+◌, ◌<◌, ◌≤◌, [], None, length, find, slice_get, ℤ, ◌<ℤ◌, AllPairs, count_by, is_none, IfSome, IsSome, OnOk};
+ghost use Rattle.std.specs.Prelude.{◌≡◌, true, false, not, ◌+◌, ◌<◌, ◌≤◌, [], None, Some, length, find, slice_get, ℤ, ◌<ℤ◌, AllPairs, count_by, is_none, IfSome, IsSome, OnOk};
 ghost use Rattle.fixed_units.specs.Quantities.{SiteNumber};
 ghost use Rattle.day_cells.specs.KeptDays.{waiting_of};
 ghost use Rattle.day_cells.specs.Spans.{IsSpan, days_of};
@@ -129,15 +129,16 @@ impl Cells {
     }
 
     /// The first pending day by site, then day, whose claim is not out.
-    pub fn first_unclaimed(&self) -> Option<Waiting>
-        ensures { result ≡ find (λ w. not w.out) (waiting self.now) }
+    pub(crate) fn first_unclaimed(&self) -> Option<Waiting>
+        ensures first { result ≡ find (λ w. not w.out) (waiting self.now) }
+        ensures awaits { IfSome result (λ w. awaited_in self.now w.site w.day ≡ Some w.awaits) }
     {
         let (_, late) = self.stations.split_at(self.unclaimed);
         first_unclaimed_in(late)
     }
 
     /// The first pending day by site, then day, whether its claim is out or not.
-    pub fn first(&self) -> Option<Waiting>
+    pub(crate) fn first(&self) -> Option<Waiting>
         ensures { result ≡ slice_get (waiting self.now) 0 }
     {
         let (_, late) = self.stations.split_at(self.first);
@@ -145,7 +146,7 @@ impl Cells {
     }
 
     /// The first pending day by site, then day, that comes after a day, which need not be kept.
-    pub fn first_after(&self, site: Site, day: Day) -> Option<Waiting>
+    pub(crate) fn first_after(&self, site: Site, day: Day) -> Option<Waiting>
         ensures { result ≡ find (is_behind site day) (waiting self.now) }
     {
         match place_of(&self.stations, site) {
@@ -201,7 +202,7 @@ impl Cells {
     }
 
     /// Takes the claim of a pending day out.
-    pub fn take_out(&mut self, site: Site, day: Day)
+    pub(crate) fn take_out(&mut self, site: Site, day: Day)
         requires { IsSome (awaited_in self.old site day) }
         ensures { TakesOut self.old self.new site day }
     {
@@ -213,7 +214,7 @@ impl Cells {
     }
 
     /// Publishes the value of a pending day: it awaits nothing, and its claim is no longer out. No memory is taken.
-    pub fn put_value(&mut self, site: Site, day: Day, value: DayValue)
+    pub(crate) fn put_value(&mut self, site: Site, day: Day, value: DayValue)
         requires { IsSome (awaited_in self.old site day) }
         ensures { Publishes self.old self.new site day value }
     {

@@ -2,7 +2,11 @@
 #![tactic(auto)]
 
 pub mod cells;
-pub mod stations;
+pub mod due;
+pub mod jobs;
+pub mod laws;
+mod stations;
 
 pub use cells::Cells;
 pub use day_cells::Waiting;
+pub use jobs::{Done, Job, Publish};

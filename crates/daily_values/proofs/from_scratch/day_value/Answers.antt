@@ -5,14 +5,14 @@ use Rattle.fixed_units.specs.Quantities.{IsStage}
 use Rattle.readings.specs.Readings.{IsRising}
 use Rattle.readings.specs.Window.{window}
 use Rattle.readings.proofs.WindowLemmas.{window_keeps, window_rises}
-use Rattle.daily_values.specs.DayInputs.{AreParts, shortest_day, longest_day, most_gap}
+use Rattle.day_inputs.specs.DayInputs.{AreParts, shortest_day, longest_day, most_gap}
 use Rattle.daily_values.proofs.from_scratch.day_value.Goals as goal
 
 -- the inputs of a day that are made of a window
-made : (gap : ℕ) (from until : ℤ) (stage_array : List ℕ) (readings kept : List Reading) → kept ≡ window from until (pos (60 * gap)) readings
+made : (gap : ℕ) (from until : ℤ) (stage_array discharge_array : List ℕ) (readings kept : List Reading) → kept ≡ window from until (pos (60 * gap)) readings
     → 1 ≤ gap → gap ≤ most_gap → pos shortest_day ≤ℤ (until -ℤ from) → (until -ℤ from) ≤ℤ pos longest_day → IsRising readings → All (λ r. IsStage r.raw) readings
-    → AreParts (record { gap = gap; from = from; until = until; window = kept; stage_array = stage_array })
-made gap from until stage_array readings kept same gap_low gap_high shortest longest rising stages =
+    → AreParts (record { gap = gap; from = from; until = until; window = kept; stage_array = stage_array; discharge_array = discharge_array })
+made gap from until stage_array discharge_array readings kept same gap_low gap_high shortest longest rising stages =
     record {
       gap_low = gap_low;
       gap_high = gap_high;
@@ -24,10 +24,10 @@ made gap from until stage_array readings kept same gap_low gap_high shortest lon
 
 pub day_length-requires : goal.day_length-requires
 day_length-requires c =
-    made c.args.gap c.args.from c.args.until _ c.args.readings.now c.from_vec.result (c.from_vec.ensures ∙ c.in_ok-window.ensures)
+    made c.args.gap c.args.from c.args.until _ _ c.args.readings.now c.from_vec.result (c.from_vec.ensures ∙ c.in_ok-window.ensures)
     c.requires.gap_low c.requires.gap_high c.requires.shortest c.requires.longest c.requires.rising c.requires.stages
 
 pub add_areas-requires-clause-parts : goal.add_areas-requires-clause-parts
 add_areas-requires-clause-parts c =
-    made c.args.gap c.args.from c.args.until _ c.args.readings.now c.from_vec.result (c.from_vec.ensures ∙ c.in_ok-window.ensures)
+    made c.args.gap c.args.from c.args.until _ _ c.args.readings.now c.from_vec.result (c.from_vec.ensures ∙ c.in_ok-window.ensures)
     c.requires.gap_low c.requires.gap_high c.requires.shortest c.requires.longest c.requires.rising c.requires.stages

@@ -1,0 +1,4 @@
+pub mod DayLemmas
+pub mod CalendarLemmas
+pub mod KeptLemmas
+pub mod MarkLemmas

@@ -1,0 +1,28 @@
+use Rattle.std.specs.Prelude.{◌≤ℤ◌, take}
+use Rattle.std.proofs.Common.{arith, sym}
+use Rattle.std.proofs.lemmas.Int.{ints}
+use Rattle.std.proofs.lemmas.List.{take_all}
+use Rattle.std.proofs.lemmas.List.Elements.{All-more, All-weaker, All-same}
+use Rattle.day_cells.proofs.columns.earliest.Goals as goal
+
+pub loop-other-preserved : goal.loop-other-preserved
+loop-other-preserved c =
+    let h = c.loop-other.invariant in
+    let days = c.args.days.now in
+    let i = c.loop-other.other-index in
+    let other = c.other-item.result in
+    let first = c.earlier_of-first.ensures.first in
+    let second = c.earlier_of-first.ensures.second in
+    let low = h.low in
+    let here = c.other-item.is in
+    record {
+      low = omega (arith, ints);
+      all = All-more (λ d. c.earlier_of-first.result ≤ℤ d) days i other c.loop-other-test.true
+          (All-weaker (λ d. c.loop-other.first ≤ℤ d) (λ d. c.earlier_of-first.result ≤ℤ d) (λ d k. omega (arith, ints, k, first)) (take i days) h.all)
+          (omega (arith, ints));
+    }
+
+pub returns-clause-all : goal.returns-clause-all
+returns-clause-all c =
+    All-same (λ d. c.loop-other.first ≤ℤ d) c.args.days.now (take c.loop-other.other-index c.args.days.now)
+    (sym (take_all c.loop-other.other-index c.args.days.now c.loop-other-test.false)) c.loop-other.invariant.all

@@ -1,0 +1,4 @@
+pub mod Days
+pub mod Spans
+pub mod KeptDays
+pub mod Sites

@@ -1,0 +1,5 @@
+pub mod StationLemmas
+pub mod ReplaceLemmas
+pub mod AfterLemmas
+pub mod FoundLemmas
+pub mod OutcomeLemmas

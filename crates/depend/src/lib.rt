@@ -5,7 +5,8 @@ pub mod days;
 pub mod from_scratch;
 pub mod laws;
 pub mod reaching;
-mod spans;
+pub mod spans;
 
 pub use days::DayList;
 pub use reaching::reach;
+pub use spans::compared_days;

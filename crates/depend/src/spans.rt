@@ -14,8 +14,9 @@ use edits::Edit;
 use fixed_units::{Day, FIRST_DAY, LAST_DAY, Second, Site};
 use office_inputs::{Inputs, Touched, stations_keep_to_their_ranges};
 
-/// The first and the last of the days that are compared for an edit, or `None` where its interval has no day.
-pub(crate) fn compared_days(inputs: &Inputs, edit: &Edit) -> Option<(Day, Day)>
+/// The first and the last of the days that [`crate::reach`] compares for an edit, or `None` where its interval has no day: they
+/// hold every day of the interval, and all but these two are of it.
+pub fn compared_days(inputs: &Inputs, edit: &Edit) -> Option<(Day, Day)>
     ensures { AreCompared (in_reach (in_force inputs.now) edit.now.site (touched_by edit.now.what)) result }
 {
     match inputs.touched(edit) {

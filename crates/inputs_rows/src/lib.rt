@@ -1,0 +1,7 @@
+//! Worked rows of the inputs in force and of the days that an edit changes: what no clause says, over stations of fixed zones.
+#![tactic(auto)]
+
+#[cfg(test)]
+mod fixtures;
+#[cfg(test)]
+mod reach_rows;

@@ -2,11 +2,12 @@
 use Rattle.std.proofs.Common.{◌≡◌, ℕ, ◌+◌, ◌^◌, ◌≤◌, true, false, List, ◌++◌, length, Option, Some, None, IfSome, IsSomeAnd, refl, sym, ◌∙◌, ap, inr, append_assoc, length-append, arith}
 use Rattle.std.specs.List.{concat}
 use Rattle.office.specs.History.{Event}
+use Rattle.wire.specs.declared.messages.Message.{Message}
 use Rattle.wire.specs.declared.messages.Message.TheVariants as messages
 use Rattle.wire.specs.declared.replies.TheConstants.{MALFORMED_REPLY}
 use Rattle.wire.specs.Incoming.{Held, IsNext, Answers, IsNeeded, IsTakenAsNeeded, IsWithinLimit}
 use Rattle.devices.specs.Sinks.{IsCutShort, AreWritten}
-use Rattle.streamoffice.specs.Served.{StopsWithin, Serves}
+use Rattle.streamoffice.specs.Served.{EndsBy, StopsWithin, Serves}
 use Rattle.streamoffice.specs.Session.{IsServed, IsReadTo, IsUnderWay}
 use Rattle.streamoffice.specs.declared.sessions.SessionEnd.{SessionEnd}
 use Rattle.streamoffice.specs.declared.sessions.SessionEnd.TheVariants as ends
@@ -72,51 +73,51 @@ wrote_nothing : (w0 w : Option (List ℕ)) (so_far : List ℕ)
 wrote_nothing None w so_far wrote = tt
 wrote_nothing (Some before) w so_far wrote = (so_far, wrote, refl)
 
--- the end of the input
-pub ends_at_end : (limit : ℕ) (events : List Event) (P : List Event → Type 0) (held held' : Held) (l0 l l' w0 w : Option (List ℕ))
-    → IsUnderWay limit events P held l0 l w0 w → Answers held l messages.End held' l' → IsWithinLimit held l l'
-    → IsServed limit events ends.End l0 l' w0 w P
-ends_at_end limit events P held held' l0 l l' w0 w u answers within =
+-- a session that ends at a message, by what came of it, what else the source tells and what was written
+served : (limit : ℕ) (events : List Event) (P : List Event → Type 0) (held held' : Held) (message : Message) (end : SessionEnd) (l0 l l' w0 w w' : Option (List ℕ))
+    (N : List ℕ → List ℕ → Type 0) (W : List ℕ → Type 0) (u : IsUnderWay limit events P held l0 l w0 w)
+    → Answers held l message held' l' → IsWithinLimit held l l' → IfSome l (λ b. IsSomeAnd l' (λ a. N b a))
+    → IfSome w0 (λ before. (written : List ℕ) × (w' ≡ Some (before ++ written)) × W written)
+    → ((input b a written : List ℕ) → IsReadTo input u.requests (held.ahead ++ b) held.offset
+    → IsNext (held.ahead ++ b) held.offset message (held'.ahead ++ a) a held'.offset → N b a → W written
+    → EndsBy end input u.replies (held.ahead ++ b) a written)
+    → IsServed limit events end l0 l' w0 w' P
+served limit events P held held' message end l0 l l' w0 w w' N W u answers within more wrote ends =
     record {
       after = u.after;
       leaves = u.stands;
-      serves = tell (λ b a. IsNext (held.ahead ++ b) held.offset messages.End (held'.ahead ++ a) a held'.offset × (held.offset + length (held.ahead ++ b) ≤ 2 ^ 36 + length a))
-          (λ input b. IsReadTo input u.requests (held.ahead ++ b) held.offset) (λ written. written ≡ concat u.replies)
-          limit events u.after ends.End l0 l l' w0 w u.reads
-          (both (λ b a. IsNext (held.ahead ++ b) held.offset messages.End (held'.ahead ++ a) a held'.offset) (λ b a. held.offset + length (held.ahead ++ b) ≤ 2 ^ 36 + length a) l l' answers within) (wrote_nothing w0 w (concat u.replies) u.wrote)
-          (λ input b a written reads next wrote. record {
+      serves = tell (λ b a. (IsNext (held.ahead ++ b) held.offset message (held'.ahead ++ a) a held'.offset × (held.offset + length (held.ahead ++ b) ≤ 2 ^ 36 + length a)) × N b a)
+          (λ input b. IsReadTo input u.requests (held.ahead ++ b) held.offset) W limit events u.after end l0 l l' w0 w' u.reads
+          (both (λ b a. IsNext (held.ahead ++ b) held.offset message (held'.ahead ++ a) a held'.offset × (held.offset + length (held.ahead ++ b) ≤ 2 ^ 36 + length a)) N l l'
+          (both (λ b a. IsNext (held.ahead ++ b) held.offset message (held'.ahead ++ a) a held'.offset) (λ b a. held.offset + length (held.ahead ++ b) ≤ 2 ^ 36 + length a) l l' answers within) more) wrote
+          (λ input b a written reads next told. record {
             requests = u.requests;
             replies = u.replies;
             rest = held.ahead ++ b;
             reads = reads.reads;
             answers = u.answers;
-            ends = (next.0.0, next.0.1, wrote);
-            taken = taken_of input (held.offset + length (held.ahead ++ b)) (length a) reads.offset next.1;
+            ends = ends input b a written reads next.0.0 next.1 told;
+            taken = taken_of input (held.offset + length (held.ahead ++ b)) (length a) reads.offset next.0.1;
           });
     }
+
+-- the end of the input
+pub ends_at_end : (limit : ℕ) (events : List Event) (P : List Event → Type 0) (held held' : Held) (l0 l l' w0 w : Option (List ℕ))
+    → IsUnderWay limit events P held l0 l w0 w → Answers held l messages.End held' l' → IsWithinLimit held l l'
+    → IsServed limit events ends.End l0 l' w0 w P
+ends_at_end limit events P held held' l0 l l' w0 w u answers within =
+    served limit events P held held' messages.End ends.End l0 l l' w0 w w (λ b a. held.offset + length (held.ahead ++ b) ≤ 2 ^ 36 + length a) (λ written. written ≡ concat u.replies)
+    u answers within within (wrote_nothing w0 w (concat u.replies) u.wrote)
+    (λ input b a written reads next _ told. (next.0, next.1, told))
 
 -- the source failed
 pub ends_at_fault : (limit : ℕ) (events : List Event) (P : List Event → Type 0) (held held' : Held) (l0 l l' w0 w : Option (List ℕ))
     → IsUnderWay limit events P held l0 l w0 w → Answers held l messages.Failed held' l' → IsWithinLimit held l l'
     → IsServed limit events ends.InputFault l0 l' w0 w P
 ends_at_fault limit events P held held' l0 l l' w0 w u answers within =
-    record {
-      after = u.after;
-      leaves = u.stands;
-      serves = tell (λ b a. IsNext (held.ahead ++ b) held.offset messages.Failed (held'.ahead ++ a) a held'.offset × (held.offset + length (held.ahead ++ b) ≤ 2 ^ 36 + length a))
-          (λ input b. IsReadTo input u.requests (held.ahead ++ b) held.offset) (λ written. written ≡ concat u.replies)
-          limit events u.after ends.InputFault l0 l l' w0 w u.reads
-          (both (λ b a. IsNext (held.ahead ++ b) held.offset messages.Failed (held'.ahead ++ a) a held'.offset) (λ b a. held.offset + length (held.ahead ++ b) ≤ 2 ^ 36 + length a) l l' answers within) (wrote_nothing w0 w (concat u.replies) u.wrote)
-          (λ input b a written reads next wrote. record {
-            requests = u.requests;
-            replies = u.replies;
-            rest = held.ahead ++ b;
-            reads = reads.reads;
-            answers = u.answers;
-            ends = ((next.0.0, next.0.1), wrote);
-            taken = taken_of input (held.offset + length (held.ahead ++ b)) (length a) reads.offset next.1;
-          });
-    }
+    served limit events P held held' messages.Failed ends.InputFault l0 l l' w0 w w (λ b a. held.offset + length (held.ahead ++ b) ≤ 2 ^ 36 + length a) (λ written. written ≡ concat u.replies)
+    u answers within within (wrote_nothing w0 w (concat u.replies) u.wrote)
+    (λ input b a written reads next _ told. ((next.0, next.1), told))
 
 -- so many bytes were taken as a stream may have
 longest : (input rest seen left : List ℕ) (offset : ℕ) → length input ≡ offset + length rest → rest ≡ seen ++ left
@@ -129,27 +130,9 @@ pub ends_at_limit : (limit : ℕ) (events : List Event) (P : List Event → Type
     → IsUnderWay limit events P held l0 l w0 w → Answers held l messages.Long held' l' → IsWithinLimit held l l'
     → IsServed limit events ends.Long l0 l' w0 w P
 ends_at_limit limit events P held held' l0 l l' w0 w u answers within =
-    record {
-      after = u.after;
-      leaves = u.stands;
-      serves = tell (λ b a. IsNext (held.ahead ++ b) held.offset messages.Long (held'.ahead ++ a) a held'.offset × (held.offset + length (held.ahead ++ b) ≤ 2 ^ 36 + length a))
-          (λ input b. IsReadTo input u.requests (held.ahead ++ b) held.offset) (λ written. written ≡ concat u.replies)
-          limit events u.after ends.Long l0 l l' w0 w u.reads
-          (both (λ b a. IsNext (held.ahead ++ b) held.offset messages.Long (held'.ahead ++ a) a held'.offset) (λ b a. held.offset + length (held.ahead ++ b) ≤ 2 ^ 36 + length a) l l' answers within) (wrote_nothing w0 w (concat u.replies) u.wrote)
-          (λ input b a written reads next wrote. record {
-            requests = u.requests;
-            replies = u.replies;
-            rest = held.ahead ++ b;
-            reads = reads.reads;
-            answers = u.answers;
-            ends = (
-              (next.0.0, next.0.1),
-              longest input (held.ahead ++ b) next.0.0 a held.offset reads.offset next.0.1.0 next.0.3,
-              wrote,
-            );
-            taken = taken_of input (held.offset + length (held.ahead ++ b)) (length a) reads.offset next.1;
-          });
-    }
+    served limit events P held held' messages.Long ends.Long l0 l l' w0 w w (λ b a. held.offset + length (held.ahead ++ b) ≤ 2 ^ 36 + length a) (λ written. written ≡ concat u.replies)
+    u answers within within (wrote_nothing w0 w (concat u.replies) u.wrote)
+    (λ input b a written reads next _ told. ((next.0, next.1), longest input (held.ahead ++ b) next.0 a held.offset reads.offset next.1.0 next.3, told))
 
 -- the reply to what is malformed was written whole
 whole_malformed : (w0 w w' : Option (List ℕ)) (so_far : List ℕ)
@@ -157,35 +140,17 @@ whole_malformed : (w0 w w' : Option (List ℕ)) (so_far : List ℕ)
     → IfSome w0 (λ before. (written : List ℕ) × (w' ≡ Some (before ++ written)) × (written ≡ so_far ++ MALFORMED_REPLY.now))
 whole_malformed w0 w w' so_far wrote put = wrote_nothing w0 w' (so_far ++ MALFORMED_REPLY.now) (wrote_whole w0 w w' so_far MALFORMED_REPLY.now wrote put)
 
--- the rest is malformed, and no more was taken than may be
-abbrev IsEndingBy : Held → Held → ℕ → List ℕ → List ℕ → Type 0
-IsEndingBy held held' at b a =
-    IsNext (held.ahead ++ b) held.offset (messages.Malformed at) (held'.ahead ++ a) a held'.offset
-    × (held.offset + length (held.ahead ++ b) ≤ 2 ^ 36 + length a)
-
+-- the rest is malformed
 pub ends_malformed : (limit : ℕ) (events : List Event) (P : List Event → Type 0) (held held' : Held) (at : ℕ) (l0 l l' w0 w w' : Option (List ℕ))
     → IsUnderWay limit events P held l0 l w0 w → Answers held l (messages.Malformed at) held' l'
     → IsWithinLimit held l l' → IsTakenAsNeeded held l l' → AreWritten w MALFORMED_REPLY.now w' true
     → IsServed limit events (ends.Malformed at) l0 l' w0 w' P
 ends_malformed limit events P held held' at l0 l l' w0 w w' u answers within needed put =
-    record {
-      after = u.after;
-      leaves = u.stands;
-      serves = tell (λ b a. IsEndingBy held held' at b a × IsNeeded (held.ahead ++ b) a)
-          (λ input b. IsReadTo input u.requests (held.ahead ++ b) held.offset)
-          (λ written. written ≡ concat u.replies ++ MALFORMED_REPLY.now)
-          limit events u.after (ends.Malformed at) l0 l l' w0 w' u.reads
-          (both (IsEndingBy held held' at) (λ b a. IsNeeded (held.ahead ++ b) a) l l' (both (λ b a. IsNext (held.ahead ++ b) held.offset (messages.Malformed at) (held'.ahead ++ a) a held'.offset) (λ b a. held.offset + length (held.ahead ++ b) ≤ 2 ^ 36 + length a) l l' answers within) needed) (whole_malformed w0 w w' (concat u.replies) u.wrote put)
-          (λ input b a written reads next wrote. record {
-            requests = u.requests;
-            replies = u.replies;
-            rest = held.ahead ++ b;
-            reads = reads.reads;
-            answers = u.answers;
-            ends = (next.0.0.0, next.1, reads.offset ∙ ap (λ (n : ℕ). n + length (held.ahead ++ b)) (sym next.0.0.1), wrote);
-            taken = taken_of input (held.offset + length (held.ahead ++ b)) (length a) reads.offset next.0.1;
-          });
-    }
+    served limit events P held held' (messages.Malformed at) (ends.Malformed at) l0 l l' w0 w w' (λ b a. IsNeeded (held.ahead ++ b) a)
+    (λ written. written ≡ concat u.replies ++ MALFORMED_REPLY.now)
+    u answers within needed (whole_malformed w0 w w' (concat u.replies) u.wrote put)
+    (λ input b a written reads next few told.
+    (next.0, few, reads.offset ∙ ap (λ (n : ℕ). n + length (held.ahead ++ b)) (sym next.1), told))
 
 -- and here only in part
 part_malformed : (w0 w w' : Option (List ℕ)) (so_far : List ℕ)
@@ -201,21 +166,7 @@ pub fails_malformed : (limit : ℕ) (events : List Event) (P : List Event → Ty
     → IsWithinLimit held l l' → IsTakenAsNeeded held l l' → AreWritten w MALFORMED_REPLY.now w' false
     → IsServed limit events ends.OutputFault l0 l' w0 w' P
 fails_malformed limit events P held held' at l0 l l' w0 w w' u answers within needed put =
-    record {
-      after = u.after;
-      leaves = u.stands;
-      serves = tell (λ b a. IsEndingBy held held' at b a × IsNeeded (held.ahead ++ b) a)
-          (λ input b. IsReadTo input u.requests (held.ahead ++ b) held.offset)
-          (λ written. StopsWithin (concat u.replies) MALFORMED_REPLY.now written)
-          limit events u.after ends.OutputFault l0 l l' w0 w' u.reads
-          (both (IsEndingBy held held' at) (λ b a. IsNeeded (held.ahead ++ b) a) l l' (both (λ b a. IsNext (held.ahead ++ b) held.offset (messages.Malformed at) (held'.ahead ++ a) a held'.offset) (λ b a. held.offset + length (held.ahead ++ b) ≤ 2 ^ 36 + length a) l l' answers within) needed) (part_malformed w0 w w' (concat u.replies) u.wrote put)
-          (λ input b a written reads next wrote. record {
-            requests = u.requests;
-            replies = u.replies;
-            rest = held.ahead ++ b;
-            reads = reads.reads;
-            answers = u.answers;
-            ends = inr (next.0.0.0, next.1, wrote);
-            taken = taken_of input (held.offset + length (held.ahead ++ b)) (length a) reads.offset next.0.1;
-          });
-    }
+    served limit events P held held' (messages.Malformed at) ends.OutputFault l0 l l' w0 w w' (λ b a. IsNeeded (held.ahead ++ b) a)
+    (λ written. StopsWithin (concat u.replies) MALFORMED_REPLY.now written)
+    u answers within needed (part_malformed w0 w w' (concat u.replies) u.wrote put)
+    (λ input b a written reads next few told. inr (next.0, few, told))

@@ -29,12 +29,12 @@ values_of_one name field = one (is_named name field)
     one true = refl
     one false = refl
 
--- a field of the name adds its value
-pub values_of_more : (name window : List ℕ) (headers : List HeaderSpan) (i : ℕ) (d : HeaderSpan) → i < length headers
-    → is_named name (header_bytes window (get_or headers i d)) ≡ true
+-- a field adds its value where it has the name
+values_of_next : (name window : List ℕ) (headers : List HeaderSpan) (i : ℕ) (d : HeaderSpan) (b : Bool) → i < length headers
+    → is_named name (header_bytes window (get_or headers i d)) ≡ b
     → values_of name (map (header_bytes window) (take (i + 1) headers))
-    ≡ values_of name (map (header_bytes window) (take i headers)) ++ (header_bytes window (get_or headers i d)).1 ∷ []
-values_of_more name window headers i d inside named =
+    ≡ values_of name (map (header_bytes window) (take i headers)) ++ cond b ((header_bytes window (get_or headers i d)).1 ∷ []) []
+values_of_next name window headers i d b inside named =
     let before = map (header_bytes window) (take i headers) in
     let field = header_bytes window (get_or headers i d) in
     ap (values_of name) (map_more (header_bytes window) headers i d inside)
@@ -42,16 +42,16 @@ values_of_more name window headers i d inside named =
     ∙ ap (λ (values : List (List ℕ)). values_of name before ++ values)
     (values_of_one name field ∙ ap (λ (b : Bool). cond b (field.1 ∷ []) []) named)
 
--- another field adds none
+pub values_of_more : (name window : List ℕ) (headers : List HeaderSpan) (i : ℕ) (d : HeaderSpan) → i < length headers
+    → is_named name (header_bytes window (get_or headers i d)) ≡ true
+    → values_of name (map (header_bytes window) (take (i + 1) headers))
+    ≡ values_of name (map (header_bytes window) (take i headers)) ++ (header_bytes window (get_or headers i d)).1 ∷ []
+values_of_more name window headers i d inside named = values_of_next name window headers i d true inside named
+
+-- and none where it has another one
 pub values_of_same : (name window : List ℕ) (headers : List HeaderSpan) (i : ℕ) (d : HeaderSpan) → i < length headers
     → is_named name (header_bytes window (get_or headers i d)) ≡ false
     → values_of name (map (header_bytes window) (take (i + 1) headers))
     ≡ values_of name (map (header_bytes window) (take i headers))
 values_of_same name window headers i d inside named =
-    let before = map (header_bytes window) (take i headers) in
-    let field = header_bytes window (get_or headers i d) in
-    ap (values_of name) (map_more (header_bytes window) headers i d inside)
-    ∙ values_of_append name before (field ∷ [])
-    ∙ ap (λ (values : List (List ℕ)). values_of name before ++ values)
-    (values_of_one name field ∙ ap (λ (b : Bool). cond b (field.1 ∷ []) []) named)
-    ∙ append-nil (values_of name before)
+    values_of_next name window headers i d false inside named ∙ append-nil (values_of name (map (header_bytes window) (take i headers)))

@@ -1,37 +1,11 @@
 -- Days in order: those that a test keeps, and how many they are.
-use Rattle.std.specs.Prelude.{◌≡◌, ◌≤◌, ◌+◌, ℕ, zero, suc, Bool, true, false, not, cond, ◌&&◌, ◌||◌, List, [], ◌∷◌, ◌++◌, filter, length, ◌⊎◌, ℤ, pos, negsuc, ◌+ℤ◌, ◌-ℤ◌, ◌<ℤ◌, ◌≤ℤ◌, int_lt}
-use Rattle.std.specs.List.{list_any}
+use Rattle.std.specs.Prelude.{◌≡◌, ◌≤◌, ◌+◌, ℕ, zero, suc, Bool, true, false, cond, ◌&&◌, List, [], ◌∷◌, filter, length, ◌⊎◌, ℤ, pos, negsuc, ◌+ℤ◌, ◌-ℤ◌, ◌<ℤ◌, ◌≤ℤ◌, int_lt}
 use Rattle.std.proofs.Common.{arith, refl, ap, sym, subst, ◌∙◌, inl, inr}
 use Rattle.std.proofs.lemmas.Int.{ints, by_lt_z}
 use Rattle.fixed_units.specs.Quantities.{IsDay}
 use Rattle.office_inputs.specs.Calendar.{days_from, calendar}
+use Rattle.office_inputs.proofs.DayLemmas.{IsWithin, within_rest, within_first, is_day}
 use Rattle.depend.specs.Compared.{count_of, days_within}
-
--- so many days from a day on
-pub record IsWithin (day : ℤ) (n : ℕ) (d : ℤ) : Type 0 where
-  pub low : day ≤ℤ d
-  pub high : d <ℤ (day +ℤ pos n)
-
-within_rest : (day : ℤ) (n : ℕ) (d : ℤ) → IsWithin (day +ℤ pos 1) n d → IsWithin day (suc n) d
-within_rest day n d h =
-    let a = h.low in
-    let b = h.high in
-    record { low = omega (arith, ints); high = omega (arith, ints) }
-
-within_first : (day : ℤ) (n : ℕ) → IsWithin day (suc n) day
-within_first day n = record { low = omega (arith, ints); high = omega (arith, ints) }
-
-pub is_within : (d : ℤ) → IsDay d → IsWithin (negsuc 25_566) 73_049 d
-is_within d h =
-    let a = h.low in
-    let b = h.high in
-    record { low = omega (arith, ints); high = omega (arith, ints) }
-
-pub is_day : (d : ℤ) → IsWithin (negsuc 25_566) 73_049 d → IsDay d
-is_day d h =
-    let a = h.low in
-    let b = h.high in
-    record { low = omega (arith, ints); high = omega (arith, ints) }
 
 -- counts
 pub counted : (z : ℤ) → pos 0 ≤ℤ z → pos (count_of z) ≡ z
@@ -218,38 +192,3 @@ span_length q first last f l h =
     let wide = length_within first last in
     let two = count_two (last +ℤ pos 1 -ℤ first) z (omega (arith, ints)) in
     omega arith
-
--- a day of the calendar that passes a test is found in it
-any_here : (b c : Bool) → b ≡ true → (b || c) ≡ true
-any_here b c h = rw h refl
-
-any_later : (b c : Bool) → c ≡ true → (b || c) ≡ true
-any_later true c h = refl
-any_later false c h = h
-
-any_days : (p : ℤ → Bool) (day : ℤ) (n : ℕ) (d : ℤ) → IsWithin day n d → p d ≡ true → list_any p (days_from day n) ≡ true
-unfolding days_from
-any_days p day zero d w h = absurd (let a = w.low in let b = w.high in omega (arith, ints))
-any_days p day (suc n) d w h =
-    by_lt_z day d
-    (λ l. any_later (p day) (list_any p (days_from (day +ℤ pos 1) n))
-    (any_days p (day +ℤ pos 1) n d (record { low = omega (arith, ints); high = let b = w.high in omega (arith, ints) }) h))
-    (λ m. let e : d ≡ day = (let a = w.low in omega (arith, ints)) in any_here (p day) (list_any p (days_from (day +ℤ pos 1) n)) (ap p (sym e) ∙ h))
-
-pub calendar_any : (p : ℤ → Bool) (d : ℤ) → IsDay d → p d ≡ true → list_any p calendar ≡ true
-unfolding calendar
-calendar_any p d k h = any_days p (negsuc 25_566) 73_049 d (is_within d k) h
-
-any_none_step : (b c : Bool) → b ≡ false → c ≡ false → (b || c) ≡ false
-any_none_step b c e f = rw (e, f) refl
-
-any_days_none : (p : ℤ → Bool) (day : ℤ) (n : ℕ) → ((d : ℤ) → IsWithin day n d → p d ≡ false) → list_any p (days_from day n) ≡ false
-unfolding days_from
-any_days_none p day zero h = refl
-any_days_none p day (suc n) h =
-    any_none_step (p day) (list_any p (days_from (day +ℤ pos 1) n)) (h day (within_first day n))
-    (any_days_none p (day +ℤ pos 1) n (λ d k. h d (within_rest day n d k)))
-
-pub calendar_any_none : (p : ℤ → Bool) → ((d : ℤ) → IsDay d → p d ≡ false) → list_any p calendar ≡ false
-unfolding calendar
-calendar_any_none p h = any_days_none p (negsuc 25_566) 73_049 (λ d k. h d (is_day d k))

@@ -1,8 +1,7 @@
 -- The days that are compared cover the interval of what is touched.
-use Rattle.std.specs.Prelude.{◌≡◌, ℕ, Bool, true, false, not, cond, ◌&&◌, ◌||◌, List, [], ◌∷◌, All, ◌⊎◌, Option, Some, None, ℤ, pos, ◌+ℤ◌, ◌-ℤ◌, ◌≤ℤ◌, ◌<ℤ◌, int_le, int_lt}
+use Rattle.std.specs.Prelude.{◌≡◌, ℕ, Bool, true, false, ◌&&◌, List, ◌⊎◌, Option, Some, None, ℤ, pos, ◌+ℤ◌, ◌-ℤ◌, ◌≤ℤ◌, ◌<ℤ◌, int_le, int_lt}
 use Rattle.std.specs.Int.{int_max, int_min}
 use Rattle.std.specs.List.{list_any}
-use Rattle.std.specs.Ordering.{int_eq}
 use Rattle.std.proofs.Common.{arith, refl, ap, sym, subst, ◌∙◌, inl, inr}
 use Rattle.std.proofs.lemmas.Int.{ints, by_lt_z}
 use Rattle.std.proofs.lemmas.Bool.Decides.{Decides-int_eq}
@@ -19,10 +18,9 @@ use Rattle.edits.specs.declared.content.What.TheVariants.{AddStation, SetStation
 use Rattle.office_inputs.specs.Calendar.{calendar}
 use Rattle.office_inputs.specs.Stations.{StationRecord, station_of}
 use Rattle.office_inputs.specs.Touched.{is_filled, is_between_filled, in_reach, touched_by, between_readings, meets, most_gap_seconds, IsUsedSpan}
-use Rattle.office_inputs.specs.declared.touched.Touched.{Touched}
-use Rattle.office_inputs.specs.declared.touched.Touched.TheVariants.{Nothing, One, Between, Cells}
+use Rattle.office_inputs.specs.declared.touched.Touched.TheVariants.{One, Between}
 use Rattle.depend.specs.Compared.{IsCover, AreCompared}
-use Rattle.depend.proofs.CalendarLemmas.{calendar_any, calendar_any_none}
+use Rattle.office_inputs.proofs.DayLemmas.{calendar_any, calendar_any_none}
 
 -- the starts of days
 start_from : (text : List ℕ) (a b : ℤ) → IsZone text → first_day ≤ℤ a → b ≤ℤ calendar_end → a ≤ℤ b → day_start_of text a ≤ℤ day_start_of text b

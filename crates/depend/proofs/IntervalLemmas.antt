@@ -1,5 +1,5 @@
 -- No day outside the interval of an edit changes, kind by kind.
-use Rattle.std.specs.Prelude.{◌≡◌, ◌*◌, ◌≤◌, ℕ, Bool, true, false, not, cond, ◌&&◌, ◌||◌, List, [], ◌∷◌, All, ◌⊎◌, Option, Some, None, is_some, ℤ, pos, ◌+ℤ◌, ◌-ℤ◌, ◌≤ℤ◌, ◌<ℤ◌, int_le}
+use Rattle.std.specs.Prelude.{◌≡◌, ◌*◌, ◌≤◌, ℕ, Bool, true, false, cond, ◌&&◌, List, [], ◌∷◌, All, ◌⊎◌, Option, Some, None, is_some, ℤ, pos, ◌+ℤ◌, ◌-ℤ◌, ◌≤ℤ◌, ◌<ℤ◌, int_le}
 use Rattle.std.proofs.Common.{arith, refl, ap, sym, subst, ◌∙◌, inl, inr}
 use Rattle.std.proofs.lemmas.Int.{ints, by_lt_z}
 use Rattle.std.proofs.lemmas.List.Elements.{All-head, All-tail, All-cons, All-weaker}
@@ -12,7 +12,6 @@ use Rattle.rising.proofs.Selecting.{AllPairs-head, AllPairs-tail}
 use Rattle.readings.specs.Readings.{IsRising, put, put_all}
 use Rattle.readings.specs.Window.{window}
 use Rattle.readings.proofs.WindowLemmas.{far_leaves, put_rises}
-use Rattle.civil_days.specs.Starts.{IsZone}
 use Rattle.civil_days.proofs.RiseLemmas.{zone_steps}
 use Rattle.day_inputs.specs.DayInputs.{with_window, most_gap}
 use Rattle.day_inputs.specs.Equality.{same_inputs}
@@ -32,7 +31,7 @@ use Rattle.office_inputs.specs.Touched.{has_inputs, is_filled, is_between_filled
 use Rattle.office_inputs.specs.declared.limits.Limits.{Limits}
 use Rattle.office_inputs.proofs.KeepLemmas.{KeptTold, add_told, set_told, put_told}
 use Rattle.office_inputs.proofs.StationLemmas.{day_any}
-use Rattle.depend.proofs.CalendarLemmas.{calendar_any}
+use Rattle.office_inputs.proofs.DayLemmas.{calendar_any}
 
 -- a station that is found keeps to its ranges
 station_step : (s t : StationRecord) (o : Option StationRecord) (b : Bool) → IsStation s → cond b (Some s) o ≡ Some t → (o ≡ Some t → IsStation t) → IsStation t

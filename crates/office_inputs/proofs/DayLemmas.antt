@@ -11,13 +11,13 @@ pub record IsWithin (day : ℤ) (n : ℕ) (d : ℤ) : Type 0 where
   pub low : day ≤ℤ d
   pub high : d <ℤ (day +ℤ pos n)
 
-within_rest : (day : ℤ) (n : ℕ) (d : ℤ) → IsWithin (day +ℤ pos 1) n d → IsWithin day (suc n) d
+pub within_rest : (day : ℤ) (n : ℕ) (d : ℤ) → IsWithin (day +ℤ pos 1) n d → IsWithin day (suc n) d
 within_rest day n d h =
     let a = h.low in
     let b = h.high in
     record { low = omega (arith, ints); high = omega (arith, ints) }
 
-within_first : (day : ℤ) (n : ℕ) → IsWithin day (suc n) day
+pub within_first : (day : ℤ) (n : ℕ) → IsWithin day (suc n) day
 within_first day n = record { low = omega (arith, ints); high = omega (arith, ints) }
 
 pub is_within : (d : ℤ) → IsDay d → IsWithin (negsuc 25_566) 73_049 d

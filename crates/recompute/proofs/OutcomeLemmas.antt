@@ -37,12 +37,13 @@ published_where_awaited cells stations job h =
     by_cases (awaited_in cells job.site job.day) job.awaits (same_inputs job.inputs (inputs_of_day stations job.site job.day))
     (λ e. told_true job.inputs (inputs_of_day stations job.site job.day) (h e))
   where
-  other_edit : (edit awaits : ℕ) (same b : Bool) → (edit == awaits) ≡ b → (Some edit ≡ Some awaits → same ≡ true)
-      → (cond b (cond same Published Foreign) (Superseded edit) ≡ Published ↔ Some edit ≡ Some awaits) × (cond b (cond same Published Foreign) (Superseded edit) ≢ Foreign)
-  other_edit edit awaits true true e h = ((λ _. ap (λ n. Some n) ((Decides-eqb edit awaits).0 e), λ _. refl), λ k. (cc))
-  other_edit edit awaits false true e h = absurd (false≢true (h (ap (λ n. Some n) ((Decides-eqb edit awaits).0 e))))
-  other_edit edit awaits same false e h = ((λ k. (cc), λ k. absurd (false≢true (sym e ∙ (Decides-eqb edit awaits).1 (same_Some edit awaits k)))), λ k. (cc))
-  by_cases : (o : Option ℕ) (awaits : ℕ) (same : Bool) → (o ≡ Some awaits → same ≡ true)
-      → (outcome_by o awaits same ≡ Published ↔ o ≡ Some awaits) × (outcome_by o awaits same ≢ Foreign)
-  by_cases None awaits same h = ((λ k. (cc), λ k. (cc)), λ k. (cc))
-  by_cases (Some edit) awaits same h = other_edit edit awaits same (edit == awaits) refl h
+    other_edit : (edit awaits : ℕ) (same b : Bool) → (edit == awaits) ≡ b → (Some edit ≡ Some awaits → same ≡ true)
+        → (cond b (cond same Published Foreign) (Superseded edit) ≡ Published ↔ Some edit ≡ Some awaits) × (cond b (cond same Published Foreign) (Superseded edit) ≢ Foreign)
+    other_edit edit awaits true true e h = ((λ _. ap (λ n. Some n) ((Decides-eqb edit awaits).0 e), λ _. refl), λ k. (cc))
+    other_edit edit awaits false true e h = absurd (false≢true (h (ap (λ n. Some n) ((Decides-eqb edit awaits).0 e))))
+    other_edit edit awaits same false e h = ((λ k. (cc), λ k. absurd (false≢true (sym e ∙ (Decides-eqb edit awaits).1 (same_Some edit awaits k)))), λ k. (cc))
+
+    by_cases : (o : Option ℕ) (awaits : ℕ) (same : Bool) → (o ≡ Some awaits → same ≡ true)
+        → (outcome_by o awaits same ≡ Published ↔ o ≡ Some awaits) × (outcome_by o awaits same ≢ Foreign)
+    by_cases None awaits same h = ((λ k. (cc), λ k. (cc)), λ k. (cc))
+    by_cases (Some edit) awaits same h = other_edit edit awaits same (edit == awaits) refl h

@@ -72,10 +72,5 @@ fn make_job(inputs: &Inputs, waiting: &Waiting) -> Result<Job, NoMemory>
     ensures { IfOk result (λ job. job ≡ job_of (in_force inputs.now) waiting.now) }
 {
     let of_day = inputs.day_inputs(waiting.site, waiting.day)?;
-    Ok(Job::new(
-        waiting.site,
-        waiting.day,
-        waiting.awaits,
-        of_day,
-    ))
+    Ok(Job::new(waiting.site, waiting.day, waiting.awaits, of_day))
 }

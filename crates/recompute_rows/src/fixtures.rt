@@ -20,7 +20,13 @@ pub fn site(value: u64) -> Result<Site, Fail> {
 }
 
 /// Makes two days await an edit.
-pub fn mark(cells: &mut Cells, site: Site, first: Day, last: Day, edit: u64) -> Result<(), NoMemory> {
+pub fn mark(
+    cells: &mut Cells,
+    site: Site,
+    first: Day,
+    last: Day,
+    edit: u64,
+) -> Result<(), NoMemory> {
     let days = [first, last];
     cells.prepare(site, &days)?;
     if first < last && edit > 0 {

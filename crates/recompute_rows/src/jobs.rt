@@ -8,6 +8,7 @@ use std::test::Fail;
 
 /// 2024-01-05 and 2024-01-06.
 const FIFTH: i32 = 19_727;
+
 const SIXTH: i32 = 19_728;
 
 fn due(job: Option<Job>) -> Option<(Site, Day, u64)> {
@@ -37,8 +38,14 @@ fn a_later_edit_supersedes_both_jobs(rt: HostRuntime) -> Result<(), Fail> {
     let first = cells.claim(&inputs)?.ok_or("a job")?;
     let second = cells.claim(&inputs)?.ok_or("a job")?;
     mark(&mut cells, b, fifth, sixth, 5)?;
-    assert_eq!(rt; cells.publish(computed(first), &inputs), Publish::Superseded(5));
-    assert_eq!(rt; cells.publish(computed(second), &inputs), Publish::Superseded(5));
+    assert_eq!(rt;
+        cells.publish(computed(first), &inputs),
+        Publish::Superseded(5)
+    );
+    assert_eq!(rt;
+        cells.publish(computed(second), &inputs),
+        Publish::Superseded(5)
+    );
     assert_eq!(rt; cells.awaited(b, fifth), Some(5));
     assert_eq!(rt; due(cells.claim(&inputs)?), Some((b, fifth, 5)));
     Ok(())
@@ -53,7 +60,10 @@ fn a_look_takes_no_claim(rt: HostRuntime) -> Result<(), Fail> {
     let claimed = cells.claim(&inputs)?.ok_or("a job")?;
     let seen = cells.after(&inputs, None)?.ok_or("a job")?;
     assert_eq!(rt; seen.day(), fifth);
-    assert_eq!(rt; due(cells.after(&inputs, Some((b, fifth)))?), Some((b, sixth, 4)));
+    assert_eq!(rt;
+        due(cells.after(&inputs, Some((b, fifth)))?),
+        Some((b, sixth, 4))
+    );
     assert_eq!(rt; due(cells.after(&inputs, Some((b, sixth)))?), None);
     assert_eq!(rt; cells.publish(computed(seen), &inputs), Publish::Published);
     assert_eq!(rt; cells.publish(computed(claimed), &inputs), Publish::Settled);

@@ -32,7 +32,9 @@ fn fewer_digits_come_first(rt: HostRuntime) -> Result<(), Fail> {
     mark(&mut cells, short, day(3)?, day(4)?, 2)?;
     let first = cells.after(&inputs, None)?.ok_or("a job")?;
     assert_eq!(rt; first.site(), short);
-    let behind = cells.after(&inputs, Some((short, day(4)?)))?.ok_or("a job")?;
+    let behind = cells
+        .after(&inputs, Some((short, day(4)?)))?
+        .ok_or("a job")?;
     assert_eq!(rt; behind.site(), long);
     assert_eq!(rt; behind.day(), day(1)?);
     Ok(())

@@ -12,10 +12,10 @@ ghost use Rattle.streamoffice.specs.Answering.{Answered, Answers, Leaves, IsLawf
 ghost use Rattle.streamoffice.specs.Passing.{Passes};
 
 use devices::Disk;
+use first_records::What;
 use fixed_units::{Day, Micro, NoMemory, Second, Text};
 use http_api::{Ask, Reply, write_reply};
 use office::{Answer, Office, Refusal};
-use first_records::What;
 use std::alloc::Global;
 use wire::NO_MEMORY_REPLY;
 

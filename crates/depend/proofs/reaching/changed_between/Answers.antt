@@ -1,6 +1,6 @@
 -- Day after day is asked, from the first of the span to its last.
 use Rattle.std.specs.Prelude.{◌≡◌, not, ℤ, pos, ◌+ℤ◌, ◌≤ℤ◌, Bool}
-use Rattle.std.proofs.Common.{◌∙◌, ap, arith, to_z, of_z, w32}
+use Rattle.std.proofs.Common.{◌∙◌, arith, to_z, of_z, w32}
 use Rattle.std.proofs.lemmas.Int.{ints}
 use Rattle.edits.specs.declared.content.Edit.{Edit}
 use Rattle.office_inputs.specs.Changes.{keeps_day}

@@ -1,6 +1,6 @@
 -- A day farther away lies more than 20 hours from the time.
 use Rattle.std.specs.Prelude.{◌≡◌, ℤ, pos, ◌+ℤ◌, ◌-ℤ◌}
-use Rattle.std.proofs.Common.{arith, to_z, of_z, w32, ◌∙◌, ap, subst}
+use Rattle.std.proofs.Common.{arith, to_z, of_z, w32}
 use Rattle.std.proofs.lemmas.Int.{ints}
 use Rattle.fixed_units.specs.Quantities.{IsDay}
 use Rattle.depend.proofs.CoverLemmas.{near_cover, before_from, after_from}

@@ -6,7 +6,7 @@ ghost use Rattle.office_inputs.specs.Refusals.{refusal_of};
 ghost use Rattle.office_inputs.specs.Stations.{stations_after};
 
 use civil_days::{read_day, read_instant};
-use depend::{DayList, reach};
+use depend::{DayList, compared_days, reach};
 use edits::{By, Edit, Name, Ref, What};
 use fixed_units::{Day, Flag, Micro, NoMemory, Reading, RoundingArray, Site, Text};
 use office_inputs::{Inputs, Limits};
@@ -106,15 +106,38 @@ pub fn station(alloc: Global, readings: &[(&[u8], i64)]) -> Result<Inputs, Fail>
     Ok(inputs)
 }
 
-/// The days that an edit changes.
-pub fn reached(alloc: Global, inputs: &Inputs, edit: &Edit) -> Result<Vec<Day>, Fail> {
+/// Whether an edit changes exactly these days.
+pub fn changes(alloc: Global, inputs: &Inputs, edit: &Edit, texts: &[&[u8]]) -> Result<bool, Fail> {
     if inputs.refusal(edit).is_some() {
         return Err("the edit is not refused".into());
     }
-    match counted::<Brand>(alloc, inputs, edit, Blank::new(1)) {
-        Ok(days) => Ok(days.into_vec()),
+    match reached(alloc, inputs, edit) {
+        Ok(days) => Ok(are_days(days.as_slice(), texts)),
         Err(_) => Err("there is memory for the days".into()),
     }
+}
+
+/// Whether the days that are compared for an edit are those from this one to this one.
+pub fn compares(inputs: &Inputs, edit: &Edit, first: &[u8], last: &[u8]) -> bool {
+    match compared_days(inputs, edit) {
+        Some(span) => Some(span.0) == read_day(first) && Some(span.1) == read_day(last),
+        None => false,
+    }
+}
+
+/// Whether days are those of these texts.
+pub fn are_days(days: &[Day], texts: &[&[u8]]) -> bool {
+    days.len() == texts.len()
+        && days
+            .iter()
+            .zip(texts)
+            .all(|(day, text)| read_day(text) == Some(*day))
+}
+
+fn reached(alloc: Global, inputs: &Inputs, edit: &Edit) -> Result<DayList, NoMemory>
+    requires { refusal_of inputs.now.limits (in_force inputs.now) edit.now ≡ None }
+{
+    counted::<Brand>(alloc, inputs, edit, Blank::new(1))
 }
 
 fn counted<L: Ledger>(
@@ -130,9 +153,4 @@ fn counted<L: Ledger>(
 {
     let mut steps = Steps::<L>::new(blank);
     reach(alloc, inputs, edit, &mut steps)
-}
-
-/// The day of a text.
-pub fn day(text: &[u8]) -> Result<Day, Fail> {
-    Ok(read_day(text).ok_or("a day")?)
 }

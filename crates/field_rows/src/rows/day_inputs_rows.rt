@@ -12,65 +12,82 @@ use std::process::Abort;
 use std::sync::ledger::{Blank, Ledger};
 use steps::Steps;
 
-fn reading(rt: &impl Abort, at: i64, flag: Flag) -> Reading {
+// Readings of a foot, by their seconds and flags.
+const EARLY: (i64, Flag) = (-5, Flag::Usable);
+
+const FIRST: (i64, Flag) = (10, Flag::Usable);
+
+const USED: (i64, Flag) = (10, Flag::Affected);
+
+const WRONG: (i64, Flag) = (20, Flag::Erroneous);
+
+const LAST: (i64, Flag) = (20, Flag::Affected);
+
+const LATE: (i64, Flag) = (90_000, Flag::Usable);
+
+fn reading(rt: &impl Abort, listed: (i64, Flag)) -> Reading {
     Reading {
-        at: second(rt, at),
+        at: second(rt, listed.0),
         raw: micro(rt, 1_000_000),
-        flag,
+        flag: listed.1,
     }
 }
 
-fn inputs(rt: &impl Abort, alloc: Global, gap: u32, until: i64, window: &[Reading]) -> DayInputs {
+fn readings(rt: &impl Abort, alloc: Global, listed: &[(i64, Flag)]) -> Vec<Reading> {
+    let mut readings = Vec::new(alloc);
+    for one in listed {
+        readings
+            .push(reading(rt, *one))
+            .expect(rt, "memory for a reading");
+    }
+    readings
+}
+
+fn inputs(
+    rt: &impl Abort,
+    alloc: Global,
+    gap: u32,
+    until: i64,
+    listed: &[(i64, Flag)],
+) -> DayInputs {
     DayInputs::Day(DayParts {
         gap,
         stage_array: RoundingArray::STAGES,
         discharge_array: RoundingArray::STAGES,
         from: second(rt, 0),
         until: second(rt, until),
-        window: ReadingList::from_vec(Vec::from_slice(alloc, window).expect(
-            rt,
-            "memory for a window",
-        )),
+        window: ReadingList::from_vec(readings(rt, alloc, listed)),
     })
 }
 
-// Whether the inputs of a day with this gap tolerance, this end and this window are those of the day before.
+// Whether the inputs of a day with this gap tolerance, this end and this window are those of a day of 60 minutes, 86,400
+// seconds and two readings, either way round.
 fn compare(
     rt: &impl Abort,
     alloc: Global,
-    day: &DayInputs,
     gap: u32,
     until: i64,
-    window: &[Reading],
+    listed: &[(i64, Flag)],
     want: bool,
 ) {
-    let other = inputs(rt, alloc, gap, until, window);
-    same(rt, "one way", &are_same(day, &other), &want);
-    same(rt, "the other way", &are_same(&other, day), &want);
+    let day = inputs(rt, alloc, 60, 86_400, &[FIRST, LAST]);
+    let other = inputs(rt, alloc, gap, until, listed);
+    same(rt, "one way", &are_same(&day, &other), &want);
+    same(rt, "the other way", &are_same(&other, &day), &want);
 }
 
 #[test]
 fn equal_inputs(rt: HostRuntime) {
-    let alloc = rt.alloc();
-    let first = reading(&rt, 10, Flag::Usable);
-    let last = reading(&rt, 20, Flag::Affected);
-    let day = inputs(&rt, alloc, 60, 86_400, &[first, last]);
-    compare(&rt, alloc, &day, 60, 86_400, &[first, last], true);
-    compare(&rt, alloc, &day, 61, 86_400, &[first, last], false);
-    compare(&rt, alloc, &day, 60, 86_401, &[first, last], false);
-    compare(&rt, alloc, &day, 60, 86_400, &[first], false);
-    compare(&rt, alloc, &day, 60, 86_400, &[last, first], false);
+    compare(&rt, rt.alloc(), 60, 86_400, &[FIRST, LAST], true);
+    compare(&rt, rt.alloc(), 61, 86_400, &[FIRST, LAST], false);
+    compare(&rt, rt.alloc(), 60, 86_401, &[FIRST, LAST], false);
+    compare(&rt, rt.alloc(), 60, 86_400, &[FIRST], false);
+    compare(&rt, rt.alloc(), 60, 86_400, &[LAST, FIRST], false);
 }
 
 #[test]
 fn empty_inputs(rt: HostRuntime) {
-    let day = inputs(
-        &rt,
-        rt.alloc(),
-        60,
-        86_400,
-        &[reading(&rt, 10, Flag::Usable)],
-    );
+    let day = inputs(&rt, rt.alloc(), 60, 86_400, &[FIRST]);
     same(
         &rt,
         "both",
@@ -81,27 +98,37 @@ fn empty_inputs(rt: HostRuntime) {
 }
 
 // Whether a window whose readings of the day are these, between two neighbours, is a list.
-fn kept(rt: &impl Abort, inner: &[Reading], list: &[Reading], want: bool) {
+fn kept(rt: &impl Abort, alloc: Global, inner: &[(i64, Flag)], listed: &[(i64, Flag)], want: bool) {
+    let inner = readings(rt, alloc, inner);
+    let list = readings(rt, alloc, listed);
     let window = Window {
-        before: Some(reading(rt, -5, Flag::Usable)),
-        inner,
-        after: Some(reading(rt, 90_000, Flag::Usable)),
+        before: Some(reading(rt, EARLY)),
+        inner: inner.as_slice(),
+        after: Some(reading(rt, LATE)),
     };
-    same(rt, "window", &window_is(&window, list), &want);
+    same(rt, "window", &window_is(&window, list.as_slice()), &want);
 }
 
 #[test]
 fn kept_windows(rt: HostRuntime) {
-    let early = reading(&rt, -5, Flag::Usable);
-    let late = reading(&rt, 90_000, Flag::Usable);
-    let used = reading(&rt, 10, Flag::Affected);
-    let wrong = reading(&rt, 20, Flag::Erroneous);
-    kept(&rt, &[used, wrong], &[early, used, late], true);
-    kept(&rt, &[used, wrong], &[early, used, wrong, late], false);
-    kept(&rt, &[used, wrong], &[early, used], false);
-    kept(&rt, &[used, wrong], &[early, used, late, late], false);
-    kept(&rt, &[wrong], &[], true);
-    kept(&rt, &[wrong], &[early, late], false);
+    kept(&rt, rt.alloc(), &[USED, WRONG], &[EARLY, USED, LATE], true);
+    kept(
+        &rt,
+        rt.alloc(),
+        &[USED, WRONG],
+        &[EARLY, USED, WRONG, LATE],
+        false,
+    );
+    kept(&rt, rt.alloc(), &[USED, WRONG], &[EARLY, USED], false);
+    kept(
+        &rt,
+        rt.alloc(),
+        &[USED, WRONG],
+        &[EARLY, USED, LATE, LATE],
+        false,
+    );
+    kept(&rt, rt.alloc(), &[WRONG], &[], true);
+    kept(&rt, rt.alloc(), &[WRONG], &[EARLY, LATE], false);
 }
 
 // Two steps, counted.

@@ -1,10 +1,9 @@
 -- A day that is found among the pending ones awaits what is said of it.
-use Rattle.std.specs.Prelude.{◌≡◌, ℕ, zero, suc, ◌<◌, Bool, true, false, cond, List, [], ◌∷◌, ◌++◌, find, map, filter, All, AllPairs, Option, Some, None, option_and_then, nat_lt, ℤ, ◌<ℤ◌}
+use Rattle.std.specs.Prelude.{◌≡◌, ℕ, zero, suc, Bool, true, false, cond, List, [], ◌∷◌, ◌++◌, find, map, filter, Some, None, option_and_then, nat_lt, ℤ, ◌<ℤ◌}
 use Rattle.std.proofs.Common.{arith, refl, ap, sym, subst, ◌∙◌}
 use Rattle.std.proofs.lemmas.Bool.{false≢true}
 use Rattle.std.proofs.lemmas.Int.{ints}
-use Rattle.fixed_units.specs.Quantities.{SiteNumber}
-use Rattle.rising.specs.Lists.{IsRising, at}
+use Rattle.rising.specs.Lists.{IsRising}
 use Rattle.rising.proofs.Placing.{none_stands, passed_over, some_stands}
 use Rattle.rising.proofs.Parting.{IsAfter}
 use Rattle.rising.proofs.Selecting.{AllPairs-head, AllPairs-tail}

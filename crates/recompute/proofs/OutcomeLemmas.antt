@@ -11,8 +11,7 @@ use Rattle.office_inputs.specs.Stations.{StationRecord, inputs_of_day}
 use Rattle.day_cells.specs.KeptDays.{KeptDays}
 use Rattle.recompute.specs.Cells.{awaited_in}
 use Rattle.recompute.specs.Jobs.{DayJob, outcome_by, outcome_of}
-use Rattle.recompute.specs.declared.jobs.Publish.{Publish}
-use Rattle.recompute.specs.declared.jobs.Publish.TheVariants.{Settled, Superseded, Foreign, Published}
+use Rattle.recompute.specs.declared.jobs.Publish.TheVariants.{Superseded, Foreign, Published}
 
 pub outcome_same : (o : Option ℕ) (edit awaits : ℕ) (same : Bool) → o ≡ Some edit → edit ≡ awaits → outcome_by o awaits same ≡ cond same Published Foreign
 outcome_same o edit awaits same e f =

@@ -1,5 +1,5 @@
 -- Jobs, and what becomes of their publication.
-use Rattle.std.specs.Prelude.{◌≡◌, ℕ, Bool, ◌==◌, if◌then◌else◌, List, Option, Some, None, ℤ}
+use Rattle.std.specs.Prelude.{ℕ, Bool, ◌==◌, if◌then◌else◌, List, Option, Some, None, ℤ}
 use Rattle.fixed_units.specs.Quantities.{SiteNumber}
 use Rattle.day_inputs.specs.declared.day_inputs.DayInputs.{DayInputs}
 use Rattle.day_inputs.specs.Equality.{same_inputs}

@@ -1,10 +1,10 @@
-use Rattle.std.specs.Prelude.{◌≡◌, Bool, true, false, not, cond, Some}
+use Rattle.std.specs.Prelude.{◌≡◌, cond}
 use Rattle.std.proofs.Common.{ap, sym, ◌∙◌}
 use Rattle.day_inputs.specs.Equality.{same_inputs}
 use Rattle.office_inputs.specs.Kept.{in_force}
 use Rattle.office_inputs.specs.Stations.{inputs_of_day}
 use Rattle.recompute.specs.Cells.{awaited_in}
-use Rattle.recompute.specs.Jobs.{DayJob, outcome_of}
+use Rattle.recompute.specs.Jobs.{DayJob}
 use Rattle.recompute.specs.declared.jobs.Publish.TheVariants.{Foreign, Published}
 use Rattle.recompute.proofs.OutcomeLemmas.{outcome_same, told_false, told_true}
 use Rattle.recompute.proofs.cells.Cells.publish.Goals as goal

@@ -1,9 +1,9 @@
 //! What no clause says: that the grammar and the texts are the ones meant, by examples written by hand.
 
 use daily_values::DayValue;
+use first_api::{Ask, Denied, Reply, read_ask, reply_text, write_reply};
+use first_wire::Verb;
 use fixed_units::{Day, Micro, Second, Text};
-use http_api::{Ask, Denied, Reply, read_ask, reply_text, write_reply};
-use wire::Verb;
 
 /// To take the reading of this stamp and these millionths.
 fn put(at: i64, raw: i64) -> Option<Ask> {

@@ -1,7 +1,7 @@
 //! The heads of replies.
 
+use first_wire::{Kind, MALFORMED_REPLY, NO_MEMORY_REPLY, Verb, write_head};
 use fixed_units::Text;
-use wire::{Kind, MALFORMED_REPLY, NO_MEMORY_REPLY, Verb, write_head};
 
 /// A status, a body's type, what is allowed, a body's length, and the head that is due.
 const HEADS: [(u16, Kind, Option<Verb>, usize, &[u8]); 5] = [

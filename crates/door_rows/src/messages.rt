@@ -2,10 +2,10 @@
 ghost use Rattle.std.specs.Prelude.{◌<◌, ◌≤◌};
 
 use devices::MemorySource;
+use first_wire::{Incoming, Message, Verb};
 use fixed_units::{NoMemory, Text};
 use std::alloc::Global;
 use std::test::Fail;
-use wire::{Incoming, Message, Verb};
 
 const WHOLE: usize = 65_536;
 

@@ -4,20 +4,20 @@ use Rattle.devices.specs.declared.disks.Disk.{Ghosts}
 use Rattle.devices.specs.Faults.{Rose}
 use Rattle.first_records.specs.declared.edits.What.{What}
 use Rattle.first_records.specs.declared.edits.What.TheVariants.{PutReadings}
-use Rattle.http_api.specs.Replies.{edit_text, journal_full_text}
-use Rattle.http_api.specs.declared.asks.Ask.{Ask}
-use Rattle.http_api.specs.declared.asks.Ask.TheVariants.{Put}
-use Rattle.http_api.specs.declared.replies.Reply.TheVariants.{NoRoute}
-use Rattle.office.specs.Edits.{Edits, AfterFault}
-use Rattle.office.specs.History.{Event, accepted, doubt, after_edit, after_fault}
-use Rattle.office.specs.JournalOfEdits.{is_full, IsFull}
-use Rattle.office.specs.Stands.{Stands}
-use Rattle.office.specs.declared.offices.Office.{Office}
-use Rattle.office.specs.declared.offices.Refusal.{Refusal}
-use Rattle.office.specs.declared.offices.Refusal.TheVariants as refusals
-use Rattle.wire.specs.ReplyHead.{reply_bytes}
-use Rattle.wire.specs.declared.replies.Kind.TheVariants.{Json}
-use Rattle.wire.specs.declared.replies.TheConstants.{NO_MEMORY_REPLY}
+use Rattle.first_api.specs.Replies.{edit_text, journal_full_text}
+use Rattle.first_api.specs.declared.asks.Ask.{Ask}
+use Rattle.first_api.specs.declared.asks.Ask.TheVariants.{Put}
+use Rattle.first_api.specs.declared.replies.Reply.TheVariants.{NoRoute}
+use Rattle.first_office.specs.Edits.{Edits, AfterFault}
+use Rattle.first_office.specs.History.{Event, accepted, doubt, after_edit, after_fault}
+use Rattle.first_office.specs.JournalOfEdits.{is_full, IsFull}
+use Rattle.first_office.specs.Stands.{Stands}
+use Rattle.first_office.specs.declared.offices.Office.{Office}
+use Rattle.first_office.specs.declared.offices.Refusal.{Refusal}
+use Rattle.first_office.specs.declared.offices.Refusal.TheVariants as refusals
+use Rattle.first_wire.specs.ReplyHead.{reply_bytes}
+use Rattle.first_wire.specs.declared.replies.Kind.TheVariants.{Json}
+use Rattle.first_wire.specs.declared.replies.TheConstants.{NO_MEMORY_REPLY}
 use Rattle.streamoffice.specs.Answering.{Answered, Answers, Leaves, IsMade, IsRefused, told_bytes}
 use Rattle.streamoffice.specs.Output.{IsReply, IsLeft, reply_to, history_after, edit_reply, edit_by, fault_reply}
 use Rattle.streamoffice.specs.declared.answers.Told.{Told}

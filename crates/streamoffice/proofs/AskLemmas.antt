@@ -6,11 +6,11 @@ use Rattle.std.proofs.lemmas.Int.{ints}
 use Rattle.fixed_units.specs.Quantities.{IsWithin, IsStamp, IsStage, is_within, is_stamp, is_stage, first_stamp, last_stamp, most_stage}
 use Rattle.fixed_units.specs.Decimals.{decimal_of}
 use Rattle.fixed_units.specs.declared.decimals.Bad.{Bad}
-use Rattle.wire.specs.declared.messages.Verb.{Verb}
-use Rattle.wire.specs.declared.messages.Verb.TheVariants.{Get, Post, Other}
-use Rattle.http_api.specs.Asks.{ask_of, is_first, behind_first, is_slash, whole_number, day_in, stamp_in, stage_in, stage_by, reading_in, passing}
-use Rattle.http_api.specs.declared.asks.Ask.{Ask}
-use Rattle.http_api.specs.declared.asks.Ask.TheVariants.{Put, Turn, DayOf}
+use Rattle.first_wire.specs.declared.messages.Verb.{Verb}
+use Rattle.first_wire.specs.declared.messages.Verb.TheVariants.{Get, Post, Other}
+use Rattle.first_api.specs.Asks.{ask_of, is_first, behind_first, is_slash, whole_number, day_in, stamp_in, stage_in, stage_by, reading_in, passing}
+use Rattle.first_api.specs.declared.asks.Ask.{Ask}
+use Rattle.first_api.specs.declared.asks.Ask.TheVariants.{Put, Turn, DayOf}
 use Rattle.streamoffice.specs.Answering.{IsLawful}
 
 -- the test of a range, as its bounds

@@ -1,7 +1,7 @@
 -- Faults that join a history have causes.
 use Rattle.std.proofs.Common.{◌≡◌, ℕ, ◌+◌, ◌≤◌, List, [], ◌∷◌, ◌++◌, Option, Some, None, Bool, ℤ, refl, ap, arith}
 use Rattle.first_records.specs.declared.edits.What.{What}
-use Rattle.office.specs.History.{Event, Accepted, Published, Faulted, faulted_count, reopen, after_turn, after_publication, next_day}
+use Rattle.first_office.specs.History.{Event, Accepted, Published, Faulted, faulted_count, reopen, after_turn, after_publication, next_day}
 use Rattle.devices.specs.Faults.{Rose}
 use Rattle.streamoffice.specs.Causes.{HaveCauses}
 

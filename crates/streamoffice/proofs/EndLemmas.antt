@@ -1,11 +1,11 @@
 -- How a session ends.
 use Rattle.std.proofs.Common.{◌≡◌, ℕ, ◌+◌, ◌^◌, ◌≤◌, true, false, List, ◌++◌, length, Option, Some, None, IfSome, IsSomeAnd, refl, sym, ◌∙◌, ap, inr, append_assoc, length-append, arith}
 use Rattle.std.specs.List.{concat}
-use Rattle.office.specs.History.{Event}
-use Rattle.wire.specs.declared.messages.Message.{Message}
-use Rattle.wire.specs.declared.messages.Message.TheVariants as messages
-use Rattle.wire.specs.declared.replies.TheConstants.{MALFORMED_REPLY}
-use Rattle.wire.specs.Incoming.{Held, IsNext, Answers, IsNeeded, IsTakenAsNeeded, IsWithinLimit}
+use Rattle.first_office.specs.History.{Event}
+use Rattle.first_wire.specs.declared.messages.Message.{Message}
+use Rattle.first_wire.specs.declared.messages.Message.TheVariants as messages
+use Rattle.first_wire.specs.declared.replies.TheConstants.{MALFORMED_REPLY}
+use Rattle.first_wire.specs.Incoming.{Held, IsNext, Answers, IsNeeded, IsTakenAsNeeded, IsWithinLimit}
 use Rattle.devices.specs.Sinks.{IsCutShort, AreWritten}
 use Rattle.streamoffice.specs.Served.{EndsBy, StopsWithin, Serves}
 use Rattle.streamoffice.specs.Session.{IsServed, IsReadTo, IsUnderWay}

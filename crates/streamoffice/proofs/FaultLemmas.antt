@@ -4,15 +4,15 @@ use Rattle.std.specs.Fmt.{digits}
 use Rattle.std.proofs.lemmas.List.{reverse-append}
 use Rattle.first_records.specs.declared.edits.What.{What}
 use Rattle.first_records.specs.declared.edits.What.TheVariants.{PutReadings}
-use Rattle.http_api.specs.Replies.{edit_text, journal_full_text, no_route_text}
-use Rattle.http_api.specs.declared.asks.Ask.{Ask}
-use Rattle.http_api.specs.declared.asks.Ask.TheVariants.{Put, Turn, DayOf}
-use Rattle.office.specs.History.{Event, Accepted, Published, Faulted, accepted, doubt, doubt_back, faulted_count, reopen, answer_at}
-use Rattle.office.specs.JournalOfEdits.{is_full}
-use Rattle.wire.specs.Messages.{Request}
-use Rattle.wire.specs.ReplyHead.{reply_bytes}
-use Rattle.wire.specs.declared.replies.Kind.TheVariants.{Json}
-use Rattle.wire.specs.declared.replies.TheConstants.{NO_MEMORY_REPLY}
+use Rattle.first_api.specs.Replies.{edit_text, journal_full_text, no_route_text}
+use Rattle.first_api.specs.declared.asks.Ask.{Ask}
+use Rattle.first_api.specs.declared.asks.Ask.TheVariants.{Put, Turn, DayOf}
+use Rattle.first_office.specs.History.{Event, Accepted, Published, Faulted, accepted, doubt, doubt_back, faulted_count, reopen, answer_at}
+use Rattle.first_office.specs.JournalOfEdits.{is_full}
+use Rattle.first_wire.specs.Messages.{Request}
+use Rattle.first_wire.specs.ReplyHead.{reply_bytes}
+use Rattle.first_wire.specs.declared.replies.Kind.TheVariants.{Json}
+use Rattle.first_wire.specs.declared.replies.TheConstants.{NO_MEMORY_REPLY}
 use Rattle.streamoffice.specs.Laws.{NoFaultIsTold, ToldNoFault}
 use Rattle.streamoffice.specs.Output.{asked, edit_reply, reply_to, fault_reply, turn_text, answer_text, IsReply, AreReplies}
 use Rattle.streamoffice.proofs.CauseLemmas.{count_reopened}

@@ -3,13 +3,13 @@ use Rattle.std.proofs.Common.{◌≡◌, ◌≢◌, ℕ, ◌+◌, ◌≤◌, Boo
 use Rattle.std.specs.List.{concat}
 use Rattle.first_records.specs.declared.edits.What.{What}
 use Rattle.first_records.specs.declared.edits.What.TheVariants.{PutReadings}
-use Rattle.office.specs.History.{Event, doubt, faulted_count}
-use Rattle.office.specs.JournalOfEdits.{is_full}
-use Rattle.http_api.specs.declared.asks.Ask.{Ask}
-use Rattle.http_api.specs.declared.asks.Ask.TheVariants.{Put, Turn, DayOf}
-use Rattle.wire.specs.Messages.{Request, request_of, IsRequest, AreRequests}
-use Rattle.wire.proofs.HeadLemmas.{request_unique_in, blank_no_request, malformed_no_request}
-use Rattle.wire.specs.declared.replies.TheConstants.{NO_MEMORY_REPLY}
+use Rattle.first_office.specs.History.{Event, doubt, faulted_count}
+use Rattle.first_office.specs.JournalOfEdits.{is_full}
+use Rattle.first_api.specs.declared.asks.Ask.{Ask}
+use Rattle.first_api.specs.declared.asks.Ask.TheVariants.{Put, Turn, DayOf}
+use Rattle.first_wire.specs.Messages.{Request, request_of, IsRequest, AreRequests}
+use Rattle.first_wire.proofs.HeadLemmas.{request_unique_in, blank_no_request, malformed_no_request}
+use Rattle.first_wire.specs.declared.replies.TheConstants.{NO_MEMORY_REPLY}
 use Rattle.httparse.specs.Grammar.{RequestHead}
 use Rattle.streamoffice.specs.Laws.{RepliesAreOutput, IsLast, ReadingIsUnique}
 use Rattle.streamoffice.specs.Output.{asked, reply_to, history_after, edit_by, IsReply, IsFaulted, AreReplies, output}

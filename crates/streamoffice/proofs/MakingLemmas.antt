@@ -5,12 +5,12 @@ use Rattle.devices.specs.Cabinets.{Place, Free, Kept, Out, IsEmptyDisk, IsGiven,
 use Rattle.devices.specs.Disks.{NothingNew}
 use Rattle.devices.specs.Faults.{Rose}
 use Rattle.devices.specs.declared.cabinets.Opened.TheVariants as opens
-use Rattle.journal.proofs.Moments.{widened}
-use Rattle.journal.proofs.Stops.{whole}
-use Rattle.journal.specs.Init.{InitAnswers, InitLeaves, IsLeftByInit}
-use Rattle.journal.specs.Moments.{LeavesOnly}
-use Rattle.journal.specs.declared.making.InitFault.{InitFault}
-use Rattle.journal.specs.declared.making.InitFault.TheVariants as making
+use Rattle.first_journal.proofs.Moments.{widened}
+use Rattle.first_journal.proofs.Stops.{whole}
+use Rattle.first_journal.specs.Init.{InitAnswers, InitLeaves, IsLeftByInit}
+use Rattle.first_journal.specs.Moments.{LeavesOnly}
+use Rattle.first_journal.specs.declared.making.InitFault.{InitFault}
+use Rattle.first_journal.specs.declared.making.InitFault.TheVariants as making
 use Rattle.streamoffice.specs.Making.{MakesOn, IsLeftByMaking, MakesAt, Makes, IsMakingEnd}
 use Rattle.streamoffice.specs.RunEnds.{making_end}
 use Rattle.streamoffice.specs.declared.commands.RunEnd.{RunEnd}

@@ -2,12 +2,12 @@
 use Rattle.std.proofs.Common.{◌≡◌, ℕ, List, [], ◌∷◌, ◌++◌, Option, Some, None, refl, sym, ◌∙◌, ap, subst, inl, inr, append_assoc, append-nil}
 use Rattle.std.specs.List.{concat}
 use Rattle.httparse.specs.Grammar.{RequestHead}
-use Rattle.office.specs.History.{Event, faulted_count}
-use Rattle.office.specs.Stops.{Extends}
-use Rattle.office.proofs.StopsLemmas.{extends_none, extends_turn}
-use Rattle.http_api.specs.declared.asks.Ask.{Ask}
-use Rattle.http_api.specs.declared.asks.Ask.TheVariants.{Put, Turn, DayOf}
-use Rattle.wire.specs.Messages.{Request, request_of, IsRequest, AreRequests}
+use Rattle.first_office.specs.History.{Event, faulted_count}
+use Rattle.first_office.specs.Stops.{Extends}
+use Rattle.first_office.proofs.StopsLemmas.{extends_none, extends_turn}
+use Rattle.first_api.specs.declared.asks.Ask.{Ask}
+use Rattle.first_api.specs.declared.asks.Ask.TheVariants.{Put, Turn, DayOf}
+use Rattle.first_wire.specs.Messages.{Request, request_of, IsRequest, AreRequests}
 use Rattle.streamoffice.specs.Output.{asked, IsReply, IsLeft, AreReplies}
 use Rattle.streamoffice.proofs.CauseLemmas.{count_turn}
 

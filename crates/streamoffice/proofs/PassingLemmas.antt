@@ -3,16 +3,16 @@ use Rattle.std.proofs.Common.{◌≡◌, ℕ, ◌≤◌, Bool, true, List, [], �
 use Rattle.devices.specs.declared.disks.Disk.{Ghosts}
 use Rattle.devices.specs.Faults.{Rose}
 use Rattle.first_records.specs.declared.edits.What.{What}
-use Rattle.journal.proofs.Moments.{joined, widened}
-use Rattle.journal.specs.Moments.{LeavesOnly}
-use Rattle.journal.specs.declared.keeping.Journal.{Journal}
-use Rattle.office.specs.Edits.{in_flight}
-use Rattle.office.specs.History.{Event, Accepted, Faulted, accepted, doubt, after_edit, after_fault, faulted_count}
-use Rattle.office.specs.JournalOfEdits.{StandsForEdits}
-use Rattle.office.specs.Stands.{Stands}
-use Rattle.office.specs.Stops.{Extends, IsLeftBetween}
-use Rattle.office.specs.declared.offices.Office.{Office}
-use Rattle.office.proofs.StopsLemmas.{extends_none, extends_more, left_edit, left_fault, left_doubted, left_longer, left_earlier, leaves_now}
+use Rattle.first_journal.proofs.Moments.{joined, widened}
+use Rattle.first_journal.specs.Moments.{LeavesOnly}
+use Rattle.first_journal.specs.declared.keeping.Journal.{Journal}
+use Rattle.first_office.specs.Edits.{in_flight}
+use Rattle.first_office.specs.History.{Event, Accepted, Faulted, accepted, doubt, after_edit, after_fault, faulted_count}
+use Rattle.first_office.specs.JournalOfEdits.{StandsForEdits}
+use Rattle.first_office.specs.Stands.{Stands}
+use Rattle.first_office.specs.Stops.{Extends, IsLeftBetween}
+use Rattle.first_office.specs.declared.offices.Office.{Office}
+use Rattle.first_office.proofs.StopsLemmas.{extends_none, extends_more, left_edit, left_fault, left_doubted, left_longer, left_earlier, leaves_now}
 use Rattle.streamoffice.specs.Passing.{Passes}
 use Rattle.streamoffice.proofs.CauseLemmas.{causes_more, causes_none, causes_one, count_accepted, count_faulted}
 

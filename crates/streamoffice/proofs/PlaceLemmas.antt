@@ -6,7 +6,7 @@ use Rattle.devices.specs.Cabinets.{Place, Free, Kept, Out, OthersStay, AllStay, 
 use Rattle.devices.specs.Failures.{one_more}
 use Rattle.devices.specs.Faults.{Rose}
 use Rattle.devices.specs.declared.cabinets.Opened.TheVariants as opens
-use Rattle.journal.specs.Moments.{LeavesOnly}
+use Rattle.first_journal.specs.Moments.{LeavesOnly}
 
 -- a disk that was given leaves its place
 pub taken_out : {D : Type 0} (g : Ghosts D)

@@ -7,25 +7,25 @@ use Rattle.devices.specs.Disks.{IsUnchanged}
 use Rattle.devices.specs.Faults.{Rose}
 use Rattle.devices.specs.declared.cabinets.Opened.TheVariants as opens
 use Rattle.first_records.specs.declared.edits.What.{What}
-use Rattle.journal.proofs.Moments.{started, joined}
-use Rattle.journal.specs.JournalBytes.{HasHeader, IsDamagedAt}
-use Rattle.journal.specs.Moments.{LeavesOnly, SyncsFirst, IsContent}
-use Rattle.journal.specs.declared.opening.OpenFault.{OpenFault}
-use Rattle.journal.specs.declared.opening.OpenFault.TheVariants as opening
-use Rattle.office.specs.History.{Event, accepted, doubt, reopen, faulted_count}
-use Rattle.office.specs.JournalOfEdits.{IsJournalOfEdits, StandsForEdits}
-use Rattle.office.specs.Opened.{IsNotOpened}
-use Rattle.office.specs.Stands.{Stands, HoldsEdits}
-use Rattle.office.specs.Stops.{Extends, IsLeftBetween}
-use Rattle.office.specs.declared.offices.Office.{Office}
-use Rattle.office.proofs.HistoryLemmas.{accepted-reopen, doubt-reopen}
-use Rattle.office.proofs.StandsLemmas.{holds_now, holds_images}
-use Rattle.office.proofs.StopsLemmas.{left_now, left_longer}
+use Rattle.first_journal.proofs.Moments.{started, joined}
+use Rattle.first_journal.specs.JournalBytes.{HasHeader, IsDamagedAt}
+use Rattle.first_journal.specs.Moments.{LeavesOnly, SyncsFirst, IsContent}
+use Rattle.first_journal.specs.declared.opening.OpenFault.{OpenFault}
+use Rattle.first_journal.specs.declared.opening.OpenFault.TheVariants as opening
+use Rattle.first_office.specs.History.{Event, accepted, doubt, reopen, faulted_count}
+use Rattle.first_office.specs.JournalOfEdits.{IsJournalOfEdits, StandsForEdits}
+use Rattle.first_office.specs.Opened.{IsNotOpened}
+use Rattle.first_office.specs.Stands.{Stands, HoldsEdits}
+use Rattle.first_office.specs.Stops.{Extends, IsLeftBetween}
+use Rattle.first_office.specs.declared.offices.Office.{Office}
+use Rattle.first_office.proofs.HistoryLemmas.{accepted-reopen, doubt-reopen}
+use Rattle.first_office.proofs.StandsLemmas.{holds_now, holds_images}
+use Rattle.first_office.proofs.StopsLemmas.{left_now, left_longer}
 use Rattle.streamoffice.specs.Causes.{RoseBy, HaveCauses}
 use Rattle.streamoffice.specs.Passing.{Passes}
 use Rattle.streamoffice.specs.Places.{HasKept, IfKept, IsLeftAlone, HasTheSame}
 use Rattle.streamoffice.specs.RunEnds.{opening_end}
-use Rattle.office.specs.declared.limits.TheConstants.{USUAL_JOURNAL_BYTES}
+use Rattle.first_office.specs.declared.limits.TheConstants.{USUAL_JOURNAL_BYTES}
 use Rattle.streamoffice.specs.Serving.{IsLeftOn, Carries, ServesDisk, CarriesAt, StaysWith, ServesUnder}
 use Rattle.streamoffice.specs.Session.{IsServed}
 use Rattle.streamoffice.specs.declared.sessions.SessionEnd.{SessionEnd}

@@ -2,17 +2,17 @@
 use Rattle.std.proofs.Common.{◌≡◌, ℕ, ◌+◌, ◌^◌, ◌≤◌, Bool, if◌then◌else◌, true, false, List, [], ◌∷◌, ◌++◌, length, Option, Some, None, IfSome, IsSomeAnd, refl, sym, ◌∙◌, ap, subst, inl, inr, append-nil, length-append, arith}
 use Rattle.std.specs.List.{concat}
 use Rattle.devices.specs.declared.disks.Disk.{Ghosts}
-use Rattle.office.specs.History.{Event}
-use Rattle.http_api.specs.Asks.{ask_of}
-use Rattle.http_api.specs.declared.asks.Ask.{Ask}
+use Rattle.first_office.specs.History.{Event}
+use Rattle.first_api.specs.Asks.{ask_of}
+use Rattle.first_api.specs.declared.asks.Ask.{Ask}
 use Rattle.httparse.specs.Grammar.{RequestHead, print_request}
-use Rattle.wire.specs.declared.messages.Verb.{Verb}
-use Rattle.wire.specs.declared.messages.Verb.TheVariants.{Other}
-use Rattle.wire.specs.declared.messages.Message.TheVariants as messages
-use Rattle.wire.specs.declared.replies.TheConstants.{NO_MEMORY_REPLY}
-use Rattle.wire.specs.Incoming.{Held, taken, Answers}
-use Rattle.wire.specs.Incoming as incoming
-use Rattle.wire.specs.Messages.{Request, request_of}
+use Rattle.first_wire.specs.declared.messages.Verb.{Verb}
+use Rattle.first_wire.specs.declared.messages.Verb.TheVariants.{Other}
+use Rattle.first_wire.specs.declared.messages.Message.TheVariants as messages
+use Rattle.first_wire.specs.declared.replies.TheConstants.{NO_MEMORY_REPLY}
+use Rattle.first_wire.specs.Incoming.{Held, taken, Answers}
+use Rattle.first_wire.specs.Incoming as incoming
+use Rattle.first_wire.specs.Messages.{Request, request_of}
 use Rattle.streamoffice.specs.Answering.{Answered}
 use Rattle.streamoffice.specs.Output.{asked, IsReply, AreReplies}
 use Rattle.streamoffice.specs.Passing.{Passes}

@@ -3,13 +3,13 @@ use Rattle.std.proofs.Common.{◌≡◌, ◌≢◌, ◌⊎◌, ℕ, ◌+◌, ◌
 use Rattle.devices.specs.declared.disks.Disk.{Ghosts}
 use Rattle.devices.specs.Cabinets.{Place, Free, Kept, Out}
 use Rattle.devices.specs.Faults.{Rose}
-use Rattle.office.specs.History.{Event, reopen}
-use Rattle.journal.specs.JournalBytes.{HasHeader, IsDamagedAt, IsTaken, IsForeign}
+use Rattle.first_office.specs.History.{Event, reopen}
+use Rattle.first_journal.specs.JournalBytes.{HasHeader, IsDamagedAt, IsTaken, IsForeign}
 use Rattle.streamoffice.specs.Endings.{session_status, status_of}
 use Rattle.streamoffice.specs.Making.{MakesOn, MakesAt, Makes, IsMakingEnd}
 use Rattle.streamoffice.specs.Places.{HasKept, IfKept, bytes_found, images_found}
 use Rattle.streamoffice.specs.RunEnds.{IsEarly, RunCause}
-use Rattle.office.specs.declared.limits.TheConstants.{USUAL_JOURNAL_BYTES}
+use Rattle.first_office.specs.declared.limits.TheConstants.{USUAL_JOURNAL_BYTES}
 use Rattle.streamoffice.specs.Serving.{ServesUnder, StaysWith}
 use Rattle.streamoffice.specs.Served.{Serves}
 use Rattle.streamoffice.specs.Session.{HasCause, IsServed}

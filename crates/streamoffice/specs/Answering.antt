@@ -1,16 +1,16 @@
 -- What an ask comes to.
 use Rattle.std.specs.Prelude.{◌≡◌, ◌⊎◌, ℕ, List, Option, Some, None, ⊤}
 use Rattle.fixed_units.specs.Quantities.{IsStamp, IsStage}
-use Rattle.office.specs.History.{Event}
-use Rattle.office.specs.declared.offices.Refusal.{Refusal}
-use Rattle.office.specs.declared.offices.Refusal.TheVariants as refusals
-use Rattle.wire.specs.ReplyHead.{reply_bytes}
-use Rattle.wire.specs.declared.replies.Kind.TheVariants.{Json}
-use Rattle.wire.specs.declared.replies.TheConstants.{NO_MEMORY_REPLY}
-use Rattle.http_api.specs.Replies.{reply_body, reply_status, journal_full_text}
-use Rattle.http_api.specs.declared.asks.Ask.{Ask}
-use Rattle.http_api.specs.declared.asks.Ask.TheVariants.{Put, Turn, DayOf}
-use Rattle.http_api.specs.declared.replies.Reply.{Reply}
+use Rattle.first_office.specs.History.{Event}
+use Rattle.first_office.specs.declared.offices.Refusal.{Refusal}
+use Rattle.first_office.specs.declared.offices.Refusal.TheVariants as refusals
+use Rattle.first_wire.specs.ReplyHead.{reply_bytes}
+use Rattle.first_wire.specs.declared.replies.Kind.TheVariants.{Json}
+use Rattle.first_wire.specs.declared.replies.TheConstants.{NO_MEMORY_REPLY}
+use Rattle.first_api.specs.Replies.{reply_body, reply_status, journal_full_text}
+use Rattle.first_api.specs.declared.asks.Ask.{Ask}
+use Rattle.first_api.specs.declared.asks.Ask.TheVariants.{Put, Turn, DayOf}
+use Rattle.first_api.specs.declared.replies.Reply.{Reply}
 use Rattle.streamoffice.specs.Output.{IsReply, IsLeft, reply_to, history_after, fault_reply}
 use Rattle.streamoffice.specs.declared.answers.Told.{Told}
 use Rattle.streamoffice.specs.declared.answers.Told.TheVariants as told

@@ -1,6 +1,6 @@
 -- Faults of the journal have causes: the count of its disk rose.
 use Rattle.std.specs.Prelude.{ℕ, ◌+◌, ◌-◌, ◌^◌, ◌≤◌, min, List}
-use Rattle.office.specs.History.{Event, faulted_count}
+use Rattle.first_office.specs.History.{Event, faulted_count}
 
 -- the count of faults rose by so many, or stands at its type's end
 abbrev pub RoseBy : ℕ → ℕ → ℕ → Type 0

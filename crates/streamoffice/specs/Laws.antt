@@ -2,9 +2,9 @@
 use Rattle.std.specs.Prelude.{◌≡◌, ◌≢◌, ◌⊎◌, ℕ, Bool, true, List}
 use Rattle.std.specs.List.{concat, AllByRecursion}
 use Rattle.first_records.specs.declared.edits.What.{What}
-use Rattle.office.specs.History.{Event, faulted_count, reopen}
-use Rattle.wire.specs.Messages.{Request, AreRequests, IsMalformed, is_blank}
-use Rattle.wire.specs.declared.replies.TheConstants.{NO_MEMORY_REPLY}
+use Rattle.first_office.specs.History.{Event, faulted_count, reopen}
+use Rattle.first_wire.specs.Messages.{Request, AreRequests, IsMalformed, is_blank}
+use Rattle.first_wire.specs.declared.replies.TheConstants.{NO_MEMORY_REPLY}
 use Rattle.streamoffice.specs.Output.{AreReplies, fault_reply, output}
 
 -- no reply is that of want of memory

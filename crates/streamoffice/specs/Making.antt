@@ -3,10 +3,10 @@ use Rattle.std.specs.Prelude.{◌≡◌, ◌⊎◌, ℕ, List, Option, Some, IfS
 use Rattle.devices.specs.declared.disks.Disk.{Ghosts}
 use Rattle.devices.specs.Cabinets.{Place, Free, Kept, Out, OthersStay}
 use Rattle.devices.specs.Faults.{Rose}
-use Rattle.journal.specs.Init.{InitAnswers, InitLeaves, IsLeftByInit}
-use Rattle.journal.specs.Moments.{LeavesOnly}
-use Rattle.journal.specs.declared.making.InitFault.{InitFault}
-use Rattle.journal.specs.declared.making.InitFault.TheVariants as making
+use Rattle.first_journal.specs.Init.{InitAnswers, InitLeaves, IsLeftByInit}
+use Rattle.first_journal.specs.Moments.{LeavesOnly}
+use Rattle.first_journal.specs.declared.making.InitFault.{InitFault}
+use Rattle.first_journal.specs.declared.making.InitFault.TheVariants as making
 use Rattle.streamoffice.specs.Places.{HasKept, bytes_found, images_found}
 use Rattle.streamoffice.specs.declared.commands.RunEnd.{RunEnd}
 use Rattle.streamoffice.specs.declared.commands.RunEnd.TheVariants.{Made, Served, Exists, DiskFault, NotAJournal, Damaged, NoMemory}

@@ -2,16 +2,16 @@
 use Rattle.std.specs.Prelude.{◌≡◌, ℕ, ◌+◌, Bool, true, false, ◌⊎◌, List, [], ◌∷◌, ◌++◌, length, Option, Some, None, option_to_list}
 use Rattle.first_records.specs.declared.edits.What.{What}
 use Rattle.first_records.specs.declared.edits.What.TheVariants.{PutReadings}
-use Rattle.office.specs.History.{Event, accepted, doubt, pending_days, next_day, after_edit, after_fault, after_turn, DayAnswer, Pending, Computed, answer_at}
-use Rattle.office.specs.JournalOfEdits.{is_full, IsFull}
-use Rattle.http_api.specs.Asks.{ask_of}
-use Rattle.http_api.specs.Replies.{edit_text, turned_text, pending_text, value_text, no_route_text, journal_full_text, journal_fault_text}
-use Rattle.http_api.specs.declared.asks.Ask.{Ask}
-use Rattle.http_api.specs.declared.asks.Ask.TheVariants.{Put, Turn, DayOf}
-use Rattle.wire.specs.Messages.{Request}
-use Rattle.wire.specs.ReplyHead.{reply_bytes}
-use Rattle.wire.specs.declared.replies.Kind.TheVariants.{Json}
-use Rattle.wire.specs.declared.replies.TheConstants.{NO_MEMORY_REPLY}
+use Rattle.first_office.specs.History.{Event, accepted, doubt, pending_days, next_day, after_edit, after_fault, after_turn, DayAnswer, Pending, Computed, answer_at}
+use Rattle.first_office.specs.JournalOfEdits.{is_full, IsFull}
+use Rattle.first_api.specs.Asks.{ask_of}
+use Rattle.first_api.specs.Replies.{edit_text, turned_text, pending_text, value_text, no_route_text, journal_full_text, journal_fault_text}
+use Rattle.first_api.specs.declared.asks.Ask.{Ask}
+use Rattle.first_api.specs.declared.asks.Ask.TheVariants.{Put, Turn, DayOf}
+use Rattle.first_wire.specs.Messages.{Request}
+use Rattle.first_wire.specs.ReplyHead.{reply_bytes}
+use Rattle.first_wire.specs.declared.replies.Kind.TheVariants.{Json}
+use Rattle.first_wire.specs.declared.replies.TheConstants.{NO_MEMORY_REPLY}
 
 -- what a request asks, or nothing where it has no route
 abbrev pub asked : Request → Option Ask

@@ -1,9 +1,9 @@
 -- What passes in the office while asks are answered.
 use Rattle.std.specs.Prelude.{◌≡◌, Bool, true, List}
 use Rattle.devices.specs.declared.disks.Disk.{Ghosts}
-use Rattle.journal.specs.Moments.{LeavesOnly}
-use Rattle.office.specs.History.{Event}
-use Rattle.office.specs.Stops.{Extends, IsLeftBetween}
+use Rattle.first_journal.specs.Moments.{LeavesOnly}
+use Rattle.first_office.specs.History.{Event}
+use Rattle.first_office.specs.Stops.{Extends, IsLeftBetween}
 use Rattle.streamoffice.specs.Causes.{HaveCauses}
 
 -- The history has gone on from these events to those, and the faults that joined it have their causes. Where the disk tells

@@ -3,7 +3,7 @@ use Rattle.std.specs.Prelude.{◌≡◌, ℕ, List, [], Option, Some, ⊤}
 use Rattle.devices.specs.declared.disks.Disk.{Ghosts}
 use Rattle.devices.specs.Cabinets.{Place, Free, Kept, Out}
 use Rattle.devices.specs.Disks.{IsUnchanged, NothingNew}
-use Rattle.journal.specs.Moments.{LeavesOnly}
+use Rattle.first_journal.specs.Moments.{LeavesOnly}
 
 -- a disk is under the name that has P
 abbrev pub HasKept : {D : Type 0} → (D → Type 0) → Place D → Type 0

@@ -1,9 +1,9 @@
 -- The ends of runs, and their causes.
 use Rattle.std.specs.Prelude.{ℕ, Result, Ok, Err, ⊤}
-use Rattle.journal.specs.declared.making.InitFault.{InitFault}
-use Rattle.journal.specs.declared.making.InitFault.TheVariants as making
-use Rattle.journal.specs.declared.opening.OpenFault.{OpenFault}
-use Rattle.journal.specs.declared.opening.OpenFault.TheVariants as opening
+use Rattle.first_journal.specs.declared.making.InitFault.{InitFault}
+use Rattle.first_journal.specs.declared.making.InitFault.TheVariants as making
+use Rattle.first_journal.specs.declared.opening.OpenFault.{OpenFault}
+use Rattle.first_journal.specs.declared.opening.OpenFault.TheVariants as opening
 use Rattle.streamoffice.specs.Session.{HasCause}
 use Rattle.streamoffice.specs.declared.sessions.SessionEnd.TheVariants as sessions
 use Rattle.streamoffice.specs.declared.commands.RunEnd.{RunEnd}

@@ -2,11 +2,11 @@
 use Rattle.std.specs.Prelude.{◌≡◌, ◌⊎◌, ℕ, ◌+◌, ◌≤◌, true, List, [], ◌∷◌, ◌++◌, length}
 use Rattle.std.specs.List.{concat}
 use Rattle.devices.specs.Sinks.{IsCutShort}
-use Rattle.office.specs.History.{Event}
-use Rattle.wire.specs.Incoming.{IsUnread, IsNeeded}
-use Rattle.wire.specs.Messages.{Request, AreRequests, IsMalformed, is_blank}
-use Rattle.wire.specs.declared.limits.TheConstants.{BLOCK_BYTES, STREAM_BYTES}
-use Rattle.wire.specs.declared.replies.TheConstants.{MALFORMED_REPLY}
+use Rattle.first_office.specs.History.{Event}
+use Rattle.first_wire.specs.Incoming.{IsUnread, IsNeeded}
+use Rattle.first_wire.specs.Messages.{Request, AreRequests, IsMalformed, is_blank}
+use Rattle.first_wire.specs.declared.limits.TheConstants.{BLOCK_BYTES, STREAM_BYTES}
+use Rattle.first_wire.specs.declared.replies.TheConstants.{MALFORMED_REPLY}
 use Rattle.streamoffice.specs.Output.{AreReplies}
 use Rattle.streamoffice.specs.declared.sessions.SessionEnd.{SessionEnd}
 use Rattle.streamoffice.specs.declared.sessions.SessionEnd.TheVariants.{End, Malformed, Long, InputFault, OutputFault, NoMemory}

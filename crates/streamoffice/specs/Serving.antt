@@ -4,12 +4,12 @@ use Rattle.devices.specs.declared.disks.Disk.{Ghosts}
 use Rattle.devices.specs.Cabinets.{Place, OthersStay}
 use Rattle.devices.specs.Faults.{Rose}
 use Rattle.first_records.specs.declared.edits.What.{What}
-use Rattle.journal.specs.JournalBytes.{HasHeader, IsDamagedAt}
-use Rattle.journal.specs.Moments.{SyncsFirst}
-use Rattle.office.specs.History.{Event, accepted, doubt, reopen, faulted_count}
-use Rattle.office.specs.JournalOfEdits.{IsJournalOfEdits, StandsForEdits}
-use Rattle.office.specs.Stops.{IsLeftBetween}
-use Rattle.office.specs.declared.limits.TheConstants.{USUAL_JOURNAL_BYTES}
+use Rattle.first_journal.specs.JournalBytes.{HasHeader, IsDamagedAt}
+use Rattle.first_journal.specs.Moments.{SyncsFirst}
+use Rattle.first_office.specs.History.{Event, accepted, doubt, reopen, faulted_count}
+use Rattle.first_office.specs.JournalOfEdits.{IsJournalOfEdits, StandsForEdits}
+use Rattle.first_office.specs.Stops.{IsLeftBetween}
+use Rattle.first_office.specs.declared.limits.TheConstants.{USUAL_JOURNAL_BYTES}
 use Rattle.streamoffice.specs.Causes.{RoseBy}
 use Rattle.streamoffice.specs.Places.{HasKept, IfKept, IsLeftAlone, HasTheSame}
 use Rattle.streamoffice.specs.Session.{IsServed}

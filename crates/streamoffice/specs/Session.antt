@@ -2,9 +2,9 @@
 use Rattle.std.specs.Prelude.{◌≡◌, ℕ, ◌+◌, List, ◌++◌, length, Option, Some, None, IfSome, IsSomeAnd, ⊤}
 use Rattle.std.specs.List.{concat}
 use Rattle.devices.specs.Faults.{Rose}
-use Rattle.office.specs.History.{Event}
-use Rattle.wire.specs.Incoming.{Held}
-use Rattle.wire.specs.Messages.{Request, AreRequests}
+use Rattle.first_office.specs.History.{Event}
+use Rattle.first_wire.specs.Incoming.{Held}
+use Rattle.first_wire.specs.Messages.{Request, AreRequests}
 use Rattle.streamoffice.specs.Output.{AreReplies}
 use Rattle.streamoffice.specs.Served.{Serves}
 use Rattle.streamoffice.specs.declared.sessions.SessionEnd.{SessionEnd}

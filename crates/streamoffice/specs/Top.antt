@@ -3,9 +3,9 @@ use Rattle.std.specs.Prelude.{◌≡◌, ◌⊎◌, ℕ, ◌<◌, List, ◌++◌
 use Rattle.devices.specs.declared.disks.Disk.{Ghosts}
 use Rattle.devices.specs.Cabinets.{Place}
 use Rattle.devices.specs.Faults.{Rose}
-use Rattle.journal.specs.JournalBytes.{HasHeader, IsDamagedAt, IsTaken, IsForeign}
-use Rattle.wire.specs.declared.limits.TheConstants.{STREAM_BYTES}
-use Rattle.wire.specs.Messages.{Request, AreRequests, IsMalformed}
+use Rattle.first_journal.specs.JournalBytes.{HasHeader, IsDamagedAt, IsTaken, IsForeign}
+use Rattle.first_wire.specs.declared.limits.TheConstants.{STREAM_BYTES}
+use Rattle.first_wire.specs.Messages.{Request, AreRequests, IsMalformed}
 use Rattle.streamoffice.specs.Places.{HasKept, bytes_found}
 use Rattle.devices.specs.Sinks.{IsCutShort}
 use Rattle.streamoffice.specs.Making.{IsMakingEnd, Makes}

@@ -2,22 +2,22 @@
 
 ghost use Rattle.std.specs.Prelude.{◌≡◌, ◌-◌, ◌^◌, ◌≤◌, ◌<◌, ◌+◌, Bool, List, OnOk, OnErr, IfOk, IfSome, Some, None, true, false, length, option_to_list};
 ghost use Rattle.fixed_units.specs.Quantities.{IsStamp, IsStage};
-ghost use Rattle.office.specs.History.{Event};
-ghost use Rattle.office.specs.Stands.{Stands};
-ghost use Rattle.wire.specs.ReplyHead.{reply_bytes};
-ghost use Rattle.wire.specs.declared.replies.Kind.TheVariants.{Json};
-ghost use Rattle.http_api.specs.Replies.{reply_body, reply_status};
+ghost use Rattle.first_office.specs.History.{Event};
+ghost use Rattle.first_office.specs.Stands.{Stands};
+ghost use Rattle.first_wire.specs.ReplyHead.{reply_bytes};
+ghost use Rattle.first_wire.specs.declared.replies.Kind.TheVariants.{Json};
+ghost use Rattle.first_api.specs.Replies.{reply_body, reply_status};
 ghost use Rattle.streamoffice.specs.Output.{fault_reply};
 ghost use Rattle.streamoffice.specs.Answering.{Answered, Answers, Leaves, IsLawful, IsMade, IsRefused, told_bytes};
 ghost use Rattle.streamoffice.specs.Passing.{Passes};
 
 use devices::Disk;
+use first_api::{Ask, Reply, write_reply};
+use first_office::{Answer, Office, Refusal};
 use first_records::What;
+use first_wire::NO_MEMORY_REPLY;
 use fixed_units::{Day, Micro, NoMemory, Second, Text};
-use http_api::{Ask, Reply, write_reply};
-use office::{Answer, Office, Refusal};
 use std::alloc::Global;
-use wire::NO_MEMORY_REPLY;
 
 /// Which reply an ask gets.
 #[derive(Clone, Copy, Debug, PartialEq, Eq)]

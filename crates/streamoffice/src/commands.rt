@@ -2,8 +2,8 @@
 
 ghost use Rattle.std.specs.Prelude.{◌≡◌, ◌≢◌, ◌≤◌, ◌⊎◌, List, IfSome, IsSomeAnd, OnOk, Ok, Err, ⊤};
 ghost use Rattle.devices.specs.Faults.{Rose};
-ghost use Rattle.journal.specs.Moments.{LeavesOnly};
-ghost use Rattle.journal.specs.declared.making.InitFault.{InitFault};
+ghost use Rattle.first_journal.specs.Moments.{LeavesOnly};
+ghost use Rattle.first_journal.specs.declared.making.InitFault.{InitFault};
 ghost use Rattle.streamoffice.specs.Session.{HasCause};
 ghost use Rattle.streamoffice.specs.Making.{MakesOn, IsLeftByMaking, IsMakingEnd, Makes};
 ghost use Rattle.streamoffice.specs.Serving.{ServesDisk, ServesUnder};
@@ -11,8 +11,8 @@ ghost use Rattle.streamoffice.specs.RunEnds.{making_end, opening_end, IsEarly, R
 
 use crate::sessions::{SessionEnd, session};
 use devices::{Cabinet, Disk, Opened, Sink, Source};
-use journal::{InitFault, OpenFault};
-use office::{Limits, Office};
+use first_journal::{InitFault, OpenFault};
+use first_office::{Limits, Office};
 use std::alloc::Global;
 
 /// How a run ended.
@@ -57,7 +57,7 @@ fn make_on<D: Disk>(disk: D) -> (RunEnd, D)
     ensures counted { D.faults disk ≤ D.faults result.1 }
 {
     let mut disk = disk;
-    let made = journal::init(&mut disk);
+    let made = first_journal::init(&mut disk);
     (end_of_making(made), disk)
 }
 

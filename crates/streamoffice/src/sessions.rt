@@ -1,11 +1,11 @@
 //! A session: requests are read from a source one after another, and each is replied to on a sink.
 
 ghost use Rattle.std.specs.Prelude.{◌≡◌, ◌≢◌, ◌+◌, ◌-◌, ◌^◌, ◌<◌, ◌≤◌, false, Bool, ℕ, List, Option, IfSome, if◌then◌else◌};
-ghost use Rattle.wire.specs.Incoming.{taken};
-ghost use Rattle.wire.specs.declared.limits.TheConstants.{STREAM_BYTES};
-ghost use Rattle.http_api.specs.Asks.{ask_of};
-ghost use Rattle.office.specs.History.{Event};
-ghost use Rattle.office.specs.Stands.{Stands};
+ghost use Rattle.first_wire.specs.Incoming.{taken};
+ghost use Rattle.first_wire.specs.declared.limits.TheConstants.{STREAM_BYTES};
+ghost use Rattle.first_api.specs.Asks.{ask_of};
+ghost use Rattle.first_office.specs.History.{Event};
+ghost use Rattle.first_office.specs.Stands.{Stands};
 ghost use Rattle.devices.specs.Faults.{Rose};
 ghost use Rattle.streamoffice.specs.Answering.{Answered, IsLawful};
 ghost use Rattle.streamoffice.specs.Passing.{Passes};
@@ -14,10 +14,10 @@ ghost use Rattle.streamoffice.specs.Session.{HasCause, IsServed, IsUnderWay, Goe
 
 use crate::answers::{Texts, answer};
 use devices::{Disk, Sink, Source, put_all};
-use http_api::{Ask, read_ask};
-use office::Office;
+use first_api::{Ask, read_ask};
+use first_office::Office;
+use first_wire::{Incoming, MALFORMED_REPLY, Message, NO_MEMORY_REPLY, Verb};
 use std::alloc::Global;
-use wire::{Incoming, MALFORMED_REPLY, Message, NO_MEMORY_REPLY, Verb};
 
 /// How a session ended.
 #[derive(Clone, Copy, Debug, PartialEq, Eq)]

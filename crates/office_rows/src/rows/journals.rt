@@ -2,12 +2,12 @@
 
 use crate::rows::fixtures::{disk, same};
 use devices::{DiskFailed, MemoryDisk};
-use first_records::first_path::is_numbered;
-use journal::laws::{
+use first_journal::laws::{
     begun_is_made_anew, damaged_at_one_gate, empty_journal_has_no_records, no_journal_is_damaged,
     nothing_else_has_the_header, one_record_more, stands_for_one_list,
 };
-use journal::{AppendFault, InitFault, Journal, OpenFault, Opening, init, open};
+use first_journal::{AppendFault, InitFault, Journal, OpenFault, Opening, init, open};
+use first_records::first_path::is_numbered;
 use std::alloc::Global;
 use std::process::Abort;
 

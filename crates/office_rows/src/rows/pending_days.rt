@@ -2,8 +2,8 @@
 
 use crate::rows::fixtures::{day, same};
 use daily_values::DayValue;
+use first_office::cells::Cells;
 use fixed_units::Day;
-use office::cells::Cells;
 use std::alloc::Global;
 use std::process::Abort;
 

@@ -1,7 +1,7 @@
 use Rattle.std.proofs.Common.{Bool, List, Option, refl, sym, subst}
-use Rattle.http_api.specs.declared.asks.Ask.{Ask}
-use Rattle.office.specs.History.{Event}
-use Rattle.office.specs.Stands.{Stands}
+use Rattle.first_api.specs.declared.asks.Ask.{Ask}
+use Rattle.first_office.specs.History.{Event}
+use Rattle.first_office.specs.Stands.{Stands}
 use Rattle.streamoffice.specs.Answering.{Answered, told_bytes}
 use Rattle.streamoffice.specs.Passing.{Passes}
 use Rattle.streamoffice.proofs.AnswerLemmas.{no_route}

@@ -1,11 +1,11 @@
 use Rattle.std.proofs.Common.{Bool, List, Some, refl, sym, subst}
-use Rattle.http_api.specs.declared.asks.Ask.{Ask}
-use Rattle.http_api.specs.declared.asks.Ask.TheVariants.{Turn, DayOf}
-use Rattle.office.specs.History.{Event, after_turn}
-use Rattle.office.specs.Stands.{Stands}
+use Rattle.first_api.specs.declared.asks.Ask.{Ask}
+use Rattle.first_api.specs.declared.asks.Ask.TheVariants.{Turn, DayOf}
+use Rattle.first_office.specs.History.{Event, after_turn}
+use Rattle.first_office.specs.Stands.{Stands}
 use Rattle.streamoffice.specs.Answering.{Answered, Answers, Leaves, told_bytes}
 use Rattle.streamoffice.specs.Passing.{Passes}
-use Rattle.office.proofs.StopsLemmas.{extends_turn}
+use Rattle.first_office.proofs.StopsLemmas.{extends_turn}
 use Rattle.streamoffice.proofs.AnswerLemmas.{by_office, on_ok, on_err, any_err}
 use Rattle.streamoffice.proofs.CauseLemmas.{count_turn}
 use Rattle.streamoffice.proofs.OutputLemmas.{left_count, left_extends}

@@ -1,9 +1,9 @@
 use Rattle.std.proofs.Common.{ℕ, ◌+◌, false, None, Err, refl, sym, ◌∙◌, ap}
-use Rattle.http_api.specs.Replies.{edit_text}
-use Rattle.office.specs.Stands.{Stands}
+use Rattle.first_api.specs.Replies.{edit_text}
+use Rattle.first_office.specs.Stands.{Stands}
 use Rattle.first_records.specs.declared.edits.What.TheVariants.{PutReadings}
-use Rattle.wire.specs.ReplyHead.{reply_bytes}
-use Rattle.wire.specs.declared.replies.Kind.TheVariants.{Json}
+use Rattle.first_wire.specs.ReplyHead.{reply_bytes}
+use Rattle.first_wire.specs.declared.replies.Kind.TheVariants.{Json}
 use Rattle.streamoffice.specs.Passing.{Passes}
 use Rattle.streamoffice.proofs.AnswerLemmas.{accepted_reply, forgone, ok_of, refused_reply, rose_unless}
 use Rattle.streamoffice.proofs.PassingLemmas.{passes_none, passes_edit, passes_fault, passes_doubted}

@@ -1,10 +1,10 @@
 use Rattle.std.proofs.Common.{◌≡◌, ℕ, length, Bool, Some, None, Option, option_to_list, ℤ, refl, inr, ◌∙◌, ap}
-use Rattle.office.specs.History.{after_turn, pending_days}
-use Rattle.office.specs.Stands.{Stands}
-use Rattle.http_api.specs.Replies.{turned_text}
-use Rattle.http_api.specs.declared.asks.Ask.TheVariants.{Turn}
-use Rattle.wire.specs.ReplyHead.{reply_bytes}
-use Rattle.wire.specs.declared.replies.Kind.TheVariants.{Json}
+use Rattle.first_office.specs.History.{after_turn, pending_days}
+use Rattle.first_office.specs.Stands.{Stands}
+use Rattle.first_api.specs.Replies.{turned_text}
+use Rattle.first_api.specs.declared.asks.Ask.TheVariants.{Turn}
+use Rattle.first_wire.specs.ReplyHead.{reply_bytes}
+use Rattle.first_wire.specs.declared.replies.Kind.TheVariants.{Json}
 use Rattle.streamoffice.specs.Answering.{Answers, Leaves}
 use Rattle.streamoffice.proofs.AnswerLemmas.{any_err, on_ok}
 use Rattle.streamoffice.proofs.answers.turn.Goals as goal

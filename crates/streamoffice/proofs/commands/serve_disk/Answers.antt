@@ -1,8 +1,8 @@
 use Rattle.std.proofs.Common.{is_some, ◌∙◌}
-use Rattle.office.specs.History.{reopen}
-use Rattle.office.specs.Stands.{Stands}
+use Rattle.first_office.specs.History.{reopen}
+use Rattle.first_office.specs.Stands.{Stands}
 use Rattle.streamoffice.specs.Passing.{Passes}
-use Rattle.office.specs.declared.limits.TheConstants.{USUAL_JOURNAL_BYTES}
+use Rattle.first_office.specs.declared.limits.TheConstants.{USUAL_JOURNAL_BYTES}
 use Rattle.streamoffice.specs.Serving.{Carries}
 use Rattle.streamoffice.proofs.ServingLemmas.{served_as, carries, not_opened}
 use Rattle.streamoffice.proofs.commands.serve_disk.Goals as goal

@@ -1,8 +1,8 @@
 use Rattle.std.proofs.Common.{◌≡◌, Option, Some, None, Ok, Err, ok_or, refl, sym, subst}
-use Rattle.http_api.specs.Asks.{ask_of}
-use Rattle.http_api.specs.declared.asks.Ask.{Ask}
-use Rattle.http_api.specs.declared.asks.Denied.{Denied}
-use Rattle.http_api.specs.declared.asks.Denied.TheVariants.{NoRoute}
+use Rattle.first_api.specs.Asks.{ask_of}
+use Rattle.first_api.specs.declared.asks.Ask.{Ask}
+use Rattle.first_api.specs.declared.asks.Denied.{Denied}
+use Rattle.first_api.specs.declared.asks.Denied.TheVariants.{NoRoute}
 use Rattle.streamoffice.specs.Answering.{IsLawful}
 use Rattle.streamoffice.proofs.AskLemmas.{lawful_ask}
 use Rattle.streamoffice.proofs.sessions.asked.Goals as goal

@@ -1,6 +1,6 @@
 use Rattle.std.proofs.Common.{subst}
-use Rattle.wire.specs.declared.replies.TheConstants.{MALFORMED_REPLY}
-use Rattle.office.specs.Stands.{Stands}
+use Rattle.first_wire.specs.declared.replies.TheConstants.{MALFORMED_REPLY}
+use Rattle.first_office.specs.Stands.{Stands}
 use Rattle.streamoffice.specs.Passing.{Passes}
 use Rattle.devices.specs.Sinks.{AreWritten}
 use Rattle.streamoffice.proofs.EndLemmas.{ends_malformed, fails_malformed, ends_at_end, ends_at_fault, ends_at_limit}

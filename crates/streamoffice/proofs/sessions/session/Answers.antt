@@ -1,6 +1,6 @@
 use Rattle.std.proofs.Common.{◌≡◌, [], Option, refl, sym, ◌∙◌, ap, subst, arith}
-use Rattle.office.specs.Stands.{Stands}
-use Rattle.wire.specs.Incoming.{Held, taken}
+use Rattle.first_office.specs.Stands.{Stands}
+use Rattle.first_wire.specs.Incoming.{Held, taken}
 use Rattle.streamoffice.specs.Passing.{Passes}
 use Rattle.streamoffice.specs.Session.{GoesOn, IsUnderWay}
 use Rattle.streamoffice.specs.declared.sessions.SessionEnd.{SessionEnd}

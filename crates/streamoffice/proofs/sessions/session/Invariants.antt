@@ -1,7 +1,7 @@
 use Rattle.std.proofs.Common.{◌≡◌, ◌+◌, ◌-◌, ◌^◌, ◌≤◌, Bool, List}
-use Rattle.office.specs.History.{Event}
-use Rattle.office.specs.Stands.{Stands}
-use Rattle.wire.specs.Incoming.{taken}
+use Rattle.first_office.specs.History.{Event}
+use Rattle.first_office.specs.Stands.{Stands}
+use Rattle.first_wire.specs.Incoming.{taken}
 use Rattle.streamoffice.specs.Passing.{Passes}
 use Rattle.streamoffice.specs.Session.{IsUnderWay}
 use Rattle.streamoffice.proofs.sessions.session.Given as goal

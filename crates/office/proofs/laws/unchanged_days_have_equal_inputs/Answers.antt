@@ -1,5 +1,0 @@
-use Rattle.office.proofs.LawLemmas.{unchanged_exactly}
-use Rattle.office.proofs.laws.unchanged_days_have_equal_inputs.Goals as goal
-
-pub returns : goal.returns
-returns c = unchanged_exactly

@@ -3,22 +3,11 @@ use Rattle.std.specs.Prelude.{◌≡◌, ℕ, zero, suc, ◌+◌, Bool, true, fa
 use Rattle.std.proofs.Common.{arith, refl, ap, sym, ◌∙◌}
 use Rattle.std.proofs.lemmas.Int.{ints, by_lt_z}
 use Rattle.std.proofs.lemmas.List.Sums.{sum_by-cons}
-use Rattle.day_cells.specs.Days.{days_from, on_day}
+use Rattle.fixed_units.specs.Calendar.{days_from}
+use Rattle.fixed_units.proofs.CalendarLemmas.{filter_days_same}
+use Rattle.day_cells.specs.Days.{on_day}
 use Rattle.day_cells.specs.KeptDays.{is_edit}
 use Rattle.day_cells.proofs.DayLemmas.{by_day, on_day_at, on_day_before}
-
-kept_same : (p q : ℤ → Bool) (day : ℤ) (ps qs : List ℤ) → p day ≡ q day → ps ≡ qs → cond (p day) (day ∷ ps) ps ≡ cond (q day) (day ∷ qs) qs
-kept_same p q day ps qs e f = rw (e, f) refl
-
--- tests that agree from a day on keep the same of the days from there on
-pub filter_days_same : (p q : ℤ → Bool) (day : ℤ) (n : ℕ) → ((d : ℤ) → day ≤ℤ d → p d ≡ q d)
-    → filter p (days_from day n) ≡ filter q (days_from day n)
-unfolding days_from
-filter_days_same p q day zero h = refl
-filter_days_same p q day (suc n) h =
-    kept_same p q day (filter p (days_from (day +ℤ pos 1) n)) (filter q (days_from (day +ℤ pos 1) n))
-    (h day (omega (arith, ints)))
-    (filter_days_same p q (day +ℤ pos 1) n (λ d k. h d (omega (arith, ints))))
 
 -- how many days of a column await an edit
 has_edit : ℤ → List ℕ → ℤ → Bool

@@ -6,7 +6,8 @@ use Rattle.std.proofs.lemmas.Bool.{cases_lt, cases_eq, false≢true}
 use Rattle.std.proofs.lemmas.List.{length-map, length-set, get_or_past, get_or-set_same, get_or-set_other}
 use Rattle.std.proofs.lemmas.List.Sums.{sum_by-set}
 use Rattle.fixed_units.specs.Quantities.{first_day}
-use Rattle.day_cells.specs.Days.{days_from, calendar, on_day}
+use Rattle.fixed_units.specs.Calendar.{days_from, calendar}
+use Rattle.day_cells.specs.Days.{on_day}
 use Rattle.day_cells.specs.KeptDays.{KeptDays, AreColumns, TakesOut, Publishes, Marks, HasCell, NonePendingWithin, NoneUnclaimedBefore, is_edit, is_pending_on, waiting_of, waiting_on}
 use Rattle.day_cells.specs.Spans.{IsSpan}
 use Rattle.day_cells.specs.declared.spans.Span.{Span}

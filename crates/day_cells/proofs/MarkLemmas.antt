@@ -9,8 +9,9 @@ use Rattle.std.proofs.lemmas.List.Elements.{filter_agree}
 use Rattle.std.proofs.lemmas.List.Folds.{list_any_more, list_any_none}
 use Rattle.std.proofs.lemmas.List.Sums.{sum_by_more, sum_by-append}
 use Rattle.fixed_units.specs.Quantities.{first_day, last_day}
+use Rattle.fixed_units.specs.Calendar.{calendar}
 use Rattle.daily_values.specs.declared.day_values.DayValue.TheVariants.{Empty}
-use Rattle.day_cells.specs.Days.{contains_day, calendar}
+use Rattle.day_cells.specs.Days.{contains_day}
 use Rattle.day_cells.specs.KeptDays.{KeptDays, KeepsPlaces, SaysTheSame, Marks, HasCell, NonePendingWithin, NoneUnclaimedBefore, is_edit, is_pending_on, is_out_on, edit_on, waiting_of, waiting_on}
 use Rattle.day_cells.proofs.DayLemmas.{on_day_widened, widened_front, widened_rest}
 

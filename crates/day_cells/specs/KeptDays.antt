@@ -1,9 +1,10 @@
 -- The cells of a station: which edit each of its days awaits, whether its claim is out, and the value that was published last.
 use Rattle.std.specs.Prelude.{◌≡◌, ℕ, ◌<◌, ◌≤◌, Bool, false, ◌&&◌, not, ◌==◌, nat_lt, slice_index_or, slice_index, if◌then◌else◌, List, length, map, filter, All, count_by, Option, Some, None, IfSome, ℤ, pos, ◌+ℤ◌, ◌≤ℤ◌, ◌<ℤ◌}
 use Rattle.fixed_units.specs.Quantities.{SiteNumber, first_day, last_day}
+use Rattle.fixed_units.specs.Calendar.{calendar}
 use Rattle.daily_values.specs.declared.day_values.DayValue.{DayValue}
 use Rattle.daily_values.specs.declared.day_values.DayValue.TheVariants.{Empty}
-use Rattle.day_cells.specs.Days.{on_day, calendar}
+use Rattle.day_cells.specs.Days.{on_day}
 use Rattle.day_cells.specs.Spans.{IsSpan}
 use Rattle.day_cells.specs.declared.spans.Span.{Span}
 use Rattle.day_cells.specs.declared.waiting.Waiting.{Waiting}

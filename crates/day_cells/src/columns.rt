@@ -2,7 +2,7 @@
 
 ghost use Rattle.std.specs.Prelude.{ℕ, All, None, Some, ◌≡◌, ◌⊎◌, true, ◌+◌, ◌<◌, ◌≤◌, ◌++◌, replicate, length, pos, ◌+ℤ◌, ◌≤ℤ◌, ◌<ℤ◌, ◌&&◌, not, false, slice_index, slice_index_or, IfOk, IfSome, IfNone};
 ghost use Rattle.fixed_units.specs.Quantities.{first_day, last_day};
-ghost use Rattle.day_cells.specs.Days.{days_of_calendar};
+ghost use Rattle.fixed_units.specs.Calendar.{days_of_calendar};
 ghost use Rattle.day_cells.specs.KeptDays.{is_edit, NonePendingWithin, NoneUnclaimedBefore};
 
 use crate::waiting::Waiting;

@@ -3,7 +3,8 @@
 ghost use Rattle.std.specs.Prelude.{◌≡◌, true, false, ◌&&◌, not, if◌then◌else◌, ◌+◌, ◌<◌, ◌≤◌, [], None, length, filter, find, count_by, slice_get, pos, ℤ, ◌+ℤ◌, ◌≤ℤ◌, ◌<ℤ◌, int_lt, AllPairs, IfSome, OnOk, OnErr};
 ghost use Rattle.std.specs.Ordering.{int_eq};
 ghost use Rattle.fixed_units.specs.Quantities.{first_day, last_day};
-ghost use Rattle.day_cells.specs.Days.{contains_day, days_of_calendar};
+ghost use Rattle.fixed_units.specs.Calendar.{days_of_calendar};
+ghost use Rattle.day_cells.specs.Days.{contains_day};
 ghost use Rattle.day_cells.specs.Sites.{station_rank};
 ghost use Rattle.day_cells.specs.Spans as spans;
 ghost use Rattle.day_cells.specs.Spans.{IsSpan, with_days};

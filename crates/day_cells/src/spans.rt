@@ -2,7 +2,7 @@
 
 ghost use Rattle.std.specs.Prelude.{◌≡◌, ◌≤◌, IfSome};
 ghost use Rattle.fixed_units.specs.Quantities.{IsDay};
-ghost use Rattle.day_cells.specs.Days.{days_of_calendar};
+ghost use Rattle.fixed_units.specs.Calendar.{days_of_calendar};
 ghost use Rattle.day_cells.specs.Spans as spans;
 ghost use Rattle.day_cells.specs.Spans.{IsSpan, days_of};
 

@@ -1,10 +1,12 @@
 -- Days in order: those that a test keeps, and how many they are.
-use Rattle.std.specs.Prelude.{◌≡◌, ◌≤◌, ◌+◌, ℕ, zero, suc, Bool, true, false, cond, ◌&&◌, List, [], ◌∷◌, filter, length, ◌⊎◌, ℤ, pos, negsuc, ◌+ℤ◌, ◌-ℤ◌, ◌<ℤ◌, ◌≤ℤ◌, int_lt}
+use Rattle.std.specs.Prelude.{◌≡◌, ◌≤◌, ◌+◌, ℕ, zero, suc, Bool, true, false, cond, ◌&&◌, List, [], ◌∷◌, filter, length, All, AllPairs, ◌⊎◌, ℤ, pos, negsuc, ◌+ℤ◌, ◌-ℤ◌, ◌<ℤ◌, ◌≤ℤ◌, int_lt}
 use Rattle.std.proofs.Common.{arith, refl, ap, sym, subst, ◌∙◌, inl, inr}
 use Rattle.std.proofs.lemmas.Int.{ints, by_lt_z}
-use Rattle.fixed_units.specs.Quantities.{IsDay}
-use Rattle.office_inputs.specs.Calendar.{days_from, calendar}
-use Rattle.office_inputs.proofs.DayLemmas.{IsWithin, within_rest, within_first, is_day}
+use Rattle.std.proofs.lemmas.List.Elements.{All-nil, All-cons}
+use Rattle.std.proofs.lemmas.List.Kept.{AllPairs-cons, AllPairs-filter}
+use Rattle.fixed_units.specs.Quantities.{IsDay, first_day}
+use Rattle.fixed_units.specs.Calendar.{days_from, days_of_calendar, calendar}
+use Rattle.fixed_units.proofs.CalendarLemmas.{IsAmong, among_rest, among_first, is_day, length_from, left_step, kept_same, filter_days_all, fewer_in_calendar}
 use Rattle.depend.specs.Compared.{count_of, days_within}
 
 -- counts
@@ -32,35 +34,8 @@ pub within_none : (first last : ℤ) → last <ℤ first → days_within first l
 unfolding days_from
 within_none first last h = ap (days_from first) (uncounted (last +ℤ pos 1 -ℤ first) (omega (arith, ints)))
 
-length_from : (day : ℤ) (n : ℕ) → length (days_from day n) ≡ n
-unfolding days_from
-length_from day zero = refl
-length_from day (suc n) = ap suc (length_from (day +ℤ pos 1) n)
-
 pub length_within : (first last : ℤ) → length (days_within first last) ≡ count_of (last +ℤ pos 1 -ℤ first)
 length_within first last = length_from first (count_of (last +ℤ pos 1 -ℤ first))
-
--- a test that holds on each of the days keeps them all
-kept_step : (b : Bool) (day : ℤ) (ps qs : List ℤ) → b ≡ true → ps ≡ qs → cond b (day ∷ ps) ps ≡ day ∷ qs
-kept_step b day ps qs e f = rw (e, f) refl
-
-filter_days_all : (p : ℤ → Bool) (day : ℤ) (n : ℕ) → ((d : ℤ) → IsWithin day n d → p d ≡ true) → filter p (days_from day n) ≡ days_from day n
-unfolding days_from
-filter_days_all p day zero h = refl
-filter_days_all p day (suc n) h =
-    kept_step (p day) day (filter p (days_from (day +ℤ pos 1) n)) (days_from (day +ℤ pos 1) n) (h day (within_first day n))
-    (filter_days_all p (day +ℤ pos 1) n (λ d k. h d (within_rest day n d k)))
-
--- one that holds on none of them keeps none
-left_step : (b : Bool) (day : ℤ) (ps qs : List ℤ) → b ≡ false → ps ≡ qs → cond b (day ∷ ps) ps ≡ qs
-left_step b day ps qs e f = rw (e, f) refl
-
-pub filter_days_none : (p : ℤ → Bool) (day : ℤ) (n : ℕ) → ((d : ℤ) → IsWithin day n d → p d ≡ false) → filter p (days_from day n) ≡ []
-unfolding days_from
-filter_days_none p day zero h = refl
-filter_days_none p day (suc n) h =
-    left_step (p day) day (filter p (days_from (day +ℤ pos 1) n)) [] (h day (within_first day n))
-    (filter_days_none p (day +ℤ pos 1) n (λ d k. h d (within_rest day n d k)))
 
 not_true : (b : Bool) → (b ≡ true → ⊥) → b ≡ false
 not_true true h = absurd (h refl)
@@ -68,15 +43,12 @@ not_true false h = refl
 
 -- where all that pass lie in a span, the days of the span alone need be asked
 abbrev AllIn : (ℤ → Bool) → ℤ → ℕ → ℤ → ℤ → Type 0
-AllIn p day n first last = (d : ℤ) → IsWithin day n d → p d ≡ true → (first ≤ℤ d) × (d ≤ℤ last)
-
-both_step : (b : Bool) (day : ℤ) (ps qs : List ℤ) → ps ≡ qs → cond b (day ∷ ps) ps ≡ cond b (day ∷ qs) qs
-both_step b day ps qs f = rw f
+AllIn p day n first last = (d : ℤ) → IsAmong day n d → p d ≡ true → (first ≤ℤ d) × (d ≤ℤ last)
 
 span_now : (p : ℤ → Bool) (first last : ℤ) (ps : List ℤ) → first ≤ℤ last → ps ≡ filter p (days_within (first +ℤ pos 1) last)
     → cond (p first) (first ∷ ps) ps ≡ filter p (days_within first last)
 span_now p first last ps l f =
-    both_step (p first) first ps (filter p (days_within (first +ℤ pos 1) last)) f ∙ ap (filter p) (sym (within_cons first last l))
+    kept_same p p first ps (filter p (days_within (first +ℤ pos 1) last)) refl f ∙ ap (filter p) (sym (within_cons first last l))
 
 span_past : (p : ℤ → Bool) (first last : ℤ) (ps : List ℤ) → last <ℤ first → p first ≡ false → ps ≡ filter p (days_within (first +ℤ pos 1) last)
     → cond (p first) (first ∷ ps) ps ≡ filter p (days_within first last)
@@ -91,17 +63,17 @@ filter_span p day zero first last a b h = ap (filter p) (sym (within_none first 
 filter_span p day (suc n) first last a b h =
     by_lt_z day first
     (λ l. left_step (p day) day (filter p (days_from (day +ℤ pos 1) n)) (filter p (days_within first last))
-    (not_true (p day) (λ t. let k = (h day (within_first day n) t).0 in absurd (omega (arith, ints))))
-    (filter_span p (day +ℤ pos 1) n first last (omega (arith, ints)) (omega (arith, ints)) (λ d k. h d (within_rest day n d k))))
+    (not_true (p day) (λ t. let k = (h day (among_first day n) t).0 in absurd (omega (arith, ints))))
+    (filter_span p (day +ℤ pos 1) n first last (omega (arith, ints)) (omega (arith, ints)) (λ d k. h d (among_rest day n d k))))
     (λ m.
     let e : day ≡ first = omega (arith, ints) in
     let rest : filter p (days_from (day +ℤ pos 1) n) ≡ filter p (days_within (day +ℤ pos 1) last) =
     filter_span p (day +ℤ pos 1) n (day +ℤ pos 1) last (omega (arith, ints)) (omega (arith, ints))
-    (λ d k t. (k.low, (h d (within_rest day n d k) t).1)) in
+    (λ d k t. (k.low, (h d (among_rest day n d k) t).1)) in
     subst (λ (x : ℤ). cond (p day) (day ∷ filter p (days_from (day +ℤ pos 1) n)) (filter p (days_from (day +ℤ pos 1) n)) ≡ filter p (days_within x last)) e
     (by_lt_z last day
     (λ l. span_past p day last (filter p (days_from (day +ℤ pos 1) n)) l
-    (not_true (p day) (λ t. let k = h day (within_first day n) t in let low = k.0 in let high = k.1 in absurd (omega (arith, ints)))) rest)
+    (not_true (p day) (λ t. let k = h day (among_first day n) t in let low = k.0 in let high = k.1 in absurd (omega (arith, ints)))) rest)
     (λ l. span_now p day last (filter p (days_from (day +ℤ pos 1) n)) l rest)))
 
 -- the same of the calendar
@@ -111,11 +83,7 @@ unfolding calendar
 calendar_span p first last f l h =
     let a = f.low in
     let b = l.high in
-    filter_span p (negsuc 25_566) 73_049 first last (omega (arith, ints)) (omega (arith, ints)) (λ d k. h d (is_day d k))
-
-pub calendar_none : (p : ℤ → Bool) → ((d : ℤ) → IsDay d → p d ≡ false) → filter p calendar ≡ []
-unfolding calendar
-calendar_none p h = filter_days_none p (negsuc 25_566) 73_049 (λ d k. h d (is_day d k))
+    filter_span p first_day days_of_calendar first last (omega (arith, ints)) (omega (arith, ints)) (λ d k. h d (is_day d k))
 
 -- the days between two ends, tested
 between : ℤ → ℤ → ℤ → Bool
@@ -129,31 +97,12 @@ between_is : (first last day : ℤ) → between first last day ≡ true → (fir
 unfolding between
 between_is first last day h = (grind (arith, ints), grind (arith, ints))
 
--- a test that tells no more keeps no more of the days
-fewer_step : (b c : Bool) (day : ℤ) (ps qs : List ℤ) → (b ≡ true → c ≡ true) → length ps ≤ length qs → length (cond b (day ∷ ps) ps) ≤ length (cond c (day ∷ qs) qs)
-fewer_step true true day ps qs h k = omega arith
-fewer_step true false day ps qs h k = absurd (let e = h refl in cc)
-fewer_step false true day ps qs h k = omega arith
-fewer_step false false day ps qs h k = k
-
-fewer_days : (p q : ℤ → Bool) (day : ℤ) (n : ℕ) → ((d : ℤ) → IsWithin day n d → p d ≡ true → q d ≡ true)
-    → length (filter p (days_from day n)) ≤ length (filter q (days_from day n))
-unfolding days_from
-fewer_days p q day zero h = omega arith
-fewer_days p q day (suc n) h =
-    fewer_step (p day) (q day) day (filter p (days_from (day +ℤ pos 1) n)) (filter q (days_from (day +ℤ pos 1) n)) (h day (within_first day n))
-    (fewer_days p q (day +ℤ pos 1) n (λ d k. h d (within_rest day n d k)))
-
-fewer_in_calendar : (p q : ℤ → Bool) → ((d : ℤ) → IsDay d → p d ≡ true → q d ≡ true) → length (filter p calendar) ≤ length (filter q calendar)
-unfolding calendar
-fewer_in_calendar p q h = fewer_days p q (negsuc 25_566) 73_049 (λ d k. h d (is_day d k))
-
 inner_in_calendar : (first last : ℤ) → IsDay first → IsDay last → filter (between first last) calendar ≡ filter (between first last) (days_within (first +ℤ pos 1) (last -ℤ pos 1))
 unfolding calendar
 inner_in_calendar first last f l =
     let a = f.low in
     let b = l.high in
-    filter_span (between first last) (negsuc 25_566) 73_049 (first +ℤ pos 1) (last -ℤ pos 1) (omega (arith, ints)) (omega (arith, ints))
+    filter_span (between first last) first_day days_of_calendar (first +ℤ pos 1) (last -ℤ pos 1) (omega (arith, ints)) (omega (arith, ints))
     (λ d k t. let e = between_is first last d t in let x = e.0 in let y = e.1 in (omega (arith, ints), omega (arith, ints)))
 
 inner_all : (first last : ℤ) (n : ℕ) → pos n ≤ℤ (last -ℤ first -ℤ pos 1) ⊎ (n ≡ 0)
@@ -192,3 +141,20 @@ span_length q first last f l h =
     let wide = length_within first last in
     let two = count_two (last +ℤ pos 1 -ℤ first) z (omega (arith, ints)) in
     omega arith
+
+-- days in order rise, and so do those of the calendar that pass a test
+all_later : (low day : ℤ) (n : ℕ) → low <ℤ day → All (λ (d : ℤ). low <ℤ d) (days_from day n)
+unfolding days_from
+all_later low day zero h = All-nil (λ (d : ℤ). low <ℤ d)
+all_later low day (suc n) h =
+    All-cons (λ (d : ℤ). low <ℤ d) day (days_from (day +ℤ pos 1) n) h (all_later low (day +ℤ pos 1) n (omega (arith, ints)))
+
+days_rise : (day : ℤ) (n : ℕ) → AllPairs (λ (a b : ℤ). a <ℤ b) (days_from day n)
+unfolding days_from
+days_rise day zero = λ i j d u v. absurd (omega arith)
+days_rise day (suc n) =
+    AllPairs-cons (λ (a b : ℤ). a <ℤ b) day (days_from (day +ℤ pos 1) n) (all_later day (day +ℤ pos 1) n (omega (arith, ints))) (days_rise (day +ℤ pos 1) n)
+
+pub calendar_rises : (p : ℤ → Bool) → AllPairs (λ (a b : ℤ). a <ℤ b) (filter p calendar)
+unfolding calendar
+calendar_rises p = AllPairs-filter (λ (a b : ℤ). a <ℤ b) p (days_from first_day days_of_calendar) (days_rise first_day days_of_calendar)

@@ -8,6 +8,8 @@ use Rattle.std.proofs.lemmas.Bool.Decides.{Decides-int_eq}
 use Rattle.std.proofs.lemmas.List.Elements.{All-weaker}
 use Rattle.fixed_units.specs.Quantities.{IsDay, IsStamp, SiteNumber, first_day, last_day}
 use Rattle.fixed_units.specs.declared.readings.Reading.{Reading}
+use Rattle.fixed_units.specs.Calendar.{calendar}
+use Rattle.fixed_units.proofs.CalendarLemmas.{calendar_any, calendar_any_none}
 use Rattle.rising.specs.Ends.{first, last}
 use Rattle.rising.proofs.Ends.{first-kept, last-kept}
 use Rattle.civil_days.specs.Starts.{IsZone, IsIn, day_start_of, calendar_end}
@@ -15,12 +17,10 @@ use Rattle.civil_days.proofs.RiseLemmas.{rise, zone_steps, zone_lengths}
 use Rattle.edits.specs.Lawful.{IsLawful, IsPutReading}
 use Rattle.edits.specs.declared.content.What.{What}
 use Rattle.edits.specs.declared.content.What.TheVariants.{AddStation, SetStation, PutReadings}
-use Rattle.office_inputs.specs.Calendar.{calendar}
 use Rattle.office_inputs.specs.Stations.{StationRecord, station_of}
 use Rattle.office_inputs.specs.Touched.{is_filled, is_between_filled, in_reach, touched_by, between_readings, meets, most_gap_seconds, IsUsedSpan}
 use Rattle.office_inputs.specs.declared.touched.Touched.TheVariants.{One, Between}
 use Rattle.depend.specs.Compared.{IsCover, AreCompared}
-use Rattle.office_inputs.proofs.DayLemmas.{calendar_any, calendar_any_none}
 
 -- the starts of days
 start_from : (text : List ℕ) (a b : ℤ) → IsZone text → first_day ≤ℤ a → b ≤ℤ calendar_end → a ≤ℤ b → day_start_of text a ≤ℤ day_start_of text b
@@ -328,10 +328,10 @@ between_stamps (Some r) (Some t) from until cells h k e =
     let g : t.at ≡ until = cc in
     (subst IsStamp f (h r refl), subst IsStamp g (k t refl))
 
-pub stamps : (what : What) (from until : ℤ) (cells : Bool) → IsLawful what → touched_by what ≡ Between from until cells → IsStamp from × IsStamp until
-stamps (AddStation name zone gap stages discharges) from until cells l e = absurd (cc)
-stamps (SetStation name gap stages discharges) from until cells l e = absurd (cc)
-stamps (PutReadings readings) from until cells l e =
+pub stamps : (o : Option StationRecord) (what : What) (from until : ℤ) (cells : Bool) → IsLawful what → touched_by o what ≡ Between from until cells → IsStamp from × IsStamp until
+stamps o (AddStation name zone gap stages discharges) from until cells l e = absurd (cc)
+stamps o (SetStation name gap stages discharges) from until cells l e = absurd (cc)
+stamps o (PutReadings readings) from until cells l e =
     let all = All-weaker IsPutReading (λ (r : Reading). IsStamp r.at) (λ r k. k.stamp) readings l.each in
     between_stamps (first readings) (last readings) from until cells
     (λ r f. first-kept (λ (r : Reading). IsStamp r.at) readings r all f) (λ r f. last-kept (λ (r : Reading). IsStamp r.at) readings r all f) e

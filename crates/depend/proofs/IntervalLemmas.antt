@@ -6,6 +6,7 @@ use Rattle.std.proofs.lemmas.List.Elements.{All-head, All-tail, All-cons, All-we
 use Rattle.std.specs.Ordering.{int_eq}
 use Rattle.fixed_units.specs.Quantities.{IsDay, SiteNumber, site_place}
 use Rattle.fixed_units.specs.declared.readings.Reading.{Reading}
+use Rattle.fixed_units.proofs.CalendarLemmas.{calendar_any}
 use Rattle.rising.specs.Ends.{last}
 use Rattle.rising.proofs.Ends.{last-cons}
 use Rattle.rising.proofs.Selecting.{AllPairs-head, AllPairs-tail}
@@ -27,11 +28,10 @@ use Rattle.office_inputs.specs.Kept.{AreStations, records_of}
 use Rattle.office_inputs.specs.KeptStation.{KeptStation, IsStation}
 use Rattle.office_inputs.specs.Refusals.{refusal_of, adds_station}
 use Rattle.office_inputs.specs.Stations.{StationRecord, station_of, station_day, inputs_of_day, after_what, place_of, described, with_readings, day_start}
-use Rattle.office_inputs.specs.Touched.{has_inputs, is_filled, is_between_filled, in_reach, touched_by, between_readings, meets, most_gap_seconds}
+use Rattle.office_inputs.specs.Touched.{has_inputs, is_filled, is_between_filled, in_reach, touched_by, touched_of, between_readings, meets, most_gap_seconds}
 use Rattle.office_inputs.specs.declared.limits.Limits.{Limits}
 use Rattle.office_inputs.proofs.KeepLemmas.{KeptTold, add_told, set_told, put_told}
 use Rattle.office_inputs.proofs.StationLemmas.{day_any}
-use Rattle.office_inputs.proofs.DayLemmas.{calendar_any}
 
 -- a station that is found keeps to its ranges
 station_step : (s t : StationRecord) (o : Option StationRecord) (b : Bool) → IsStation s → cond b (Some s) o ≡ Some t → (o ≡ Some t → IsStation t) → IsStation t
@@ -167,7 +167,7 @@ by_test false t f = f refl
 abbrev Reaches : List StationRecord → SiteNumber → ℤ → What → Type 0
 Reaches stations site day what =
     same_inputs (inputs_of_day stations site day) (inputs_of_day (after_what site what stations) site day) ≡ false
-    → in_reach stations site (touched_by what) day ≡ true
+    → in_reach stations site (touched_by (station_of stations site) what) day ≡ true
 
 set_reaches : (stations : List StationRecord) (site : SiteNumber) (day : ℤ) (name : List ℕ) (gap : ℕ) (stages discharges : List ℕ) (o : Option StationRecord)
     → IsDay day → station_of stations site ≡ o → Reaches stations site day (SetStation name gap stages discharges)
@@ -179,7 +179,7 @@ set_reaches stations site day name gap stages discharges (Some s) d e n =
     (set_told stations site (SetStation name gap stages discharges) day s name gap stages discharges true refl e (empty_kept s day name gap stages discharges f)) n))
 
 put_met : (stations : List StationRecord) (site : SiteNumber) (day : ℤ) (r : Reading) (rs : List Reading) (s : StationRecord) → station_of stations site ≡ Some s
-    → meets r.at (last_of r rs).at (day_start s day) (day_start s (day +ℤ pos 1)) ≡ true → in_reach stations site (touched_by (PutReadings (r ∷ rs))) day ≡ true
+    → meets r.at (last_of r rs).at (day_start s day) (day_start s (day +ℤ pos 1)) ≡ true → in_reach stations site (touched_by (station_of stations site) (PutReadings (r ∷ rs))) day ≡ true
 put_met stations site day r rs s e t =
     ap (λ (o : Option Reading). in_reach stations site (between_readings (Some r) o) day) (last_is r rs) ∙ rw e (rw t refl)
 
@@ -206,5 +206,5 @@ by_kind limits kept edit (PutReadings (x ∷ xs)) day w l k r d n =
     put_reaches kept edit.site day x xs (station_of (records_of kept) edit.site) k d l.rising refl n
 
 pub no_day_outside : (limits : Limits) (kept : List KeptStation) (edit : Edit) (day : ℤ) → AreStations kept → refusal_of limits (records_of kept) edit ≡ None
-    → IsDay day → keeps_day (records_of kept) edit day ≡ false → in_reach (records_of kept) edit.site (touched_by edit.what) day ≡ true
+    → IsDay day → keeps_day (records_of kept) edit day ≡ false → in_reach (records_of kept) edit.site (touched_of (records_of kept) edit) day ≡ true
 no_day_outside limits kept edit day k r d n = by_kind limits kept edit edit.what day refl edit.lawful k r d n

@@ -1,22 +1,24 @@
 -- The days that are found by comparing those that cover the interval.
-use Rattle.std.specs.Prelude.{◌≡◌, ◌≤◌, ◌+◌, ℕ, Bool, true, false, not, List, [], ◌∷◌, ◌++◌, filter, length, None, ℤ, pos, ◌+ℤ◌, ◌≤ℤ◌, ◌<ℤ◌}
-use Rattle.std.proofs.Common.{arith, refl, ap, sym, ◌∙◌, append_assoc}
+use Rattle.std.specs.Prelude.{◌≡◌, ◌≤◌, ◌+◌, ℕ, Bool, true, false, not, List, [], ◌∷◌, ◌++◌, filter, length, AllPairs, None, ℤ, pos, ◌+ℤ◌, ◌≤ℤ◌, ◌<ℤ◌}
+use Rattle.std.proofs.Common.{arith, refl, ap, sym, subst, ◌∙◌, append_assoc}
 use Rattle.std.proofs.lemmas.Int.{ints}
 use Rattle.std.proofs.lemmas.List.{append-nil}
 use Rattle.std.proofs.lemmas.List.Elements.{filter-append}
 use Rattle.fixed_units.specs.Quantities.{IsDay, SiteNumber, first_day, last_day}
+use Rattle.fixed_units.specs.Calendar.{calendar}
+use Rattle.fixed_units.proofs.CalendarLemmas.{calendar_none}
 use Rattle.day_inputs.specs.Equality.{same_inputs}
 use Rattle.edits.specs.declared.content.Edit.{Edit}
-use Rattle.office_inputs.specs.Calendar.{calendar}
 use Rattle.office_inputs.specs.Changes.{changed_days, keeps_day}
 use Rattle.office_inputs.specs.Kept.{AreStations, records_of}
 use Rattle.office_inputs.specs.KeptStation.{KeptStation}
 use Rattle.office_inputs.specs.Refusals.{refusal_of}
-use Rattle.office_inputs.specs.Stations.{StationRecord, inputs_of_day, stations_after}
-use Rattle.office_inputs.specs.Touched.{in_reach, touched_by, interval}
+use Rattle.office_inputs.specs.Stations.{StationRecord, station_of, inputs_of_day, stations_after}
+use Rattle.office_inputs.specs.Touched.{in_reach, touched_of, interval}
 use Rattle.office_inputs.specs.declared.limits.Limits.{Limits}
 use Rattle.depend.specs.Compared.{days_within, IsCover, AreCompared}
-use Rattle.depend.proofs.CalendarLemmas.{within_cons, within_none, calendar_span, calendar_none, span_length}
+use Rattle.office_inputs.proofs.KeepLemmas.{add_told}
+use Rattle.depend.proofs.CalendarLemmas.{within_cons, within_none, calendar_span, calendar_rises, span_length}
 use Rattle.depend.proofs.IntervalLemmas.{no_day_outside}
 
 -- what was found of the days before the next one
@@ -74,25 +76,36 @@ not_kept_none true c h e = refl
 not_kept_none false c h e = absurd (let k = h refl in cc)
 
 pub found_days : (limits : Limits) (kept : List KeptStation) (edit : Edit) (first last : ℤ) → AreStations kept → refusal_of limits (records_of kept) edit ≡ None
-    → IsCover (in_reach (records_of kept) edit.site (touched_by edit.what)) first last
+    → IsCover (in_reach (records_of kept) edit.site (touched_of (records_of kept) edit)) first last
     → filter (λ day. not (keeps_day (records_of kept) edit day)) (days_within first last) ≡ changed_days (records_of kept) edit
 found_days limits kept edit first last k r c =
     sym (calendar_span (λ day. not (keeps_day (records_of kept) edit day)) first last c.begins c.ends
     (λ d l t. c.all d l (no_day_outside limits kept edit d k r l (not_false (keeps_day (records_of kept) edit d) t))))
 
 pub no_days : (limits : Limits) (kept : List KeptStation) (edit : Edit) → AreStations kept → refusal_of limits (records_of kept) edit ≡ None
-    → AreCompared (in_reach (records_of kept) edit.site (touched_by edit.what)) None → [] ≡ changed_days (records_of kept) edit
+    → AreCompared (in_reach (records_of kept) edit.site (touched_of (records_of kept) edit)) None → [] ≡ changed_days (records_of kept) edit
 no_days limits kept edit k r c =
     sym (calendar_none (λ day. not (keeps_day (records_of kept) edit day))
-    (λ d l. not_kept_none (keeps_day (records_of kept) edit d) (in_reach (records_of kept) edit.site (touched_by edit.what) d)
+    (λ d l. not_kept_none (keeps_day (records_of kept) edit d) (in_reach (records_of kept) edit.site (touched_of (records_of kept) edit) d)
     (no_day_outside limits kept edit d k r l) (c d l)))
+
+-- none where the station is not kept
+pub unkept_days : (limits : Limits) (stations : List StationRecord) (edit : Edit) → refusal_of limits stations edit ≡ None → station_of stations edit.site ≡ None
+    → [] ≡ changed_days stations edit
+unkept_days limits stations edit r e =
+    sym (calendar_none (λ day. not (keeps_day stations edit day)) (λ d l. ap not (sym (add_told limits stations edit edit.what d refl r e))))
+
+-- they rise
+pub changed_rise : (stations : List StationRecord) (edit : Edit) (days : List ℤ) → days ≡ changed_days stations edit → AllPairs (λ (a b : ℤ). a <ℤ b) days
+changed_rise stations edit days e =
+    subst (λ (x : List ℤ). AllPairs (λ (a b : ℤ). a <ℤ b) x) (sym e) (calendar_rises (λ day. not (keeps_day stations edit day)))
 
 -- and they are at most two more than those of the interval
 pub few_steps : (stations : List StationRecord) (edit : Edit) (first last : ℤ) (before after : ℕ)
-    → IsCover (in_reach stations edit.site (touched_by edit.what)) first last → after ≤ before + length (days_within first last)
+    → IsCover (in_reach stations edit.site (touched_of stations edit)) first last → after ≤ before + length (days_within first last)
     → after ≤ before + length (interval stations edit) + 9
 few_steps stations edit first last before after c h =
-    let n = span_length (in_reach stations edit.site (touched_by edit.what)) first last c.begins c.ends c.only in
+    let n = span_length (in_reach stations edit.site (touched_of stations edit)) first last c.begins c.ends c.only in
     omega arith
 
 -- every day of the calendar asked of the inputs before and after

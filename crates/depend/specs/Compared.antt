@@ -1,7 +1,7 @@
 -- The days that are compared for an edit: from one day on to another, both included.
 use Rattle.std.specs.Prelude.{◌≡◌, ℕ, Bool, true, false, List, Option, Some, None, ℤ, pos, negsuc, ◌+ℤ◌, ◌-ℤ◌, ◌≤ℤ◌, ◌<ℤ◌}
 use Rattle.fixed_units.specs.Quantities.{IsDay}
-use Rattle.office_inputs.specs.Calendar.{days_from}
+use Rattle.fixed_units.specs.Calendar.{days_from}
 
 -- a count, none where the number is below 0
 abbrev pub count_of : ℤ → ℕ

@@ -1,8 +1,9 @@
 //! A list of days.
 
-ghost use Rattle.std.specs.Prelude.{◌≡◌};
+ghost use Rattle.std.specs.Prelude.{◌≡◌, []};
 
 use fixed_units::Day;
+use std::alloc::Global;
 use std::marker::Model;
 
 /// A list of days. Contracts see the list.
@@ -20,6 +21,15 @@ impl Model for DayList {
 }
 
 impl DayList {
+    /// No days, which takes no memory.
+    pub fn new(alloc: Global) -> DayList
+        ensures { result ≡ [] }
+    {
+        DayList {
+            days: Vec::new(alloc),
+        }
+    }
+
     /// The list of these days.
     pub fn from_vec(days: Vec<Day>) -> DayList
         ensures { result ≡ days.items }

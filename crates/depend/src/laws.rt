@@ -7,11 +7,11 @@ ghost use Rattle.office_inputs.specs.Changes.{keeps_day};
 ghost use Rattle.office_inputs.specs.Kept.{AreStations, records_of};
 ghost use Rattle.office_inputs.specs.KeptStation.{KeptStation};
 ghost use Rattle.office_inputs.specs.Refusals.{refusal_of};
-ghost use Rattle.office_inputs.specs.Touched.{in_reach, touched_by};
+ghost use Rattle.office_inputs.specs.Touched.{in_reach, touched_of};
 ghost use Rattle.office_inputs.specs.declared.limits.Limits.{Limits};
 
 /// No day outside the interval changes: over stations that keep to their ranges, an edit of any kind that is not refused leaves
 /// the inputs of every day of the calendar alone but for the days of its interval.
 pub fn no_day_outside_the_interval_changes()
-    ensures { (limits : Limits) (kept : List KeptStation) (edit : Edit) (day : ℤ) → AreStations kept → refusal_of limits (records_of kept) edit ≡ None → IsDay day → keeps_day (records_of kept) edit day ≡ false → in_reach (records_of kept) edit.site (touched_by edit.what) day ≡ true }
+    ensures { (limits : Limits) (kept : List KeptStation) (edit : Edit) (day : ℤ) → AreStations kept → refusal_of limits (records_of kept) edit ≡ None → IsDay day → keeps_day (records_of kept) edit day ≡ false → in_reach (records_of kept) edit.site (touched_of (records_of kept) edit) day ≡ true }
 {}

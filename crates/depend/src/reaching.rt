@@ -1,18 +1,19 @@
 //! The days that an edit changes.
 
-ghost use Rattle.std.specs.Prelude.{◌≡◌, ◌≤◌, ◌+◌, ◌++◌, [], ◌∷◌, not, None, filter, length, IfOk, OnOk, ℤ};
+ghost use Rattle.std.specs.Prelude.{◌≡◌, ◌≤◌, ◌+◌, ◌++◌, [], ◌∷◌, ◌<ℤ◌, not, false, None, Some, List, AllPairs, filter, length, IfOk, OnOk, ℤ};
 ghost use Rattle.depend.specs.Compared.{days_within};
 ghost use Rattle.fixed_units.specs.Quantities.{IsDay};
 ghost use Rattle.office_inputs.specs.Changes.{changed_days, keeps_day};
 ghost use Rattle.office_inputs.specs.Kept.{in_force};
-ghost use Rattle.office_inputs.specs.Refusals.{refusal_of};
+ghost use Rattle.office_inputs.specs.Refusals.{adds_station, refusal_of};
+ghost use Rattle.office_inputs.specs.Stations.{StationRecord, station_of};
 ghost use Rattle.office_inputs.specs.Touched.{interval};
 
 use crate::days::DayList;
 use crate::spans::compared_days;
 use edits::Edit;
 use fixed_units::{Day, NoMemory};
-use office_inputs::{Inputs, stations_keep_to_their_ranges};
+use office_inputs::{Inputs, Station, stations_keep_to_their_ranges};
 use std::alloc::Global;
 use std::sync::ledger::Ledger;
 use steps::Steps;
@@ -31,30 +32,34 @@ pub fn reach<L: Ledger>(
 ) -> Result<DayList, NoMemory>
     requires { refusal_of inputs.now.limits (in_force inputs.now) edit.now ≡ None }
     ensures days { IfOk result (λ days. days ≡ changed_days (in_force inputs.now) edit.now) }
+    ensures rising { IfOk result (λ days. AllPairs (λ a b. a <ℤ b) days) }
     ensures steps { steps.new ≤ steps.old + length (interval (in_force inputs.now) edit.now) + 9 }
 {
     stations_keep_to_their_ranges(inputs);
+    let Some(station) = inputs.station(edit.site) else {
+        return Ok(DayList::new(alloc));
+    };
     match compared_days(inputs, edit) {
-        Some(span) => changed_between(alloc, inputs, edit, span, steps),
-        None => Ok(DayList::from_vec(Vec::new(alloc))),
+        Some(span) => changed_between(alloc, station, edit, span, steps),
+        None => Ok(DayList::new(alloc)),
     }
 }
 
-/// The days that an edit changes, of those from the first of a span to its last: each is compared once.
+/// The days that an edit of a station changes, of those from the first of a span to its last: each is compared once.
 fn changed_between<L: Ledger>(
     alloc: Global,
-    inputs: &Inputs,
+    station: &Station,
     edit: &Edit,
     span: (Day, Day),
     steps: &mut Steps<L>,
 ) -> Result<DayList, NoMemory>
-    requires { refusal_of inputs.now.limits (in_force inputs.now) edit.now ≡ None }
-    ensures days { IfOk result (λ days. days ≡ filter (λ day. not (keeps_day (in_force inputs.now) edit.now day)) (days_within span.0 span.1)) }
+    requires { adds_station edit.now.what ≡ false }
+    ensures days { IfOk result (λ days. (stations : List StationRecord) → station_of stations edit.now.site ≡ Some station.now.station → days ≡ filter (λ day. not (keeps_day stations edit.now day)) (days_within span.0 span.1)) }
     ensures steps { steps.new ≤ steps.old + length (days_within span.0 span.1) }
 {
     let mut days = Vec::new(alloc);
     for number in span.0.get()..span.1.get() + 1 {
-        add_changed(&mut days, inputs, edit, number, steps)?;
+        add_changed(&mut days, station, edit, number, steps)?;
     }
     Ok(DayList::from_vec(days))
 }
@@ -62,20 +67,20 @@ fn changed_between<L: Ledger>(
 /// Adds the day of a number where the edit changes it.
 fn add_changed<L: Ledger>(
     days: &mut Vec<Day>,
-    inputs: &Inputs,
+    station: &Station,
     edit: &Edit,
     number: i32,
     steps: &mut Steps<L>,
 ) -> Result<(), NoMemory>
-    requires refusal { refusal_of inputs.now.limits (in_force inputs.now) edit.now ≡ None }
+    requires kept { adds_station edit.now.what ≡ false }
     requires day { IsDay number }
-    ensures days { OnOk result (days.new.items ≡ days.old.items ++ filter (λ day. not (keeps_day (in_force inputs.now) edit.now day)) (number ∷ [])) }
+    ensures days { OnOk result ((stations : List StationRecord) → station_of stations edit.now.site ≡ Some station.now.station → days.new.items ≡ days.old.items ++ filter (λ day. not (keeps_day stations edit.now day)) (number ∷ [])) }
     ensures step { steps.new ≡ steps.old + 1 }
 {
     let Some(day) = Day::new(number) else {
         unreachable!();
     };
-    if !inputs.same_day_inputs(edit, day, steps) {
+    if !station.same_day_inputs(edit, day, steps) {
         days.push(day)?;
     }
     Ok(())

@@ -6,7 +6,7 @@ ghost use Rattle.civil_days.specs.Starts.{IsZone, day_start_of};
 ghost use Rattle.depend.specs.Compared.{AreCompared, IsCover};
 ghost use Rattle.fixed_units.specs.Quantities.{IsDay, IsStamp, first_day, last_day};
 ghost use Rattle.office_inputs.specs.Kept.{in_force};
-ghost use Rattle.office_inputs.specs.Touched.{in_reach, is_between_filled, meets, touched_by};
+ghost use Rattle.office_inputs.specs.Touched.{in_reach, is_between_filled, meets, touched_of};
 ghost use Rattle.office_inputs.specs.declared.touched.Touched.TheVariants.{Between};
 
 use civil_days::StationZone;
@@ -17,7 +17,7 @@ use office_inputs::{Inputs, Touched, stations_keep_to_their_ranges};
 /// The first and the last of the days that [`crate::reach`] compares for an edit, or `None` where its interval has no day: they
 /// hold every day of the interval, and all but these two are of it.
 pub fn compared_days(inputs: &Inputs, edit: &Edit) -> Option<(Day, Day)>
-    ensures { AreCompared (in_reach (in_force inputs.now) edit.now.site (touched_by edit.now.what)) result }
+    ensures { AreCompared (in_reach (in_force inputs.now) edit.now.site (touched_of (in_force inputs.now) edit.now)) result }
 {
     match inputs.touched(edit) {
         Touched::Nothing => None,

@@ -1,3 +1,4 @@
+pub mod CalendarLemmas
 pub mod DecimalLemmas
 pub mod DigitLemmas
 pub mod LineLemmas

@@ -1,3 +1,4 @@
+pub mod Calendar
 pub mod Decimals
 pub mod Lines
 pub mod Published

@@ -1,6 +1,6 @@
 -- The ranges of quantities, instants, days and sites. A number is that of millionths, seconds or days.
 use Rattle.std.specs.Prelude.{ℕ, ◌+◌, ◌*◌, ◌^◌, ◌<◌, ◌≤◌, Bool, ◌&&◌, ℤ, pos, neg_ℤ, ◌≤ℤ◌, int_le}
-use Rattle.std.specs.Ordering.{nat_cmp, ordering_then}
+use Rattle.std.specs.Ordering.{nat_cmp, ordering_then, int_eq}
 use Rattle.std.specs.declared.cmp.Ordering.{Ordering}
 
 -- a number from the least to the greatest of a range, and the test of it
@@ -103,3 +103,7 @@ site_order a b = ordering_then (nat_cmp a.digits b.digits) (nat_cmp a.value b.va
 -- the number that a site stands at in that order
 abbrev pub site_place : SiteNumber → ℤ
 site_place site = pos (site.digits * 10 ^ 15 + site.value)
+
+-- two sites are one: they stand at one number
+abbrev pub same_site : SiteNumber → SiteNumber → Bool
+same_site a b = int_eq (site_place a) (site_place b)

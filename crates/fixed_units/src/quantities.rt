@@ -1,9 +1,8 @@
 //! The numbers that every layer above speaks of: amounts in millionths, instants, days and sites.
 
 ghost use Rattle.std.specs.Prelude.{◌≡◌, ◌^◌, ◌<◌, ◌≤◌, ◌↔◌, true, ℤ, pos, neg_ℤ, ◌≤ℤ◌, int_lt, IsSome, IfSome, if◌then◌else◌};
-ghost use Rattle.std.specs.Ordering.{int_eq};
 ghost use Rattle.std.specs.declared.cmp.Ordering.TheVariants.{Less};
-ghost use Rattle.fixed_units.specs.Quantities.{IsMicro, IsSecond, IsDay, IsSite, most_stated, site_order, site_place};
+ghost use Rattle.fixed_units.specs.Quantities.{IsMicro, IsSecond, IsDay, IsSite, most_stated, same_site, site_order, site_place};
 
 use std::marker::Model;
 
@@ -212,7 +211,7 @@ impl Site {
 
     /// Whether it is the other site.
     pub fn is_at(self, other: Site) -> bool
-        ensures place { result ≡ int_eq (site_place self) (site_place other) }
+        ensures place { result ≡ same_site self other }
         ensures same { result ≡ true ↔ self ≡ other }
     {
         self.digits == other.digits && self.value == other.value

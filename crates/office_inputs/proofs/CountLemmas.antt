@@ -8,6 +8,8 @@ use Rattle.std.proofs.lemmas.List.Elements.{filter-append}
 use Rattle.std.proofs.lemmas.List.Sums.{sum_by-append, sum_by-cons}
 use Rattle.fixed_units.specs.Quantities.{SiteNumber, site_place, IsDay}
 use Rattle.fixed_units.specs.declared.readings.Reading.{Reading}
+use Rattle.fixed_units.specs.Calendar.{calendar}
+use Rattle.fixed_units.proofs.CalendarLemmas.{calendar_one, calendar_any_none}
 use Rattle.rising.specs.Lists as lists
 use Rattle.rising.proofs.Splitting.{whole}
 use Rattle.readings.specs.Readings.{IsRising, put, at_instant, instant_of}
@@ -17,11 +19,9 @@ use Rattle.civil_days.proofs.RiseLemmas.{one_day}
 use Rattle.office_inputs.specs.KeptStation.{IsStation}
 use Rattle.office_inputs.specs.Refusals.{passes, day_count, passes_a_day, passed_limit, reading_count}
 use Rattle.office_inputs.specs.Counting.{reading_limit, station_limit, one_more}
-use Rattle.office_inputs.specs.Calendar.{calendar}
 use Rattle.office_inputs.specs.Stations.{StationRecord, station_of, place_of, day_start, with_readings}
 use Rattle.office_inputs.specs.declared.limits.Limits.{Limits}
 use Rattle.office_inputs.specs.declared.refusals.Which.TheVariants as counts
-use Rattle.office_inputs.proofs.DayLemmas.{calendar_one, calendar_any_none}
 use Rattle.office_inputs.proofs.KeepLemmas.{at_place, put_there}
 
 -- a count that is not raised passes no limit, and one raised by one passes where one more does

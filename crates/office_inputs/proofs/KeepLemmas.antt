@@ -1,5 +1,5 @@
 -- What an edit makes of the station of its site, and whether it keeps a day of it.
-use Rattle.std.specs.Prelude.{◌≡◌, Bool, true, false, cond, List, [], ◌∷◌, Option, Some, None, option_map, ℕ, ℤ}
+use Rattle.std.specs.Prelude.{◌≡◌, Bool, true, false, cond, List, [], ◌∷◌, Option, Some, None, is_some, option_map, ℕ, ℤ}
 use Rattle.std.specs.Ordering.{int_eq}
 use Rattle.std.proofs.Common.{refl, ap, sym, subst, ◌∙◌, Bor}
 use Rattle.std.proofs.lemmas.Bool.Decides.{Decides-int_eq}
@@ -103,3 +103,13 @@ pub lent_none : (found : Option (Bor KeptStation)) (kept : Option StationRecord)
     → ((s : Bor KeptStation) → found ≡ Some s → ⊥) → kept ≡ None
 lent_none None kept e n = sym e
 lent_none (Some s) kept e n = absurd (n s refl)
+
+-- an edit of a station that is kept and that is not refused adds none
+adds_step : (limits : Limits) (stations : List StationRecord) (edit : Edit) (s : StationRecord) (b : Bool) → adds_station edit.what ≡ b
+    → refusal_of limits stations edit ≡ None → station_of stations edit.site ≡ Some s → adds_station edit.what ≡ false
+adds_step limits stations edit s false a r e = a
+adds_step limits stations edit s true a r e = absurd (let k : is_some (station_of stations edit.site) ≡ true = ap is_some e in cc)
+
+pub adds_none : (limits : Limits) (stations : List StationRecord) (edit : Edit) (s : StationRecord) → refusal_of limits stations edit ≡ None
+    → station_of stations edit.site ≡ Some s → adds_station edit.what ≡ false
+adds_none limits stations edit s r e = adds_step limits stations edit s (adds_station edit.what) refl r e

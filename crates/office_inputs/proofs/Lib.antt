@@ -5,6 +5,6 @@ pub mod KeepLemmas
 pub mod RoomLemmas
 pub mod ApplyLemmas
 pub mod RefusalLemmas
-pub mod DayLemmas
 pub mod CountLemmas
 pub mod RefusingLemmas
+pub mod LawLemmas

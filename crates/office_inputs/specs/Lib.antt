@@ -1,4 +1,3 @@
-pub mod Calendar
 pub mod Changes
 pub mod Counting
 pub mod Kept

@@ -6,7 +6,7 @@ use Rattle.edits.specs.declared.content.What.{What}
 use Rattle.edits.specs.declared.content.What.TheVariants.{AddStation, SetStation, PutReadings}
 use Rattle.edits.specs.declared.content.Edit.{Edit}
 use Rattle.fixed_units.specs.Quantities.{SiteNumber}
-use Rattle.office_inputs.specs.Calendar.{calendar}
+use Rattle.fixed_units.specs.Calendar.{calendar}
 use Rattle.office_inputs.specs.Stations.{StationRecord, station_of, stations_after, day_start}
 use Rattle.office_inputs.specs.declared.limits.Limits.{Limits}
 use Rattle.office_inputs.specs.declared.refusals.Refusal.{Refusal}

@@ -2,16 +2,17 @@
 -- station's gap tolerance is.
 use Rattle.std.specs.List.{list_any}
 use Rattle.rising.specs.Ends.{first, last}
-use Rattle.std.specs.Prelude.{◌≡◌, Bool, true, false, not, ◌&&◌, ◌||◌, List, filter, Option, Some, None, ℤ, pos, ◌+ℤ◌, ◌-ℤ◌, ◌≤ℤ◌, int_le}
+use Rattle.std.specs.Prelude.{◌≡◌, ◌*◌, Bool, true, false, not, ◌&&◌, ◌||◌, List, filter, Option, Some, None, ℤ, pos, ◌+ℤ◌, ◌-ℤ◌, ◌≤ℤ◌, int_le}
 use Rattle.std.specs.Ordering.{int_eq}
 use Rattle.fixed_units.specs.Quantities.{IsDay, SiteNumber}
 use Rattle.fixed_units.specs.declared.readings.Reading.{Reading}
+use Rattle.fixed_units.specs.Calendar.{calendar}
+use Rattle.day_inputs.specs.DayInputs.{most_gap}
 use Rattle.day_inputs.specs.declared.day_inputs.DayInputs.{DayInputs}
 use Rattle.day_inputs.specs.declared.day_inputs.DayInputs.TheVariants.{Empty, Day}
 use Rattle.edits.specs.declared.content.What.{What}
 use Rattle.edits.specs.declared.content.What.TheVariants.{AddStation, SetStation, PutReadings}
 use Rattle.edits.specs.declared.content.Edit.{Edit}
-use Rattle.office_inputs.specs.Calendar.{calendar}
 use Rattle.office_inputs.specs.Stations.{StationRecord, station_of, inputs_of_day, day_start}
 use Rattle.office_inputs.specs.declared.touched.Touched.{Touched}
 use Rattle.office_inputs.specs.declared.touched.Touched.TheVariants.{Nothing, One, Between, Cells}
@@ -40,15 +41,18 @@ between_readings None last = Nothing
 between_readings (Some first) None = Nothing
 between_readings (Some first) (Some last) = Between first.at last.at false
 
--- what an edit touches
-abbrev pub touched_by : What → Touched
-touched_by (AddStation name zone gap stage_array discharge_array) = Nothing
-touched_by (SetStation name gap stage_array discharge_array) = Cells
-touched_by (PutReadings readings) = between_readings (first readings) (last readings)
+-- what an edit touches, of the station of its site as it was before
+abbrev pub touched_by : Option StationRecord → What → Touched
+touched_by station (AddStation name zone gap stage_array discharge_array) = Nothing
+touched_by station (SetStation name gap stage_array discharge_array) = Cells
+touched_by station (PutReadings readings) = between_readings (first readings) (last readings)
+
+abbrev pub touched_of : List StationRecord → Edit → Touched
+touched_of stations edit = touched_by (station_of stations edit.site) edit.what
 
 -- the greatest gap tolerance, in seconds
 abbrev pub most_gap_seconds : ℤ
-most_gap_seconds = pos 43_200
+most_gap_seconds = pos (60 * most_gap)
 
 -- the day from a to b, both ends included, meets the time from 720 minutes before an instant to 720 minutes after another
 abbrev pub meets : ℤ → ℤ → ℤ → ℤ → Bool
@@ -74,4 +78,4 @@ in_reach stations site Cells day = is_between_filled stations site day
 
 -- the days of an edit's interval
 abbrev pub interval : List StationRecord → Edit → List ℤ
-interval stations edit = filter (in_reach stations edit.site (touched_by edit.what)) calendar
+interval stations edit = filter (in_reach stations edit.site (touched_of stations edit)) calendar

@@ -2,13 +2,13 @@
 
 ghost use Rattle.std.specs.Prelude.{◌≡◌, ◌↔◌, ◌+◌, true, [], ◌∷◌, length, IfOk, IfSome, IfNone, OnOk, None, option_map};
 ghost use Rattle.day_inputs.specs.DayInputs.{AreInputs};
-ghost use Rattle.office_inputs.specs.Changes.{keeps_day};
 ghost use Rattle.rising.specs.Lists.{IsRising};
+ghost use Rattle.office_inputs.specs.Changes.{keeps_day};
 ghost use Rattle.office_inputs.specs.Kept.{AreStations, HasRoom, in_force, kept_at, place_of_kept};
 ghost use Rattle.office_inputs.specs.Refusals.{refusal_of};
 ghost use Rattle.office_inputs.specs.Stations.{station_of, stations_after, inputs_of_day};
-ghost use Rattle.office_inputs.specs.Touched.{IsUsedSpan, touched_by};
-ghost use Rattle.edits.specs.declared.content.What.TheVariants.{PutReadings};
+ghost use Rattle.office_inputs.specs.Touched.{IsUsedSpan, between_readings, touched_of};
+ghost use Rattle.rising.specs.Ends.{first, last};
 
 use crate::limits::Limits;
 use crate::refusals::{Refusal, Which};
@@ -99,36 +99,18 @@ impl Inputs {
         }
     }
 
-    /// Whether the inputs of a day of the edit's site are equal before the edit and after it: one step, and no memory.
+    /// Whether the inputs of a day of the edit's site are equal before the edit and after it: one step, and no memory. For many days
+    /// of one edit, the station is looked up once and asked itself.
     pub fn same_day_inputs<L: Ledger>(&self, edit: &Edit, day: Day, steps: &mut Steps<L>) -> bool
         requires { refusal_of self.now.limits (in_force self.now) edit.now ≡ None }
         ensures same { result ≡ keeps_day (in_force self.now) edit.now day }
         ensures step { steps.new ≡ steps.old + 1 }
     {
-        steps.tick();
-        self.keeps_day(edit, day)
-    }
-
-    /// Whether the inputs of a day of the edit's site are equal before the edit and after it.
-    fn keeps_day(&self, edit: &Edit, day: Day) -> bool
-        requires { refusal_of self.now.limits (in_force self.now) edit.now ≡ None }
-        ensures { result ≡ keeps_day (in_force self.now) edit.now day }
-    {
         let Some(station) = self.station(edit.site) else {
+            steps.tick();
             return true;
         };
-        match &edit.what {
-            What::AddStation { .. } => true,
-            What::SetStation {
-                gap,
-                stage_array,
-                discharge_array,
-                ..
-            } => station.keeps_day_described(*gap, *stage_array, *discharge_array, day),
-            What::PutReadings { readings } => {
-                station.keeps_day_with(only_one(readings.as_slice()), day)
-            }
-        }
+        station.same_day_inputs(edit, day, steps)
     }
 
     /// The first and the last day of a site that have inputs, or `None` exactly where no day has. It takes no memory.
@@ -141,9 +123,9 @@ impl Inputs {
         }
     }
 
-    /// What an edit touches. It takes no memory.
+    /// What an edit touches of the station of its site as it is before. It takes no memory.
     pub fn touched(&self, edit: &Edit) -> Touched
-        ensures { result ≡ touched_by edit.now.what }
+        ensures { result ≡ touched_of (in_force self.now) edit.now }
     {
         match &edit.what {
             What::AddStation { .. } => Touched::Nothing,
@@ -181,7 +163,7 @@ pub(crate) fn only_one(readings: &[Reading]) -> Reading
 
 /// What putting readings touches.
 fn touched_by(readings: &[Reading]) -> Touched
-    ensures { result ≡ touched_by (PutReadings readings.now) }
+    ensures { result ≡ between_readings (first readings.now) (last readings.now) }
 {
     match (readings.first().copied(), readings.last().copied()) {
         (Some(first), Some(last)) => Touched::Between {

@@ -2,7 +2,9 @@
 #![tactic(auto)]
 
 mod applying;
+mod comparing;
 pub mod inputs;
+pub mod laws;
 pub mod limits;
 pub mod refusals;
 mod refusing;

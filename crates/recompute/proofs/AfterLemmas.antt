@@ -6,14 +6,14 @@ use Rattle.std.proofs.lemmas.Int.{ints}
 use Rattle.std.proofs.lemmas.List.{get_or-take, length-take, drop_more}
 use Rattle.std.proofs.lemmas.List.Elements.{All-head, All-tail}
 use Rattle.std.proofs.lemmas.Bool.Decides.{Decides-int_eq}
-use Rattle.fixed_units.specs.Quantities.{SiteNumber}
+use Rattle.fixed_units.specs.Quantities.{SiteNumber, site_place}
+use Rattle.fixed_units.specs.Calendar.{calendar}
 use Rattle.rising.specs.Lists.{before, after}
 use Rattle.rising.proofs.Placing.{before_is_before}
 use Rattle.rising.proofs.Parting.{after_is_after}
-use Rattle.day_cells.specs.Days.{calendar}
 use Rattle.day_cells.specs.declared.waiting.Waiting.{Waiting}
 use Rattle.day_cells.specs.KeptDays.{KeptDays, waiting_of, waiting_on, is_pending_on}
-use Rattle.day_cells.specs.Sites.{rank_of, station_rank}
+use Rattle.day_cells.specs.Sites.{station_rank}
 use Rattle.day_cells.proofs.CalendarLemmas.{first_is_found}
 use Rattle.recompute.specs.Cells.{waiting, is_behind, IsPlace, IsGap}
 use Rattle.recompute.proofs.StationLemmas.{found_behind}
@@ -40,53 +40,53 @@ none_passes [] = refl
 none_passes (x ∷ xs) = none_passes xs
 
 module _ (site : SiteNumber) (day : ℤ) where
-  earlier_test : (r d : ℤ) → r <ℤ rank_of site → (int_lt (rank_of site) r || (int_eq (rank_of site) r && int_lt day d)) ≡ false
+  earlier_test : (r d : ℤ) → r <ℤ site_place site → (int_lt (site_place site) r || (int_eq (site_place site) r && int_lt day d)) ≡ false
   earlier_test r d h =
-      let a : int_lt (rank_of site) r ≡ false = grind (arith, ints) in
-      let b : int_eq (rank_of site) r ≡ false = grind (arith, ints) in
-      ap (λ t. t || (int_eq (rank_of site) r && int_lt day d)) a ∙ ap (λ t. t && int_lt day d) b
+      let a : int_lt (site_place site) r ≡ false = grind (arith, ints) in
+      let b : int_eq (site_place site) r ≡ false = grind (arith, ints) in
+      ap (λ t. t || (int_eq (site_place site) r && int_lt day d)) a ∙ ap (λ t. t && int_lt day d) b
 
-  same_test : (r d : ℤ) → r ≡ rank_of site → (int_lt (rank_of site) r || (int_eq (rank_of site) r && int_lt day d)) ≡ int_lt day d
+  same_test : (r d : ℤ) → r ≡ site_place site → (int_lt (site_place site) r || (int_eq (site_place site) r && int_lt day d)) ≡ int_lt day d
   same_test r d h =
-      let a : int_lt (rank_of site) r ≡ false = grind (arith, ints) in
-      let b : int_eq (rank_of site) r ≡ true = (Decides-int_eq (rank_of site) r).1 (sym h) in
-      ap (λ t. t || (int_eq (rank_of site) r && int_lt day d)) a ∙ ap (λ t. t && int_lt day d) b
+      let a : int_lt (site_place site) r ≡ false = grind (arith, ints) in
+      let b : int_eq (site_place site) r ≡ true = (Decides-int_eq (site_place site) r).1 (sym h) in
+      ap (λ t. t || (int_eq (site_place site) r && int_lt day d)) a ∙ ap (λ t. t && int_lt day d) b
 
-  later_test : (r d : ℤ) → rank_of site <ℤ r → (int_lt (rank_of site) r || (int_eq (rank_of site) r && int_lt day d)) ≡ true
-  later_test r d h = let a : int_lt (rank_of site) r ≡ true = grind (arith, ints) in rw a refl
+  later_test : (r d : ℤ) → site_place site <ℤ r → (int_lt (site_place site) r || (int_eq (site_place site) r && int_lt day d)) ≡ true
+  later_test r d h = let a : int_lt (site_place site) r ≡ true = grind (arith, ints) in rw a refl
 
-  earlier_station : (s : KeptDays) → station_rank s <ℤ rank_of site → find (is_behind site day) (waiting_of s) ≡ None
+  earlier_station : (s : KeptDays) → station_rank s <ℤ site_place site → find (is_behind site day) (waiting_of s) ≡ None
   earlier_station s h =
       find_same (is_behind site day) (λ _. false) (waiting_on s) (filter (is_pending_on s) calendar) (λ d. earlier_test (station_rank s) d h)
       ∙ none_passes (waiting_of s)
 
-  pub same_station : (s : KeptDays) → station_rank s ≡ rank_of site → find (is_behind site day) (waiting_of s) ≡ find (λ w. int_lt day w.day) (waiting_of s)
+  pub same_station : (s : KeptDays) → station_rank s ≡ site_place site → find (is_behind site day) (waiting_of s) ≡ find (λ w. int_lt day w.day) (waiting_of s)
   same_station s h =
       find_same (is_behind site day) (λ w. int_lt day w.day) (waiting_on s) (filter (is_pending_on s) calendar) (λ d. same_test (station_rank s) d h)
 
-  later_stations : (stations : List KeptDays) → All (λ s. rank_of site <ℤ station_rank s) stations
+  later_stations : (stations : List KeptDays) → All (λ s. site_place site <ℤ station_rank s) stations
       → find (is_behind site day) (waiting stations) ≡ find (λ _. true) (waiting stations)
   later_stations [] h = refl
   later_stations (s ∷ stations) h =
-      let later = All-head (λ s. rank_of site <ℤ station_rank s) s stations h in
+      let later = All-head (λ s. site_place site <ℤ station_rank s) s stations h in
       let here = find_same (is_behind site day) (λ _. true) (waiting_on s) (filter (is_pending_on s) calendar) (λ d. later_test (station_rank s) d later) in
-      let rest = later_stations stations (All-tail (λ s. rank_of site <ℤ station_rank s) s stations h) in
+      let rest = later_stations stations (All-tail (λ s. site_place site <ℤ station_rank s) s stations h) in
       find-append (is_behind site day) (waiting_of s) (waiting stations) ∙ rw (here, rest) refl
       ∙ sym (find-append (λ _. true) (waiting_of s) (waiting stations))
 
   -- the stations before a place come before, those behind it after
-  pub early_none : (stations : List KeptDays) (place : ℕ) → take place stations ≡ before station_rank (rank_of site) stations
+  pub early_none : (stations : List KeptDays) (place : ℕ) → take place stations ≡ before station_rank (site_place site) stations
       → find (is_behind site day) (waiting stations) ≡ find (is_behind site day) (waiting (drop place stations))
   early_none stations place front =
       found_behind (is_behind site day) stations place
       (λ k z l m. earlier_station (get_or stations k z)
-      (let all = subst (λ (xs : List KeptDays). All (λ s. station_rank s <ℤ rank_of site) xs) (sym front) (before_is_before station_rank (rank_of site) stations) in
-      subst (λ (s : KeptDays). station_rank s <ℤ rank_of site) (get_or-take place stations k z l) (all k z (omega (arith, length-take place stations)))))
+      (let all = subst (λ (xs : List KeptDays). All (λ s. station_rank s <ℤ site_place site) xs) (sym front) (before_is_before station_rank (site_place site) stations) in
+      subst (λ (s : KeptDays). station_rank s <ℤ site_place site) (get_or-take place stations k z l) (all k z (omega (arith, length-take place stations)))))
 
-  pub late_first : (stations : List KeptDays) (place : ℕ) → drop place stations ≡ after station_rank (rank_of site) stations
+  pub late_first : (stations : List KeptDays) (place : ℕ) → drop place stations ≡ after station_rank (site_place site) stations
       → find (is_behind site day) (waiting (drop place stations)) ≡ slice_get (waiting (drop place stations)) 0
   late_first stations place back =
-      later_stations (drop place stations) (subst (λ (xs : List KeptDays). All (λ s. rank_of site <ℤ station_rank s) xs) (sym back) (after_is_after station_rank (rank_of site) stations))
+      later_stations (drop place stations) (subst (λ (xs : List KeptDays). All (λ s. site_place site <ℤ station_rank s) xs) (sym back) (after_is_after station_rank (site_place site) stations))
       ∙ sym (first_is_found (waiting (drop place stations)))
 
   pub after_gap : (stations : List KeptDays) (place : ℕ) → IsGap stations site place

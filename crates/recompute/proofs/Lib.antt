@@ -3,3 +3,4 @@ pub mod ReplaceLemmas
 pub mod AfterLemmas
 pub mod FoundLemmas
 pub mod OutcomeLemmas
+pub mod TrueLemmas

@@ -28,21 +28,22 @@ told_false p q b h e = told_by p q (same_inputs p q) refl (λ k. false≢true (s
 pub told_true : (p q : DayInputs) → p ≡ q → same_inputs p q ≡ true
 told_true p q e = (Decides-same_inputs p q).1 e
 
+other_edit : (edit awaits : ℕ) (same b : Bool) → (edit == awaits) ≡ b → (Some edit ≡ Some awaits → same ≡ true)
+    → (cond b (cond same Published Foreign) (Superseded edit) ≡ Published ↔ Some edit ≡ Some awaits) × (cond b (cond same Published Foreign) (Superseded edit) ≢ Foreign)
+other_edit edit awaits true true e h = ((λ _. ap (λ n. Some n) ((Decides-eqb edit awaits).0 e), λ _. refl), λ k. (cc))
+other_edit edit awaits false true e h = absurd (false≢true (h (ap (λ n. Some n) ((Decides-eqb edit awaits).0 e))))
+other_edit edit awaits same false e h = ((λ k. (cc), λ k. absurd (false≢true (sym e ∙ (Decides-eqb edit awaits).1 (same_Some edit awaits k)))), λ k. (cc))
+
+-- where the inputs are the same as long as the job's edit is awaited
+pub outcome_where_awaited : (o : Option ℕ) (awaits : ℕ) (same : Bool) → (o ≡ Some awaits → same ≡ true)
+    → (outcome_by o awaits same ≡ Published ↔ o ≡ Some awaits) × (outcome_by o awaits same ≢ Foreign)
+outcome_where_awaited None awaits same h = ((λ k. (cc), λ k. (cc)), λ k. (cc))
+outcome_where_awaited (Some edit) awaits same h = other_edit edit awaits same (edit == awaits) refl h
+
 -- a job whose inputs are those in force as long as its day awaits its edit
 pub published_where_awaited : (cells : List KeptDays) (stations : List StationRecord) (job : DayJob)
     → (awaited_in cells job.site job.day ≡ Some job.awaits → job.inputs ≡ inputs_of_day stations job.site job.day)
     → (outcome_of cells stations job ≡ Published ↔ awaited_in cells job.site job.day ≡ Some job.awaits) × (outcome_of cells stations job ≢ Foreign)
 published_where_awaited cells stations job h =
-    by_cases (awaited_in cells job.site job.day) job.awaits (same_inputs job.inputs (inputs_of_day stations job.site job.day))
+    outcome_where_awaited (awaited_in cells job.site job.day) job.awaits (same_inputs job.inputs (inputs_of_day stations job.site job.day))
     (λ e. told_true job.inputs (inputs_of_day stations job.site job.day) (h e))
-  where
-    other_edit : (edit awaits : ℕ) (same b : Bool) → (edit == awaits) ≡ b → (Some edit ≡ Some awaits → same ≡ true)
-        → (cond b (cond same Published Foreign) (Superseded edit) ≡ Published ↔ Some edit ≡ Some awaits) × (cond b (cond same Published Foreign) (Superseded edit) ≢ Foreign)
-    other_edit edit awaits true true e h = ((λ _. ap (λ n. Some n) ((Decides-eqb edit awaits).0 e), λ _. refl), λ k. (cc))
-    other_edit edit awaits false true e h = absurd (false≢true (h (ap (λ n. Some n) ((Decides-eqb edit awaits).0 e))))
-    other_edit edit awaits same false e h = ((λ k. (cc), λ k. absurd (false≢true (sym e ∙ (Decides-eqb edit awaits).1 (same_Some edit awaits k)))), λ k. (cc))
-
-    by_cases : (o : Option ℕ) (awaits : ℕ) (same : Bool) → (o ≡ Some awaits → same ≡ true)
-        → (outcome_by o awaits same ≡ Published ↔ o ≡ Some awaits) × (outcome_by o awaits same ≢ Foreign)
-    by_cases None awaits same h = ((λ k. (cc), λ k. (cc)), λ k. (cc))
-    by_cases (Some edit) awaits same h = other_edit edit awaits same (edit == awaits) refl h

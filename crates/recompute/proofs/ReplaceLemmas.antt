@@ -1,36 +1,33 @@
 -- The cells of one station replaced by those that it has after a change: what is said of each station, and the counts.
-use Rattle.std.specs.Prelude.{◌≡◌, ℕ, zero, suc, ◌+◌, ◌*◌, ◌<◌, ◌≤◌, min, Bool, true, false, not, ◌&&◌, cond, List, [], ◌∷◌, ◌++◌, length, set, take, drop, find, slice_get, count_by, filter, All, Option, Some, None, option_and_then, option_map, unwrap_or, is_none, IsSome, nat_lt, ℤ, pos, ◌+ℤ◌, map}
+use Rattle.std.specs.Prelude.{◌≡◌, ℕ, zero, suc, ◌+◌, ◌*◌, ◌<◌, ◌≤◌, min, Bool, true, false, not, ◌&&◌, cond, List, [], ◌∷◌, ◌++◌, length, set, take, drop, find, slice_get, count_by, filter, All, Option, Some, None, option_and_then, option_map, unwrap_or, is_none, IsSome, nat_lt, ℤ, pos, map}
 use Rattle.std.specs.List.{AllWithin, flat_map, insert}
 use Rattle.std.specs.Ordering.{int_eq}
 use Rattle.std.proofs.Common.{arith, refl, ap, sym, subst, ◌∙◌, get_or, inl, inr}
 use Rattle.std.proofs.lemmas.Bool.{cases_lt, cases_eq, false≢true}
-use Rattle.std.proofs.lemmas.Bool.Decides.{Decides-eqb}
+use Rattle.std.proofs.lemmas.Bool.Decides.{Decides-int_eq}
 use Rattle.std.proofs.lemmas.List.{get_or-set_same, get_or-set_other, length-set, length-map, take-append-drop}
 use Rattle.std.proofs.lemmas.List.Edits.{length-insert, get_or-insert_below}
 use Rattle.std.proofs.lemmas.List.Concat.{length-flat_map, flat_map-append}
 use Rattle.std.proofs.lemmas.List.Elements.{All-set, filter_agree}
 use Rattle.std.proofs.lemmas.List.Sums.{sum_by-set, sum_by-insert, sum_by-le, get_or-le-sum_by, length-filter, count_by-le-length}
-use Rattle.fixed_units.specs.Quantities.{SiteNumber, first_day}
+use Rattle.fixed_units.specs.Quantities.{SiteNumber, first_day, site_place, same_site}
+use Rattle.fixed_units.specs.Calendar.{days_from, calendar, days_of_calendar}
+use Rattle.fixed_units.proofs.CalendarLemmas.{length_from}
 use Rattle.daily_values.specs.declared.day_values.DayValue.{DayValue}
 use Rattle.daily_values.specs.declared.day_values.DayValue.TheVariants.{Empty}
 use Rattle.rising.specs.Lists.{IsRising, at, put, before, after}
 use Rattle.rising.proofs.Placing.{write_is_put, put_rises, at_put, at_put_other, put_keeps}
 use Rattle.rising.proofs.Selecting.{filter_none}
 use Rattle.day_cells.proofs.DayLemmas.{by_day, on_day_at, on_day_before}
-use Rattle.day_cells.specs.Days.{days_from, calendar, days_of_calendar, contains_day, on_day}
+use Rattle.day_cells.specs.Days.{contains_day, on_day}
 use Rattle.day_cells.specs.Spans.{days_of, with_days}
 use Rattle.day_cells.specs.KeptDays as station
 use Rattle.day_cells.specs.KeptDays.{KeptDays, edit_of, edit_on, awaited_on, is_out_on, value_on, is_pending_on, waiting_of, waiting_on, HasCell}
-use Rattle.day_cells.specs.Sites.{rank_of, rank_number, is_site, station_rank}
+use Rattle.day_cells.specs.Sites.{station_rank}
 use Rattle.recompute.specs.Cells.{station_of, awaited_in, span_in, waiting, cell_count, IsPlace, IsGap, HasRoom, SaysTheSame, Marks, TakesOut, Publishes, KeepsCounts, NonePendingWithin, NoneUnclaimedWithin, most_stations}
 use Rattle.recompute.proofs.StationLemmas.{site_yes, site_no}
 
 -- how many days of a station can be pending at most
-days_length : (day : ℤ) (n : ℕ) → length (days_from day n) ≡ n
-unfolding days_from
-days_length day zero = refl
-days_length day (suc n) = ap suc (days_length (day +ℤ pos 1) n)
-
 waiting_within : (s : KeptDays) (day : ℤ) (n : ℕ) → length (map (waiting_on s) (filter (is_pending_on s) (days_from day n))) ≤ n
 waiting_within s day n =
     omega (
@@ -38,7 +35,7 @@ waiting_within s day n =
       length-map (filter (is_pending_on s) (days_from day n)) (waiting_on s),
       length-filter (is_pending_on s) (days_from day n),
       count_by-le-length (is_pending_on s) (days_from day n),
-      days_length day n,
+      length_from day n,
     )
 
 pub waiting_most : (s : KeptDays) → length (waiting_of s) ≤ 73_049
@@ -93,8 +90,8 @@ joined_within P xs first next h g k d low high =
       | inr l ↦ g k d l high
     ]
 
-is_itself : (site : SiteNumber) → is_site site site ≡ true
-is_itself site = (Decides-eqb (rank_number site) (rank_number site)).1 refl
+is_itself : (site : SiteNumber) → same_site site site ≡ true
+is_itself site = (Decides-int_eq (site_place site) (site_place site)).1 refl
 
 -- an awaited edit by its number
 edit_marked : (t : Bool) (n m edit : ℕ) → 1 ≤ edit → n ≡ cond t edit m → edit_of n ≡ cond t (Some edit) (edit_of m)
@@ -113,8 +110,8 @@ module _ (stations : List KeptDays) (site : SiteNumber) (place : ℕ) (old new :
     pub same : new.site ≡ old.site
 
   module _ (h : IsReplaced) where
-    rank_same : station_rank new ≡ rank_of site
-    rank_same = ap rank_of h.same ∙ ap station_rank h.was ∙ h.here.here old
+    rank_same : station_rank new ≡ site_place site
+    rank_same = ap site_place h.same ∙ ap station_rank h.was ∙ h.here.here old
 
     is_put : set stations place new ≡ put station_rank new stations
     is_put =
@@ -125,19 +122,19 @@ module _ (stations : List KeptDays) (site : SiteNumber) (place : ℕ) (old new :
     replaced_rises : IsRising station_rank (set stations place new)
     replaced_rises = subst (IsRising station_rank) (sym is_put) (put_rises station_rank new stations h.rising)
 
-    replaced_here : (s : SiteNumber) → is_site site s ≡ true → station_of (set stations place new) s ≡ Some new
+    replaced_here : (s : SiteNumber) → same_site site s ≡ true → station_of (set stations place new) s ≡ Some new
     replaced_here s e =
         ap (λ xs. station_of xs s) is_put ∙ ap (λ n. at station_rank n (put station_rank new stations)) (sym (site_yes site s e) ∙ sym rank_same)
         ∙ at_put station_rank new stations
 
-    replaced_there : (s : SiteNumber) → is_site site s ≡ false → station_of (set stations place new) s ≡ station_of stations s
+    replaced_there : (s : SiteNumber) → same_site site s ≡ false → station_of (set stations place new) s ≡ station_of stations s
     replaced_there s e =
-        ap (λ xs. station_of xs s) is_put ∙ at_put_other station_rank new (rank_of s) stations (λ k. site_no site s e (sym rank_same ∙ k))
+        ap (λ xs. station_of xs s) is_put ∙ at_put_other station_rank new (site_place s) stations (λ k. site_no site s e (sym rank_same ∙ k))
 
     pub was_there : station_of stations site ≡ Some old
     was_there = h.here.found old ∙ ap (λ s. Some s) (sym h.was)
 
-    was_here : (s : SiteNumber) → is_site site s ≡ true → station_of stations s ≡ Some old
+    was_here : (s : SiteNumber) → same_site site s ≡ true → station_of stations s ≡ Some old
     was_here s e = ap (λ n. at station_rank n stations) (sym (site_yes site s e)) ∙ was_there
 
     pub is_there : station_of (set stations place new) site ≡ Some new
@@ -145,25 +142,25 @@ module _ (stations : List KeptDays) (site : SiteNumber) (place : ℕ) (old new :
 
     -- what is said of a station by its cells alone: changed where a test passes, the same, or changed as a whole
     said_by : {X : Type 0} (f : Option KeptDays → X) (t : Bool) (v : X) → f (Some new) ≡ cond t v (f (Some old))
-        → (s : SiteNumber) (b : Bool) → is_site site s ≡ b → f (station_of (set stations place new) s) ≡ cond (b && t) v (f (station_of stations s))
+        → (s : SiteNumber) (b : Bool) → same_site site s ≡ b → f (station_of (set stations place new) s) ≡ cond (b && t) v (f (station_of stations s))
     said_by f t v e s true k = ap f (replaced_here s k) ∙ e ∙ ap (λ o. cond t v (f o)) (sym (was_here s k))
     said_by f t v e s false k = ap f (replaced_there s k)
 
     said : {X : Type 0} (f : Option KeptDays → X) (t : Bool) (v : X) → f (Some new) ≡ cond t v (f (Some old))
-        → (s : SiteNumber) → f (station_of (set stations place new) s) ≡ cond (is_site site s && t) v (f (station_of stations s))
-    said f t v e s = said_by f t v e s (is_site site s) refl
+        → (s : SiteNumber) → f (station_of (set stations place new) s) ≡ cond (same_site site s && t) v (f (station_of stations s))
+    said f t v e s = said_by f t v e s (same_site site s) refl
 
     same_by : {X : Type 0} (f : Option KeptDays → X) → f (Some new) ≡ f (Some old)
-        → (s : SiteNumber) (b : Bool) → is_site site s ≡ b → f (station_of (set stations place new) s) ≡ f (station_of stations s)
+        → (s : SiteNumber) (b : Bool) → same_site site s ≡ b → f (station_of (set stations place new) s) ≡ f (station_of stations s)
     same_by f e s true k = ap f (replaced_here s k) ∙ e ∙ ap f (sym (was_here s k))
     same_by f e s false k = ap f (replaced_there s k)
 
     said_same : {X : Type 0} (f : Option KeptDays → X) → f (Some new) ≡ f (Some old)
         → (s : SiteNumber) → f (station_of (set stations place new) s) ≡ f (station_of stations s)
-    said_same f e s = same_by f e s (is_site site s) refl
+    said_same f e s = same_by f e s (same_site site s) refl
 
     whole_by : {X : Type 0} (f : Option KeptDays → X) (g : X → X) → f (Some new) ≡ g (f (Some old))
-        → (s : SiteNumber) (b : Bool) → is_site site s ≡ b
+        → (s : SiteNumber) (b : Bool) → same_site site s ≡ b
         → f (station_of (set stations place new) s) ≡ cond b (g (f (station_of stations s))) (f (station_of stations s))
     whole_by f g e s true k = ap f (replaced_here s k) ∙ e ∙ ap (λ o. g (f o)) (sym (was_here s k))
     whole_by f g e s false k = ap f (replaced_there s k)
@@ -246,7 +243,7 @@ module _ (stations : List KeptDays) (site : SiteNumber) (place : ℕ) (old new :
               (edit_marked (contains_day days d) (edit_on new d) (edit_on old d) edit one (m.edits d)) s;
           out = λ s d. said (λ o. unwrap_or (option_map (λ c. is_out_on c d) o) false) (contains_day days d) false (m.claims d) s;
           value = λ s d. said_same (λ o. unwrap_or (option_map (λ c. value_on c d) o) Empty) (m.values d) s;
-          span = λ s. whole_by (λ o. option_and_then (λ c. c.span) o) (λ x. with_days x days) wide s (is_site site s) refl;
+          span = λ s. whole_by (λ o. option_and_then (λ c. c.span) o) (λ x. with_days x days) wide s (same_site site s) refl;
           cells = omega (arith, cells, span, before, after);
         }
 
@@ -265,10 +262,10 @@ never_both false x y = refl
 
 pub marks_none : (stations : List KeptDays) (site : SiteNumber) (days : List ℤ) (edit : ℕ) → days ≡ [] → Marks stations stations site days edit
 marks_none stations site [] edit e = record {
-  awaited = λ s d. sym (never_both (is_site site s) (Some edit) (awaited_in stations s d));
-  out = λ s d. sym (never_both (is_site site s) false (unwrap_or (option_map (λ c. is_out_on c d) (station_of stations s)) false));
+  awaited = λ s d. sym (never_both (same_site site s) (Some edit) (awaited_in stations s d));
+  out = λ s d. sym (never_both (same_site site s) false (unwrap_or (option_map (λ c. is_out_on c d) (station_of stations s)) false));
   value = λ s d. refl;
-  span = λ s. sym (both_same (is_site site s) (span_in stations s));
+  span = λ s. sym (both_same (same_site site s) (span_in stations s));
   cells = omega arith;
 }
 marks_none stations site (d ∷ days) edit e = absurd (cc)
@@ -365,8 +362,8 @@ module _ (stations : List KeptDays) (site : SiteNumber) (place : ℕ) (new : Kep
     pub none : waiting_of new ≡ []
 
   module _ (h : IsAdded) where
-    rank_added : station_rank new ≡ rank_of site
-    rank_added = ap rank_of h.site_is
+    rank_added : station_rank new ≡ site_place site
+    rank_added = ap site_place h.site_is
 
     added_is_put : insert stations place new ≡ put station_rank new stations
     added_is_put =
@@ -374,7 +371,7 @@ module _ (stations : List KeptDays) (site : SiteNumber) (place : ℕ) (new : Kep
         let b = h.gap.back ∙ ap (λ n. after station_rank n stations) (sym rank_added) in
         rw (a, b) refl
 
-    added_here : (s : SiteNumber) → is_site site s ≡ true → station_of (insert stations place new) s ≡ Some new
+    added_here : (s : SiteNumber) → same_site site s ≡ true → station_of (insert stations place new) s ≡ Some new
     added_here s e =
         ap (λ xs. station_of xs s) added_is_put ∙ ap (λ n. at station_rank n (put station_rank new stations)) (sym (site_yes site s e) ∙ sym rank_added)
         ∙ at_put station_rank new stations
@@ -382,12 +379,12 @@ module _ (stations : List KeptDays) (site : SiteNumber) (place : ℕ) (new : Kep
     pub added_there : station_of (insert stations place new) site ≡ Some new
     added_there = added_here site (is_itself site)
 
-    nothing_by : {X : Type 0} (f : Option KeptDays → X) → f (Some new) ≡ f None → (s : SiteNumber) (b : Bool) → is_site site s ≡ b
+    nothing_by : {X : Type 0} (f : Option KeptDays → X) → f (Some new) ≡ f None → (s : SiteNumber) (b : Bool) → same_site site s ≡ b
         → f (station_of (insert stations place new) s) ≡ f (station_of stations s)
     nothing_by f e s true k =
         ap f (added_here s k) ∙ e ∙ ap f (sym (ap (λ n. at station_rank n stations) (sym (site_yes site s k)) ∙ h.gap.none))
     nothing_by f e s false k =
-        ap f (ap (λ xs. station_of xs s) added_is_put ∙ at_put_other station_rank new (rank_of s) stations (λ m. site_no site s k (sym rank_added ∙ m)))
+        ap f (ap (λ xs. station_of xs s) added_is_put ∙ at_put_other station_rank new (site_place s) stations (λ m. site_no site s k (sym rank_added ∙ m)))
 
     span_none : new.span ≡ None
     span_none = h.says.span
@@ -406,10 +403,10 @@ module _ (stations : List KeptDays) (site : SiteNumber) (place : ℕ) (new : Kep
 
     pub same_added : SaysTheSame stations (insert stations place new)
     same_added = record {
-      awaited = λ s d. nothing_by (λ o. option_and_then (λ c. awaited_on c d) o) (ap edit_of (h.says.edits d ∙ nothing_on h.start 0 d)) s (is_site site s) refl;
-      out = λ s d. nothing_by (λ o. unwrap_or (option_map (λ c. is_out_on c d) o) false) (h.says.claims d ∙ nothing_on h.start false d) s (is_site site s) refl;
-      value = λ s d. nothing_by (λ o. unwrap_or (option_map (λ c. value_on c d) o) Empty) (h.says.values d ∙ nothing_on h.start Empty d) s (is_site site s) refl;
-      span = λ s. nothing_by (λ o. option_and_then (λ c. c.span) o) h.says.span s (is_site site s) refl;
+      awaited = λ s d. nothing_by (λ o. option_and_then (λ c. awaited_on c d) o) (ap edit_of (h.says.edits d ∙ nothing_on h.start 0 d)) s (same_site site s) refl;
+      out = λ s d. nothing_by (λ o. unwrap_or (option_map (λ c. is_out_on c d) o) false) (h.says.claims d ∙ nothing_on h.start false d) s (same_site site s) refl;
+      value = λ s d. nothing_by (λ o. unwrap_or (option_map (λ c. value_on c d) o) Empty) (h.says.values d ∙ nothing_on h.start Empty d) s (same_site site s) refl;
+      span = λ s. nothing_by (λ o. option_and_then (λ c. c.span) o) h.says.span s (same_site site s) refl;
       waiting = waiting_added;
       cells = cells_added;
     }

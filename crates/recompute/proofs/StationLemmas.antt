@@ -1,15 +1,15 @@
 -- Stations in the order of their sites: the first pending day of some, and one of them replaced.
-use Rattle.std.specs.Prelude.{◌≡◌, ℕ, zero, suc, ◌<◌, ◌≤◌, Bool, true, false, cond, List, [], ◌∷◌, ◌++◌, length, take, drop, find, slice_get, Some, None, pos}
+use Rattle.std.specs.Prelude.{◌≡◌, ℕ, zero, suc, ◌<◌, ◌≤◌, Bool, true, false, cond, List, [], ◌∷◌, ◌++◌, length, take, drop, find, slice_get, Some, None}
 use Rattle.std.proofs.Common.{arith, refl, ap, sym, ◌∙◌, get_or}
 use Rattle.std.proofs.lemmas.Bool.{false≢true}
-use Rattle.std.proofs.lemmas.Bool.Decides.{Decides-eqb}
+use Rattle.std.proofs.lemmas.Bool.Decides.{Decides-int_eq}
 use Rattle.std.proofs.lemmas.List.{get_or_default}
-use Rattle.fixed_units.specs.Quantities.{SiteNumber}
+use Rattle.fixed_units.specs.Quantities.{SiteNumber, site_place, same_site}
 use Rattle.rising.specs.Lists.{IsRising, before, from}
 use Rattle.rising.proofs.Placing.{place_here, place_elsewhere}
 use Rattle.day_cells.specs.declared.waiting.Waiting.{Waiting}
 use Rattle.day_cells.specs.KeptDays.{KeptDays, waiting_of}
-use Rattle.day_cells.specs.Sites.{rank_of, rank_number, is_site, station_rank}
+use Rattle.day_cells.specs.Sites.{station_rank}
 use Rattle.recompute.specs.Cells.{waiting, IsPlace, IsGap}
 
 -- the first that passes a test, of two lists
@@ -59,19 +59,19 @@ pub none_waiting : (ws : List Waiting) → slice_get ws 0 ≡ None → ws ≡ []
 none_waiting [] h = refl
 none_waiting (w ∷ ws) h = absurd (cc)
 
--- ranks that are one
-pub site_yes : (a b : SiteNumber) → is_site a b ≡ true → rank_of a ≡ rank_of b
-site_yes a b h = ap (λ n. pos n) ((Decides-eqb (rank_number a) (rank_number b)).0 h)
+-- two sites are one, or not
+pub site_yes : (a b : SiteNumber) → same_site a b ≡ true → site_place a ≡ site_place b
+site_yes a b h = (Decides-int_eq (site_place a) (site_place b)).0 h
 
-pub site_no : (a b : SiteNumber) → is_site a b ≡ false → rank_of a ≡ rank_of b → ⊥
-site_no a b h e = false≢true (sym h ∙ (Decides-eqb (rank_number a) (rank_number b)).1 (cc))
+pub site_no : (a b : SiteNumber) → same_site a b ≡ false → site_place a ≡ site_place b → ⊥
+site_no a b h e = false≢true (sym h ∙ (Decides-int_eq (site_place a) (site_place b)).1 e)
 
 -- where a key belongs in the stations
 pub at_place : (stations : List KeptDays) (site : SiteNumber) (place : ℕ) (z : KeptDays) → IsRising station_rank stations
-    → take place stations ≡ before station_rank (rank_of site) stations → drop place stations ≡ from station_rank (rank_of site) stations
-    → place < length stations → station_rank (get_or stations place z) ≡ rank_of site → IsPlace stations site place
+    → take place stations ≡ before station_rank (site_place site) stations → drop place stations ≡ from station_rank (site_place site) stations
+    → place < length stations → station_rank (get_or stations place z) ≡ site_place site → IsPlace stations site place
 at_place stations site place z h front back l e =
-    let n = rank_of site in
+    let n = site_place site in
     let same = λ (d : KeptDays). get_or_default stations place d z l in
     let here = place_here station_rank n stations place z h front back l e in
     record {
@@ -83,8 +83,8 @@ at_place stations site place z h front back l e =
     }
 
 pub at_gap : (stations : List KeptDays) (site : SiteNumber) (place : ℕ) → IsRising station_rank stations → place ≤ length stations
-    → take place stations ≡ before station_rank (rank_of site) stations → drop place stations ≡ from station_rank (rank_of site) stations
-    → (place < length stations → (d : KeptDays) → station_rank (get_or stations place d) ≡ rank_of site → ⊥) → IsGap stations site place
+    → take place stations ≡ before station_rank (site_place site) stations → drop place stations ≡ from station_rank (site_place site) stations
+    → (place < length stations → (d : KeptDays) → station_rank (get_or stations place d) ≡ site_place site → ⊥) → IsGap stations site place
 at_gap stations site place h l front back other =
-    let away = place_elsewhere station_rank (rank_of site) stations place h front back other in
+    let away = place_elsewhere station_rank (site_place site) stations place h front back other in
     record { within = l; none = away.0; front = front; back = away.1 }

@@ -1,5 +1,5 @@
 -- Jobs, and what becomes of their publication.
-use Rattle.std.specs.Prelude.{ℕ, Bool, ◌==◌, if◌then◌else◌, List, Option, Some, None, ℤ}
+use Rattle.std.specs.Prelude.{◌≡◌, ℕ, Bool, ◌==◌, if◌then◌else◌, List, Option, Some, None, ℤ}
 use Rattle.fixed_units.specs.Quantities.{SiteNumber}
 use Rattle.day_inputs.specs.declared.day_inputs.DayInputs.{DayInputs}
 use Rattle.day_inputs.specs.Equality.{same_inputs}
@@ -35,3 +35,8 @@ outcome_by (Some edit) awaits same = if edit == awaits then (if same then Publis
 abbrev pub outcome_of : List KeptDays → List StationRecord → DayJob → Publish
 outcome_of cells stations job =
     outcome_by (awaited_in cells job.site job.day) job.awaits (same_inputs job.inputs (inputs_of_day stations job.site job.day))
+
+-- a job is true: as long as its day awaits its edit, its inputs are those in force
+abbrev pub IsTrueJob : List KeptDays → List StationRecord → DayJob → Type 0
+IsTrueJob cells stations job =
+    awaited_in cells job.site job.day ≡ Some job.awaits → job.inputs ≡ inputs_of_day stations job.site job.day

@@ -1,10 +1,13 @@
 //! The kept cells of all stations.
 
-ghost use Rattle.std.specs.Prelude.{◌≡◌, true, false, not, ◌+◌, ◌<◌, ◌≤◌, [], None, Some, length, find, slice_get, ℤ, ◌<ℤ◌, AllPairs, count_by, is_none, IfSome, IsSome, OnOk};
-ghost use Rattle.fixed_units.specs.Quantities.{SiteNumber};
+ghost use Rattle.std.specs.Prelude.{◌≡◌, true, false, not, ◌+◌, ◌<◌, ◌≤◌, [], None, Some, length, find, slice_get, ℤ, ◌<ℤ◌, All, AllPairs, count_by, is_none, IfSome, IsSome, OnOk};
+ghost use Rattle.std.specs.List.{list_any};
+ghost use Rattle.fixed_units.specs.Quantities.{SiteNumber, IsDay};
+ghost use Rattle.rising.specs.Lists.{IsRising};
 ghost use Rattle.day_cells.specs.KeptDays.{waiting_of};
+ghost use Rattle.day_cells.specs.Sites.{station_rank};
 ghost use Rattle.day_cells.specs.Spans.{IsSpan, days_of};
-ghost use Rattle.recompute.specs.Cells.{HasRoom, SaysTheSame, Marks, TakesOut, Publishes, awaited_in, value_in, span_in, waiting, is_behind, cell_count, cell_count_after, most_stations};
+ghost use Rattle.recompute.specs.Cells.{HasRoom, SaysTheSame, Marks, TakesOut, Publishes, IsTold, awaited_in, is_day_of, value_in, span_in, waiting, is_behind, cell_count, cell_count_after, most_stations};
 
 use crate::stations::{
     cells_at, count_after, first_in, first_pending, first_unclaimed, first_unclaimed_in,
@@ -139,7 +142,8 @@ impl Cells {
 
     /// The first pending day by site, then day, whether its claim is out or not.
     pub(crate) fn first(&self) -> Option<Waiting>
-        ensures { result ≡ slice_get (waiting self.now) 0 }
+        ensures first { result ≡ slice_get (waiting self.now) 0 }
+        ensures awaits { IfSome result (λ w. awaited_in self.now w.site w.day ≡ Some w.awaits) }
     {
         let (_, late) = self.stations.split_at(self.first);
         first_in(late)
@@ -147,7 +151,8 @@ impl Cells {
 
     /// The first pending day by site, then day, that comes after a day, which need not be kept.
     pub(crate) fn first_after(&self, site: Site, day: Day) -> Option<Waiting>
-        ensures { result ≡ find (is_behind site day) (waiting self.now) }
+        ensures first { result ≡ find (is_behind site day) (waiting self.now) }
+        ensures awaits { IfSome result (λ w. awaited_in self.now w.site w.day ≡ Some w.awaits) }
     {
         match place_of(&self.stations, site) {
             Ok(place) => match self.stations[place].first_after(day) {
@@ -225,4 +230,13 @@ impl Cells {
             self.unclaimed = first_unclaimed(&self.stations, self.unclaimed.min(place));
         }
     }
+}
+
+/// The stations rise by site, and the pending days are just those days of the calendar that await an edit, each as it is told.
+pub fn pending_days_stand_by_site(cells: &Cells)
+    ensures rising { IsRising station_rank cells.now }
+    ensures each { All (IsTold cells.now) (waiting cells.now) }
+    ensures all { (site : SiteNumber) (day : ℤ) → IsDay day → IsSome (awaited_in cells.now site day) → list_any (λ w. is_day_of site day w.site w.day) (waiting cells.now) ≡ true }
+{
+    let _ = &cells.stations;
 }

@@ -1,9 +1,11 @@
 //! What is due: jobs for pending days, and the publication of their values.
 
 ghost use Rattle.std.specs.Prelude.{◌≡◌, ◌≢◌, not, None, Some, Ok, find, slice_get, option_map, IfOk, IfSome, OnErr};
+ghost use Rattle.daily_values.specs.DayValue.{day_value};
 ghost use Rattle.office_inputs.specs.Kept.{in_force};
-ghost use Rattle.recompute.specs.Cells.{TakesOut, Publishes, waiting, is_behind};
-ghost use Rattle.recompute.specs.Jobs.{job_of, outcome_of};
+ghost use Rattle.office_inputs.specs.Stations.{inputs_of_day};
+ghost use Rattle.recompute.specs.Cells.{TakesOut, Publishes, awaited_in, waiting, is_behind};
+ghost use Rattle.recompute.specs.Jobs.{IsTrueJob, job_of, outcome_of};
 
 use crate::cells::Cells;
 use crate::jobs::{Done, Job, Publish};
@@ -16,6 +18,8 @@ impl Cells {
     /// where there is none. After `NoMemory` the cells are as before.
     pub fn claim(&mut self, inputs: &Inputs) -> Result<Option<Job>, NoMemory>
         ensures job { IfOk result (λ job. job ≡ option_map (job_of (in_force inputs.now)) (find (λ w. not w.out) (waiting self.old))) }
+        ensures awaits { IfOk result (λ job. IfSome job (λ j. awaited_in self.old j.site j.day ≡ Some j.awaits)) }
+        ensures told { IfOk result (λ job. IfSome job (IsTrueJob self.new (in_force inputs.now))) }
         ensures claimed { IfOk result (λ job. IfSome job (λ j. TakesOut self.old self.new j.site j.day)) }
         ensures none { result ≡ Ok None → self.new ≡ self.old }
         ensures err { OnErr result (self.new ≡ self.old) }
@@ -33,6 +37,8 @@ impl Cells {
     pub fn after(&self, inputs: &Inputs, last: Option<(Site, Day)>) -> Result<Option<Job>, NoMemory>
         ensures first { last ≡ None → IfOk result (λ job. job ≡ option_map (job_of (in_force inputs.now)) (slice_get (waiting self.now) 0)) }
         ensures behind { IfSome last (λ l. IfOk result (λ job. job ≡ option_map (job_of (in_force inputs.now)) (find (is_behind l.0 l.1) (waiting self.now)))) }
+        ensures awaits { IfOk result (λ job. IfSome job (λ j. awaited_in self.now j.site j.day ≡ Some j.awaits)) }
+        ensures told { IfOk result (λ job. IfSome job (IsTrueJob self.now (in_force inputs.now))) }
     {
         let found = match last {
             Some((site, day)) => self.first_after(site, day),
@@ -48,6 +54,7 @@ impl Cells {
     pub fn publish(&mut self, done: Done, inputs: &Inputs) -> Publish
         ensures outcome { result ≡ outcome_of self.old (in_force inputs.now) done.job }
         ensures published { result ≡ Publish.Published → Publishes self.old self.new done.job.site done.job.day done.value }
+        ensures value { result ≡ Publish.Published → done.value ≡ day_value (inputs_of_day (in_force inputs.now) done.job.site done.job.day) }
         ensures others { result ≢ Publish.Published → self.new ≡ self.old }
     {
         let job = done.job();

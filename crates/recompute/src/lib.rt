@@ -7,6 +7,6 @@ pub mod jobs;
 pub mod laws;
 mod stations;
 
-pub use cells::Cells;
+pub use cells::{Cells, pending_days_stand_by_site};
 pub use day_cells::Waiting;
 pub use jobs::{Done, Job, Publish};

@@ -4,10 +4,10 @@ ghost use Rattle.std.specs.Prelude.{◌≡◌, ◌+◌, ◌<◌, ◌≤◌, true
 ghost use Rattle.std.specs.List.{HoldsAt};
 ghost use Rattle.rising.specs.Lists.{IsRising, at, before, after};
 ghost use Rattle.day_cells.specs.KeptDays.{HasRoom, SaysTheSame, waiting_of};
-ghost use Rattle.day_cells.specs.Days.{days_of_calendar};
+ghost use Rattle.fixed_units.specs.Calendar.{days_of_calendar};
 ghost use Rattle.day_cells.specs.Spans as spans;
 ghost use Rattle.day_cells.specs.Spans.{IsSpan, days_of};
-ghost use Rattle.day_cells.specs.Sites.{rank_of, station_rank};
+ghost use Rattle.day_cells.specs.Sites.{station_rank};
 ghost use Rattle.recompute.specs.Cells.{IsPlace, IsGap, NonePendingWithin, NoneUnclaimedWithin, waiting};
 
 use day_cells::{DayCells, Span, Waiting, count_days, rank, with_day};

@@ -1,11 +1,16 @@
 -- The days of the calendar, in order.
-use Rattle.std.specs.Prelude.{ℕ, zero, suc, List, [], ◌∷◌, ℤ, pos, negsuc, ◌+ℤ◌}
+use Rattle.std.specs.Prelude.{ℕ, zero, suc, List, [], ◌∷◌, ℤ, pos, ◌+ℤ◌}
+use Rattle.fixed_units.specs.Quantities.{first_day}
 
 -- so many days in order, from the given one on
 unfoldable pub days_from : ℤ → ℕ → List ℤ
 days_from day zero = []
 days_from day (suc n) = day ∷ days_from (day +ℤ pos 1) n
 
+-- how many days the calendar has
+abbrev pub days_of_calendar : ℕ
+days_of_calendar = 73_049
+
 -- every day of the calendar, from 1900-01-01 to 2099-12-31
 unfoldable pub calendar : List ℤ
-calendar = days_from (negsuc 25_566) 73_049
+calendar = days_from first_day days_of_calendar

@@ -1,0 +1,112 @@
+-- What an edit leaves alone, and which days have inputs only since it.
+use Rattle.std.specs.Prelude.{◌≡◌, Bool, true, false, not, cond, List, [], ◌∷◌, ◌++◌, filter, Contains, Option, Some, None, ℕ, zero, suc, ℤ, pos, ◌+ℤ◌}
+use Rattle.std.specs.Ordering.{int_eq}
+use Rattle.std.proofs.Common.{arith, refl, ap, sym, subst, ◌∙◌}
+use Rattle.std.proofs.lemmas.Bool.Decides.{Decides-int_eq}
+use Rattle.std.proofs.lemmas.Int.{ints, by_lt_z}
+use Rattle.std.proofs.lemmas.List.Elements.{Contains-get_or, Contains-append_right}
+use Rattle.std.proofs.lemmas.List.Sums.{fold_push}
+use Rattle.fixed_units.specs.Quantities.{IsDay, SiteNumber, first_day, site_place, same_site}
+use Rattle.fixed_units.specs.Calendar.{days_from, days_of_calendar, calendar}
+use Rattle.fixed_units.proofs.CalendarLemmas.{IsAmong, is_among}
+use Rattle.rising.specs.Lists.{at, put}
+use Rattle.rising.proofs.Placing.{at_put_other}
+use Rattle.day_inputs.specs.Equality.{same_inputs}
+use Rattle.day_inputs.specs.declared.day_inputs.DayInputs.{DayInputs}
+use Rattle.day_inputs.specs.declared.day_inputs.DayInputs.TheVariants.{Empty, Day}
+use Rattle.edits.specs.declared.content.What.{What}
+use Rattle.edits.specs.declared.content.What.TheVariants.{AddStation, SetStation, PutReadings}
+use Rattle.edits.specs.declared.content.Edit.{Edit}
+use Rattle.office_inputs.specs.Changes.{changed_days, keeps_day}
+use Rattle.office_inputs.specs.Stations.{StationRecord, station_of, stations_after, stations_of, inputs_of_day, day_of_station, after_what, place_of, with_changed, changed_at, new_station, described, with_readings}
+use Rattle.office_inputs.specs.Touched.{has_inputs, is_filled}
+use Rattle.office_inputs.proofs.KeepLemmas.{at_place}
+
+other_place : (a b : SiteNumber) → same_site a b ≡ false → site_place a ≡ site_place b → ⊥
+other_place a b n e = let t = (Decides-int_eq (site_place a) (site_place b)).1 e in absurd (cc)
+
+-- a station that is put leaves the others
+put_leaves : (s : StationRecord) (stations : List StationRecord) (own site : SiteNumber) → place_of s ≡ site_place own → same_site own site ≡ false
+    → station_of (put place_of s stations) site ≡ station_of stations site
+put_leaves s stations own site p n = at_put_other place_of s (site_place site) stations (λ e. other_place own site n (sym p ∙ e))
+
+-- and so does one that is changed and keeps its place
+change_leaves : (change : StationRecord → StationRecord) (stations : List StationRecord) (own site : SiteNumber) (o : Option StationRecord)
+    → ((s : StationRecord) → place_of (change s) ≡ place_of s) → station_of stations own ≡ o → same_site own site ≡ false
+    → station_of (with_changed change o stations) site ≡ station_of stations site
+change_leaves change stations own site None k e n = refl
+change_leaves change stations own site (Some s) k e n =
+    put_leaves (change s) stations own site (k s ∙ at_place place_of (site_place own) stations s e) n
+
+by_kind : (stations : List StationRecord) (own site : SiteNumber) (what : What) → same_site own site ≡ false
+    → station_of (after_what own what stations) site ≡ station_of stations site
+by_kind stations own site (AddStation name zone gap stages discharges) n =
+    put_leaves (new_station own name zone gap stages discharges) stations own site refl n
+by_kind stations own site (SetStation name gap stages discharges) n =
+    change_leaves (described name gap stages discharges) stations own site (station_of stations own) (λ s. refl) refl n
+by_kind stations own site (PutReadings readings) n =
+    change_leaves (with_readings readings) stations own site (station_of stations own) (λ s. refl) refl n
+
+pub station_left : (stations : List StationRecord) (edit : Edit) (site : SiteNumber) → same_site edit.site site ≡ false
+    → station_of (stations_after stations edit) site ≡ station_of stations site
+station_left stations edit site n = by_kind stations edit.site site edit.what n
+
+pub inputs_left : (stations : List StationRecord) (edit : Edit) (site : SiteNumber) (day : ℤ) → same_site edit.site site ≡ false
+    → inputs_of_day (stations_after stations edit) site day ≡ inputs_of_day stations site day
+inputs_left stations edit site day n = ap (λ (o : Option StationRecord). day_of_station o day) (station_left stations edit site n)
+
+pub edit_more : (edits : List Edit) (edit : Edit) → stations_after (stations_of edits) edit ≡ stations_of (edits ++ edit ∷ [])
+edit_more edits edit = sym (fold_push stations_after [] edits edit)
+
+-- a day that passes a test is one of those of the calendar that it keeps
+kept_first : (b : Bool) (day d : ℤ) (ds : List ℤ) → b ≡ true → d ≡ day → Contains (cond b (day ∷ ds) ds) d
+kept_first true day d ds b e = subst (λ (x : ℤ). Contains (day ∷ ds) x) (sym e) (Contains-get_or (day ∷ ds) 0 day (omega arith))
+kept_first false day d ds b e = absurd (cc)
+
+kept_later : (b : Bool) (day d : ℤ) (ds : List ℤ) → Contains ds d → Contains (cond b (day ∷ ds) ds) d
+kept_later true day d ds h = Contains-append_right (day ∷ []) ds d h
+kept_later false day d ds h = h
+
+filter_has : (p : ℤ → Bool) (day : ℤ) (n : ℕ) (d : ℤ) → IsAmong day n d → p d ≡ true → Contains (filter p (days_from day n)) d
+unfolding days_from
+filter_has p day zero d w h = absurd (let a = w.low in let b = w.high in omega (arith, ints))
+filter_has p day (suc n) d w h =
+    by_lt_z day d
+    (λ l. kept_later (p day) day d (filter p (days_from (day +ℤ pos 1) n))
+    (filter_has p (day +ℤ pos 1) n d (record { low = omega (arith, ints); high = let b = w.high in omega (arith, ints) }) h))
+    (λ m. let e : d ≡ day = (let a = w.low in omega (arith, ints)) in kept_first (p day) day d (filter p (days_from (day +ℤ pos 1) n)) (ap p (sym e) ∙ h) e)
+
+calendar_has : (p : ℤ → Bool) (d : ℤ) → IsDay d → p d ≡ true → Contains (filter p calendar) d
+unfolding calendar
+calendar_has p d k h = filter_has p first_day days_of_calendar d (is_among d k) h
+
+-- inputs where there were none differ
+filled_differ : (before after : DayInputs) → has_inputs before ≡ false → has_inputs after ≡ true → same_inputs before after ≡ false
+filled_differ Empty Empty f t = absurd (cc)
+filled_differ Empty (Day q) f t = refl
+filled_differ (Day p) after f t = absurd (cc)
+
+true_false : (b : Bool) → b ≡ true → b ≡ false → ⊥
+true_false b t f = let k : true ≡ false = sym t ∙ f in absurd (cc)
+
+at_one_place : (stations : List StationRecord) (a b : SiteNumber) (day : ℤ) → same_site a b ≡ true → inputs_of_day stations b day ≡ inputs_of_day stations a day
+at_one_place stations a b day e =
+    ap (λ (n : ℤ). day_of_station (at place_of n stations) day) (sym ((Decides-int_eq (site_place a) (site_place b)).0 e))
+
+changed_step : (stations : List StationRecord) (edit : Edit) (site : SiteNumber) (day : ℤ) (b : Bool) → same_site edit.site site ≡ b → IsDay day
+    → is_filled stations site day ≡ false → is_filled (stations_after stations edit) site day ≡ true
+    → (same_site edit.site site ≡ true) × Contains (changed_days stations edit) day
+changed_step stations edit site day false e d f t =
+    absurd (true_false (is_filled (stations_after stations edit) site day) t (ap has_inputs (inputs_left stations edit site day e) ∙ f))
+changed_step stations edit site day true e d f t = (
+  e,
+  let before = sym (ap has_inputs (at_one_place stations edit.site site day e)) ∙ f in
+      let after = sym (ap has_inputs (at_one_place (stations_after stations edit) edit.site site day e)) ∙ t in
+      let differ = filled_differ (inputs_of_day stations edit.site day) (inputs_of_day (stations_after stations edit) edit.site day) before after in
+      calendar_has (λ day. not (keeps_day stations edit day)) day d (ap not differ),
+)
+
+pub filled_changed : (stations : List StationRecord) (edit : Edit) (site : SiteNumber) (day : ℤ) → IsDay day
+    → is_filled stations site day ≡ false → is_filled (stations_after stations edit) site day ≡ true
+    → (same_site edit.site site ≡ true) × Contains (changed_days stations edit) day
+filled_changed stations edit site day d f t = changed_step stations edit site day (same_site edit.site site) refl d f t

@@ -1,0 +1,10 @@
+pub mod CountLemmas
+pub mod EventLemmas
+pub mod JobLemmas
+pub mod LegalLemmas
+pub mod MergeLemmas
+pub mod NamedLemmas
+pub mod PendingLemmas
+pub mod SpanLemmas
+pub mod StationLemmas
+pub mod VerdictLemmas

@@ -1,0 +1,124 @@
+-- What an edit leaves of the stations and of the inputs of days.
+use Rattle.std.specs.Prelude.{◌≡◌, ℕ, Bool, true, false, not, ◌&&◌, cond, List, [], ◌∷◌, find, Option, Some, None, is_some, ℤ}
+use Rattle.std.specs.Ordering.{int_eq}
+use Rattle.std.proofs.Common.{refl, ap, sym, subst, ◌∙◌, inl, inr}
+use Rattle.std.proofs.lemmas.Bool.{cases_Bool, false≢true, and_parts, not-true, not-false}
+use Rattle.std.proofs.lemmas.Bool.Decides.{Decides-int_eq}
+use Rattle.day_inputs.specs.Equality.{same_inputs}
+use Rattle.day_inputs.specs.declared.day_inputs.DayInputs.{DayInputs}
+use Rattle.day_inputs.proofs.EqualityLemmas.{Decides-same_inputs}
+use Rattle.edits.specs.declared.content.Edit.{Edit}
+use Rattle.edits.specs.declared.content.What.{What}
+use Rattle.edits.specs.declared.content.What.TheVariants.{AddStation, SetStation, PutReadings}
+use Rattle.fixed_units.specs.Quantities.{SiteNumber, site_place, same_site}
+use Rattle.history.specs.Accepted.{changes}
+use Rattle.office_inputs.specs.Changes.{keeps_day}
+use Rattle.office_inputs.specs.Stations.{StationRecord, place_of, station_of, with_changed, changed_at, new_station, described, with_readings, after_what, stations_after, day_of_station, inputs_of_day}
+use Rattle.rising.specs.Lists.{at, put}
+use Rattle.rising.proofs.Placing.{at_put, at_put_other}
+
+pub places_equal : (a b : SiteNumber) → same_site a b ≡ true → site_place a ≡ site_place b
+places_equal a b h = (Decides-int_eq (site_place a) (site_place b)).0 h
+
+pub places_apart : (a b : SiteNumber) → same_site a b ≡ false → site_place a ≡ site_place b → ⊥
+places_apart a b h e = false≢true (sym h ∙ (Decides-int_eq (site_place a) (site_place b)).1 e)
+
+-- what is found passes the test
+found_step : {X : Type 0} (p : X → Bool) (x y : X) (xs : List X) (b : Bool) → p x ≡ b → cond b (Some x) (find p xs) ≡ Some y
+    → (find p xs ≡ Some y → p y ≡ true) → p y ≡ true
+found_step p x y xs true e h rec = let same : x ≡ y = cc in subst (λ z. p z ≡ true) same e
+found_step p x y xs false e h rec = rec h
+
+pub found_passes : {X : Type 0} (p : X → Bool) (xs : List X) (y : X) → find p xs ≡ Some y → p y ≡ true
+found_passes p [] y h = absurd (cc)
+found_passes p (x ∷ xs) y h = found_step p x y xs (p x) refl h (found_passes p xs y)
+
+pub found_place : (stations : List StationRecord) (site : SiteNumber) (s : StationRecord) → station_of stations site ≡ Some s → place_of s ≡ site_place site
+found_place stations site s h =
+    (Decides-int_eq (place_of s) (site_place site)).0 (found_passes (λ (t : StationRecord). int_eq (place_of t) (site_place site)) stations s h)
+
+-- the stations of two sites that are one
+pub same_station : (stations : List StationRecord) (a b : SiteNumber) → site_place a ≡ site_place b → station_of stations a ≡ station_of stations b
+same_station stations a b e = ap (λ n. at place_of n stations) e
+
+pub same_day : (stations : List StationRecord) (a b : SiteNumber) (day : ℤ) → site_place a ≡ site_place b → inputs_of_day stations a day ≡ inputs_of_day stations b day
+same_day stations a b day e = ap (λ o. day_of_station o day) (same_station stations a b e)
+
+module _ (own site : SiteNumber) (stations : List StationRecord) where
+  -- a change of a station leaves the others
+  other_changed : (change : StationRecord → StationRecord) (found : Option StationRecord) → station_of stations own ≡ found
+      → ((s : StationRecord) → place_of (change s) ≡ place_of s) → (site_place own ≡ site_place site → ⊥)
+      → station_of (with_changed change found stations) site ≡ station_of stations site
+  other_changed change None e keeps apart = refl
+  other_changed change (Some s) e keeps apart =
+      at_put_other place_of (change s) (site_place site) stations (λ k. apart (sym (found_place stations own s e) ∙ sym (keeps s) ∙ k))
+
+  -- and keeps a station
+  own_changed : (change : StationRecord → StationRecord) (found : Option StationRecord) → station_of stations own ≡ found
+      → ((s : StationRecord) → place_of (change s) ≡ place_of s) → is_some found ≡ true
+      → is_some (station_of (with_changed change found stations) own) ≡ true
+  own_changed change None e keeps h = absurd (false≢true h)
+  own_changed change (Some s) e keeps h =
+      ap is_some (ap (λ n. at place_of n (put place_of (change s) stations)) (sym (keeps s ∙ found_place stations own s e)) ∙ at_put place_of (change s) stations)
+
+  other_after : (what : What) → (site_place own ≡ site_place site → ⊥) → station_of (after_what own what stations) site ≡ station_of stations site
+  other_after (AddStation name zone gap stages discharges) apart =
+      at_put_other place_of (new_station own name zone gap stages discharges) (site_place site) stations apart
+  other_after (SetStation name gap stages discharges) apart =
+      other_changed (described name gap stages discharges) (station_of stations own) refl (λ s. refl) apart
+  other_after (PutReadings readings) apart = other_changed (with_readings readings) (station_of stations own) refl (λ s. refl) apart
+
+  own_after : (what : What) → is_some (station_of stations own) ≡ true → is_some (station_of (after_what own what stations) own) ≡ true
+  own_after (AddStation name zone gap stages discharges) h = ap is_some (at_put place_of (new_station own name zone gap stages discharges) stations)
+  own_after (SetStation name gap stages discharges) h = own_changed (described name gap stages discharges) (station_of stations own) refl (λ s. refl) h
+  own_after (PutReadings readings) h = own_changed (with_readings readings) (station_of stations own) refl (λ s. refl) h
+
+module _ (stations : List StationRecord) (edit : Edit) (site : SiteNumber) where
+  -- an edit of another site leaves the station
+  pub kept_other : same_site edit.site site ≡ false → station_of (stations_after stations edit) site ≡ station_of stations site
+  kept_other h = other_after edit.site site stations edit.what (places_apart edit.site site h)
+
+  -- no edit takes a station away
+  pub station_stays : is_some (station_of stations site) ≡ true → is_some (station_of (stations_after stations edit) site) ≡ true
+  station_stays h =
+      elim (cases_Bool (same_site edit.site site)) [
+        | inl y ↦
+            let e = places_equal edit.site site y in
+            ap is_some (sym (same_station (stations_after stations edit) edit.site site e))
+            ∙ own_after edit.site site stations edit.what (ap is_some (same_station stations edit.site site e) ∙ h)
+        | inr n ↦ ap is_some (kept_other n) ∙ h
+      ]
+
+  -- a day that the edit does not change keeps its inputs
+  pub unchanged_day : (day : ℤ) → changes stations edit site day ≡ false → inputs_of_day (stations_after stations edit) site day ≡ inputs_of_day stations site day
+  unchanged_day day h =
+      elim (cases_Bool (same_site edit.site site)) [
+        | inl y ↦
+            let e = places_equal edit.site site y in
+            let kept : not (keeps_day stations edit day) ≡ false = sym (ap (λ b. b && not (keeps_day stations edit day)) y) ∙ h in
+            let same = (Decides-same_inputs (inputs_of_day stations edit.site day) (inputs_of_day (stations_after stations edit) edit.site day)).0 (not-false (keeps_day stations edit day) kept) in
+            sym (same_day (stations_after stations edit) edit.site site day e) ∙ sym same ∙ same_day stations edit.site site day e
+        | inr n ↦ ap (λ o. day_of_station o day) (kept_other n)
+      ]
+
+  -- a day that the edit changes is one of a station
+  none_same : (a b : Option StationRecord) (day : ℤ) → is_some a ≡ false → is_some b ≡ false → same_inputs (day_of_station a day) (day_of_station b day) ≡ true
+  none_same None None day h k = refl
+  none_same (Some s) b day h k = absurd (cc)
+  none_same None (Some t) day h k = absurd (cc)
+
+  pub changed_has_station : (day : ℤ) → changes stations edit site day ≡ true → is_some (station_of (stations_after stations edit) site) ≡ true
+  changed_has_station day h =
+      let parts = and_parts (same_site edit.site site) (not (keeps_day stations edit day)) h in
+      let e = places_equal edit.site site parts.0 in
+      elim (cases_Bool (is_some (station_of (stations_after stations edit) site))) [
+        | inl y ↦ y
+        | inr n ↦
+            let none : is_some (station_of (stations_after stations edit) edit.site) ≡ false = ap is_some (same_station (stations_after stations edit) edit.site site e) ∙ n in
+            elim (cases_Bool (is_some (station_of stations edit.site))) [
+              | inl y ↦ absurd (false≢true (sym none ∙ own_after edit.site site stations edit.what y))
+              | inr m ↦
+                  absurd (false≢true (sym (not-true (keeps_day stations edit day) parts.1)
+                  ∙ none_same (station_of stations edit.site) (station_of (stations_after stations edit) edit.site) day m none))
+            ]
+      ]

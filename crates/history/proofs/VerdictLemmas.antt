@@ -1,0 +1,62 @@
+-- What it says that an edit is accepted.
+use Rattle.std.specs.Prelude.{◌≡◌, ℕ, ◌+◌, ◌≤◌, nat_lt, Bool, true, false, cond, length, Option, Some, None}
+use Rattle.std.proofs.Common.{arith, refl, ap, sym, ◌∙◌}
+use Rattle.std.proofs.lemmas.Bool.{ltb-false}
+use Rattle.edits.specs.declared.content.Edit.{Edit}
+use Rattle.history.specs.Accepted.{Numbered, accepted, edits_of, named, cell_count, journal_size}
+use Rattle.history.specs.Awaited.{pending_days}
+use Rattle.history.specs.Events.{History}
+use Rattle.history.specs.Verdicts.{Verdict, Repeats, Refuses, Accepts, with_edit, same_edit, or_else, refused_by_stations, is_full_of_events, is_full_of_cells, is_journal_full, refused_where, refusal_of, verdict_of_refusal, verdict_by, verdict}
+use Rattle.office_inputs.specs.declared.refusals.Refusal.{Refusal}
+use Rattle.office_inputs.specs.declared.refusals.Refusal.TheVariants.{RefReused, HistoryFull, JournalFull}
+use Rattle.office_inputs.specs.declared.refusals.Full.TheVariants as fulls
+
+-- its reference names no accepted edit, the stations in force do not refuse it, and there is room
+pub record IsAccepted (h : History) (edit : Edit) : Type 0 where
+  pub new : named (edits_of h.events) edit.reference ≡ None
+  pub stations : refused_by_stations h edit ≡ None
+  pub events : length h.events + 1 + length (pending_days (with_edit h edit)) ≤ h.limits.events
+  pub cells : cell_count (edits_of (with_edit h edit)) ≤ h.limits.cells
+  pub journal : journal_size (accepted (with_edit h edit)) ≤ h.limits.journal_bytes
+
+again_refused : (b : Bool) (number : ℕ) → cond b (Repeats number) (Refuses (RefReused number)) ≡ Accepts → ⊥
+again_refused true number h = cc h
+again_refused false number h = cc h
+
+not_again : (o : Option Numbered) (edit : Edit) (r : Option Refusal) → verdict_by o edit r ≡ Accepts → o ≡ None
+not_again None edit r h = refl
+not_again (Some other) edit r h = absurd (again_refused (same_edit other.edit edit) other.number h)
+
+not_refused : (r : Option Refusal) → verdict_of_refusal r ≡ Accepts → r ≡ None
+not_refused None h = refl
+not_refused (Some refusal) h = absurd (cc)
+
+first_none : (a b : Option Refusal) → or_else a b ≡ None → a ≡ None
+first_none None b h = refl
+first_none (Some refusal) b h = absurd (cc)
+
+later_none : (a b : Option Refusal) → or_else a b ≡ None → b ≡ None
+later_none None b h = h
+later_none (Some refusal) b h = absurd (cc)
+
+test_false : (b : Bool) (refusal : Refusal) → refused_where b refusal ≡ None → b ≡ false
+test_false true refusal h = absurd (cc)
+test_false false refusal h = refl
+
+pub accepted_parts : (h : History) (edit : Edit) → verdict h edit ≡ Accepts → IsAccepted h edit
+accepted_parts h edit v =
+    let new = not_again (named (edits_of h.events) edit.reference) edit (refusal_of h edit) v in
+    let whole : refusal_of h edit ≡ None =
+    not_refused (refusal_of h edit) (ap (λ (o : Option Numbered). verdict_by o edit (refusal_of h edit)) (sym new) ∙ v) in
+    let events = refused_where (is_full_of_events h edit) (HistoryFull fulls.Events) in
+    let cells = refused_where (is_full_of_cells h edit) (HistoryFull fulls.Cells) in
+    let journal = refused_where (is_journal_full h edit) JournalFull in
+    let room = later_none (refused_by_stations h edit) (or_else events (or_else cells journal)) whole in
+    let small = later_none events (or_else cells journal) room in
+    record {
+      new = new;
+      stations = first_none (refused_by_stations h edit) (or_else events (or_else cells journal)) whole;
+      events = ltb-false h.limits.events _ (test_false (is_full_of_events h edit) (HistoryFull fulls.Events) (first_none events (or_else cells journal) room));
+      cells = ltb-false h.limits.cells _ (test_false (is_full_of_cells h edit) (HistoryFull fulls.Cells) (first_none cells journal small));
+      journal = ltb-false h.limits.journal_bytes _ (test_false (is_journal_full h edit) JournalFull (later_none cells journal small));
+    }

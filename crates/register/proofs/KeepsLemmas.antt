@@ -1,0 +1,188 @@
+-- What is kept in memory tells what is read off the history, also after each step.
+use Rattle.std.specs.Prelude.{◌≡◌, ℕ, ◌+◌, ◌<◌, ◌^◌, Bool, true, false, cond, List, [], ◌∷◌, ◌++◌, length, map, bytes_eq, Option, Some, None, IfSome, ℤ}
+use Rattle.std.proofs.Common.{arith, refl, ap, sym, subst, ◌∙◌, length-append}
+use Rattle.std.proofs.lemmas.List.Sums.{sum_by-append, sum_by-cons}
+use Rattle.std.specs.Cmp.Lexicographic.{bytes_decides}
+use Rattle.daily_values.specs.declared.day_values.DayValue.{DayValue}
+use Rattle.day_cells.specs.KeptDays.{KeptDays}
+use Rattle.edits.specs.declared.content.Edit.{Edit}
+use Rattle.fixed_units.specs.Quantities.{SiteNumber}
+use Rattle.history.specs.Accepted.{Numbered, numbered_from, accepted, edit_of, edits_of, stations_at, named, journal_size}
+use Rattle.history.specs.Awaited.{is_pending, pending_days, value_at}
+use Rattle.history.specs.Events.{Event, Accepted, Published, Faulted, History}
+use Rattle.history.specs.Legal.{IsLegal}
+use Rattle.history.proofs.EventLemmas.{accepted_accepted, accepted_published, accepted_faulted, edits_accepted, stations_accepted}
+use Rattle.history.proofs.LegalLemmas.{MayCome, legal_more, not_nil}
+use Rattle.history.proofs.NamedLemmas.{named_kept, named_new}
+use Rattle.office_inputs.specs.Changes.{changed_days}
+use Rattle.office_inputs.specs.Kept.{InForce, in_force}
+use Rattle.office_inputs.specs.Refusals as refusals
+use Rattle.office_inputs.specs.Stations.{StationRecord, stations_of, stations_after}
+use Rattle.office_inputs.specs.declared.limits.Limits.{Limits}
+use Rattle.recompute.specs.Cells.{SaysTheSame, Marks, TakesOut, Publishes}
+use Rattle.records.specs.Payloads.{payload}
+use Rattle.records.specs.declared.payloads.Record.{Record}
+use Rattle.register.specs.Keeping.{Keeps, PlacesAll, Tells}
+use Rattle.register.specs.References.{Placed, place_for}
+use Rattle.register.specs.Registered.{registered}
+use Rattle.register.proofs.TellsLemmas.{tells_none, tells_marked, tells_same, tells_taken, tells_faulted, tells_published}
+
+-- of no record
+pub keeps_none : (inputs : InForce) (spare : ℕ) → in_force inputs ≡ [] → Keeps (registered 0 inputs [] [] spare []) [] 0 17
+unfolding numbered_from
+keeps_none inputs spare h = record {
+  legal = record {
+    first = [];
+    since = [];
+    opened = refl;
+    references = λ before after piece s. absurd (not_nil before (Accepted piece) after s);
+    edits = λ before after piece s. absurd (not_nil before (Accepted piece) after s);
+    publications = λ before after site day s. absurd (not_nil before (Published site day) after s);
+  };
+  stations = h;
+  pieces_are = refl;
+  events_are = refl;
+  journal_is = refl;
+  journal_fits = omega arith;
+  cells_tell = tells_none;
+  places = λ reference. tt;
+  fits = omega arith;
+}
+
+pub keeps_empty : (inputs : InForce) (cells : List KeptDays) (places : List Placed) (spare : ℕ) (events : List Event) (pieces : List Record)
+    → in_force inputs ≡ [] → cells ≡ [] → places ≡ [] → events ≡ [] → pieces ≡ [] → Keeps (registered 0 inputs cells places spare events) pieces 0 17
+keeps_empty inputs cells places spare events pieces h c p e q = rw (c, p, e, q) (keeps_none inputs spare h)
+
+-- the place that is kept for each reference that names an accepted edit
+abbrev pub IsPlaced : List Placed → List ℕ → Numbered → Type 0
+IsPlaced kept reference n = (place : ℕ) × (place_for kept reference ≡ Some place) × (n.number ≡ place + 1)
+
+module _ (edits : List Edit) (edit : Edit) (kept : List Placed) (room : place_for kept edit.reference ≡ Some (length edits)) where
+  new_place : (reference : List ℕ) (b : Bool) → bytes_eq edit.reference reference ≡ b
+      → IfSome (cond b (Some (record { number = 1 + length edits; edit = edit })) None) (IsPlaced kept reference)
+  new_place reference true e =
+      let same : edit.reference ≡ reference = (bytes_decides edit.reference reference).0 e in
+      (length edits, ap (place_for kept) (sym same) ∙ room, omega arith)
+  new_place reference false e = tt
+
+  place_step : (reference : List ℕ) (found : Option Numbered) → named edits reference ≡ found → IfSome found (IsPlaced kept reference)
+      → IfSome (named (edits ++ edit ∷ []) reference) (IsPlaced kept reference)
+  place_step reference (Some n) e h =
+      subst (λ (o : Option Numbered). IfSome o (IsPlaced kept reference)) (sym (named_kept reference edits edit n e)) h
+  place_step reference None e h =
+      subst (λ (o : Option Numbered). IfSome o (IsPlaced kept reference)) (sym (named_new reference edits edit e))
+      (new_place reference (bytes_eq edit.reference reference) refl)
+
+  pub places_more : PlacesAll edits kept → PlacesAll (edits ++ edit ∷ []) kept
+  places_more h reference = place_step reference (named edits reference) refl (h reference)
+
+pub journal_more : (pieces : List Record) (piece : Record) → journal_size (pieces ++ piece ∷ []) ≡ journal_size pieces + (5 + length (payload piece))
+journal_more pieces piece =
+    let whole = sum_by-append (λ (p : Record). 5 + length (payload p)) pieces (piece ∷ []) in
+    let last = sum_by-cons (λ (p : Record). 5 + length (payload p)) piece [] in
+    omega (arith, whole, last)
+
+module _ (opened : ℕ) (inputs : InForce) (cells : List KeptDays) (places : List Placed) (spare : ℕ) (events : List Event)
+    (pieces : List Record) (count bytes : ℕ) (kept : Keeps (registered opened inputs cells places spare events) pieces count bytes) where
+  abbrev now : History
+  now = record { opened = opened; limits = inputs.limits; events = events }
+
+  limits_same : (limits : Limits) (more : List Event) → limits ≡ inputs.limits → IsLegal (record { opened = opened; limits = inputs.limits; events = more })
+      → IsLegal (record { opened = opened; limits = limits; events = more })
+  limits_same limits more e h = subst (λ (l : Limits). IsLegal (record { opened = opened; limits = l; events = more })) (sym e) h
+
+  -- room was made
+  pub keeps_prepared : (new : InForce) (more : List KeptDays) (put : List Placed) (room : ℕ) → in_force new ≡ in_force inputs → new.limits ≡ inputs.limits
+      → SaysTheSame cells more → PlacesAll (edits_of events) put → Keeps (registered opened new more put room events) pieces count bytes
+  keeps_prepared new more put room s l c p = record {
+    legal = limits_same new.limits events l kept.legal;
+    stations = s ∙ kept.stations;
+    pieces_are = kept.pieces_are;
+    events_are = kept.events_are;
+    journal_is = kept.journal_is;
+    journal_fits = kept.journal_fits;
+    cells_tell = tells_same events cells more kept.cells_tell c;
+    places = p;
+    fits = kept.fits;
+  }
+
+  -- an edit was accepted
+  pub keeps_accepted : (piece : Record) (new : InForce) (more : List KeptDays) (room number counted size : ℕ)
+      → named (edits_of events) piece.edit.reference ≡ None → refusals.refusal_of inputs.limits (stations_at events) piece.edit ≡ None
+      → in_force new ≡ stations_after (in_force inputs) piece.edit → new.limits ≡ inputs.limits
+      → number ≡ length pieces + 1 → Marks cells more piece.edit.site (changed_days (stations_at events) piece.edit) number
+      → place_for places piece.edit.reference ≡ Some (length (edits_of events))
+      → counted ≡ count + 1 → size ≡ bytes + (5 + length (payload piece)) → size < 2 ^ 64
+      → length (events ++ Accepted piece ∷ []) + length (pending_days (events ++ Accepted piece ∷ [])) < 2 ^ 64
+      → Keeps (registered opened new more places room (events ++ Accepted piece ∷ [])) (pieces ++ piece ∷ []) counted size
+  keeps_accepted piece new more room number counted size unnamed lawful s l n m p c z f w = record {
+    legal = limits_same new.limits (events ++ Accepted piece ∷ []) l (legal_more now (Accepted piece) kept.legal (record {
+      reference = λ other e. let same : other ≡ piece = cc in subst (λ (x : Record). named (edits_of events) x.edit.reference ≡ None) (sym same) unnamed;
+      edit = λ other e. let same : other ≡ piece = cc in subst (λ (x : Record). refusals.refusal_of inputs.limits (stations_at events) x.edit ≡ None) (sym same) lawful;
+      publication = λ site day e. absurd (cc);
+    }));
+    stations = s ∙ ap (λ (x : List StationRecord). stations_after x piece.edit) kept.stations ∙ sym (stations_accepted events piece);
+    pieces_are = ap (λ (ps : List Record). ps ++ piece ∷ []) kept.pieces_are ∙ sym (accepted_accepted events piece);
+    events_are = c ∙ ap (λ k. k + 1) kept.events_are ∙ sym (length-append events (Accepted piece ∷ []));
+    journal_is =
+        z ∙ ap (λ k. k + (5 + length (payload piece))) kept.journal_is ∙ sym (journal_more (accepted events) piece)
+        ∙ ap journal_size (sym (accepted_accepted events piece));
+    journal_fits = f;
+    cells_tell = tells_marked events cells more kept.cells_tell piece number (n ∙ ap (λ (ps : List Record). length ps + 1) kept.pieces_are) m;
+    places = subst (λ (es : List Edit). PlacesAll es places) (sym (edits_accepted events piece)) (places_more (edits_of events) piece.edit places p kept.places);
+    fits = w;
+  }
+
+  -- a claim was taken out
+  pub keeps_claimed : (more : List KeptDays) (site : SiteNumber) (day : ℤ) → TakesOut cells more site day
+      → Keeps (registered opened inputs more places spare events) pieces count bytes
+  keeps_claimed more site day t = record {
+    legal = kept.legal;
+    stations = kept.stations;
+    pieces_are = kept.pieces_are;
+    events_are = kept.events_are;
+    journal_is = kept.journal_is;
+    journal_fits = kept.journal_fits;
+    cells_tell = tells_taken events cells more kept.cells_tell site day t;
+    places = kept.places;
+    fits = kept.fits;
+  }
+
+  -- an event that is no edit
+  other_event : (e : Event) (more : List KeptDays) (counted : ℕ) → accepted (events ++ e ∷ []) ≡ accepted events → MayCome now e → counted ≡ count + 1
+      → Tells (events ++ e ∷ []) more → length (events ++ e ∷ []) + length (pending_days (events ++ e ∷ [])) < 2 ^ 64
+      → Keeps (registered opened inputs more places spare (events ++ e ∷ [])) pieces counted bytes
+  other_event e more counted same may c told w = record {
+    legal = legal_more now e kept.legal may;
+    stations = kept.stations ∙ ap (λ (ps : List Record). stations_of (map edit_of ps)) (sym same);
+    pieces_are = kept.pieces_are ∙ sym same;
+    events_are = c ∙ ap (λ k. k + 1) kept.events_are ∙ sym (length-append events (e ∷ []));
+    journal_is = kept.journal_is ∙ ap journal_size (sym same);
+    journal_fits = kept.journal_fits;
+    cells_tell = told;
+    places = subst (λ (ps : List Record). PlacesAll (map edit_of ps) places) (sym same) kept.places;
+    fits = w;
+  }
+
+  pub keeps_published : (site : SiteNumber) (day : ℤ) (value : DayValue) (more : List KeptDays) (counted : ℕ) → is_pending events site day ≡ true
+      → value ≡ value_at events site day → Publishes cells more site day value → counted ≡ count + 1
+      → length (events ++ Published site day ∷ []) + length (pending_days (events ++ Published site day ∷ [])) < 2 ^ 64
+      → Keeps (registered opened inputs more places spare (events ++ Published site day ∷ [])) pieces counted bytes
+  keeps_published site day value more counted pending v p c w =
+      other_event (Published site day) more counted (accepted_published events site day)
+      (record {
+        reference = λ piece e. absurd (cc);
+        edit = λ piece e. absurd (cc);
+        publication = λ s d e.
+            let own : s ≡ site = cc in
+            let its : d ≡ day = cc in
+            rw (own, its) pending;
+      }) c (tells_published events cells more kept.cells_tell site day value v p) w
+
+  pub keeps_faulted : (doubt : Option Record) (counted : ℕ) → counted ≡ count + 1
+      → length (events ++ Faulted doubt ∷ []) + length (pending_days (events ++ Faulted doubt ∷ [])) < 2 ^ 64
+      → Keeps (registered opened inputs cells places spare (events ++ Faulted doubt ∷ [])) pieces counted bytes
+  keeps_faulted doubt counted c w =
+      other_event (Faulted doubt) cells counted (accepted_faulted events doubt)
+      (record { reference = λ piece e. absurd (cc); edit = λ piece e. absurd (cc); publication = λ s d e. absurd (cc) }) c
+      (tells_faulted events cells cells kept.cells_tell doubt) w

@@ -1,0 +1,4 @@
+pub mod Asked
+pub mod Keeping
+pub mod References
+pub mod Registered

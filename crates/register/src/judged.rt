@@ -1,0 +1,27 @@
+//! What is said to an edit.
+
+use depend::DayList;
+use office_inputs::Refusal;
+use thiserror::Error;
+
+/// What is said to an edit.
+#[derive(Debug, Drop)]
+pub enum Judged {
+    /// It is the accepted edit of this number, which comes again.
+    Repeated(u64),
+    /// It is refused.
+    Refused(Refusal),
+    /// It is accepted, and these are the days that it changes.
+    Accepted(DayList),
+}
+
+/// Why a record is not accepted among those that an office is opened with.
+#[derive(Clone, Copy, Debug, PartialEq, Eq, Error)]
+pub enum NotReadmitted {
+    /// Its reference is that of an accepted edit, or the stations in force refuse it.
+    #[error("the edit of a record is refused: {0}")]
+    Refused(Refusal),
+    /// There was no memory for it.
+    #[error("there was no memory for a record")]
+    NoMemory,
+}

@@ -1,0 +1,35 @@
+-- What a stop at any moment of an append and of a mend leaves.
+use Rattle.std.proofs.Common.{◌≡◌, inl, ℕ, ◌+◌, List, [], ◌∷◌, ◌++◌, length, Some, IfSome, IsSome, subst}
+use Rattle.devices.specs.declared.disks.Disk.{Ghosts}
+use Rattle.records.specs.Payloads.{encoded_and_closed}
+use Rattle.records.specs.declared.payloads.Record.{Record}
+use Rattle.journal.specs.JournalBytes.{IsJournalOf, IsUndecided, StandsFor, front}
+use Rattle.journal.specs.Keeping.{IsNext}
+use Rattle.journal.specs.Moments.{LeavesOnly}
+use Rattle.journal.specs.Writing.{IsWritten, WasTorn}
+use Rattle.journal.proofs.Moments.{joined, widened}
+use Rattle.journal.proofs.Stages.{Staged, undecided_stands}
+use Rattle.journal.proofs.Stops.{first_images, first_done, second_images, mend_images}
+
+-- the record was written and synced, and then the gate opened, or perhaps
+pub append_moments : {D : Type 0} (d : Ghosts D) (pieces : List Record) (piece : Record) (gate : ℕ) (bytes : List ℕ) (old mid new : D)
+    → gate ≡ length (front pieces) → IsSome (d.content old) → IfSome (d.content old) (IsJournalOf pieces)
+    → ((image : List ℕ) → d.may_leave old image → IsJournalOf pieces image) → IsNext piece bytes
+    → IsWritten (d.content old) (gate + 1) bytes (d.content mid) (d.may_leave mid)
+    → LeavesOnly d old mid (WasTorn (gate + 1) (length bytes) (d.may_leave old)) → LeavesOnly d mid new (WasTorn gate 1 (d.may_leave mid))
+    → LeavesOnly d old new (StandsFor pieces (Some piece))
+append_moments d pieces piece gate bytes old mid new gate_is told now images next written before behind =
+    let first = first_images pieces gate (length bytes) (d.may_leave old) (WasTorn (gate + 1) (length bytes) (d.may_leave old)) gate_is images (λ image left. left) in
+    let staged : (image : List ℕ) → d.may_leave mid image → Staged pieces (encoded_and_closed piece) image = λ image left.
+    subst (λ (l : List ℕ). Staged pieces l image) next.1 (first_done pieces gate bytes _ _ _ gate_is told now written image left) in
+    let second = second_images pieces piece next.0 gate (d.may_leave mid) (WasTorn gate 1 (d.may_leave mid)) gate_is staged (λ image left. left) in
+    joined d old mid new _ _ (StandsFor pieces (Some piece)) before behind (λ image left. inl (first image left))
+    (λ image left. undecided_stands pieces piece image (second image left))
+
+-- the gate in doubt was closed, or perhaps
+pub mend_moments : {D : Type 0} (d : Ghosts D) (pieces : List Record) (last : Record) (gate : ℕ) (old new : D) → gate ≡ length (front pieces)
+    → ((image : List ℕ) → d.may_leave old image → IsUndecided pieces last image) → LeavesOnly d old new (WasTorn gate 1 (d.may_leave old))
+    → LeavesOnly d old new (StandsFor pieces (Some last))
+mend_moments d pieces last gate old new gate_is images run =
+    let still = mend_images pieces last gate (d.may_leave old) (WasTorn gate 1 (d.may_leave old)) gate_is images (λ image left. left) in
+    widened d old new _ (StandsFor pieces (Some last)) run (λ image left. undecided_stands pieces last image (still image left))

@@ -1,0 +1,9 @@
+//! Worked rows of the bodies of edits: which edit each is, or what refuses it.
+#![tactic(auto)]
+
+#[cfg(test)]
+mod fixtures;
+#[cfg(test)]
+mod good_bodies;
+#[cfg(test)]
+mod refusals;

@@ -1,0 +1,70 @@
+-- The tests of texts, and what they test.
+use Rattle.std.proofs.Common.{◌≡◌, ◌↔◌, ℕ, ◌≤◌, Bool, true, false, ◌&&◌, List, length, All, Option, Some, None, IsSome, IfSome, if◌then◌else◌, Result, IfOk, refl, sym, ap, ◌∙◌, subst, arith}
+use Rattle.std.proofs.lemmas.Bool.{and_parts, and_from, leb-true, le-leb, cases_Bool}
+use Rattle.std.proofs.lemmas.List.Sums.{AllPass-from_list_all, list_all-from_AllPass}
+use Rattle.std.specs.List.{list_all}
+use Rattle.std.specs.Option.{ok_or}
+use Rattle.edit_bodies.specs.Grammars.{kept_if}
+use Rattle.edit_bodies.proofs.ZoneLemmas.{zone-told}
+use Rattle.edit_bodies.specs.Texts.{is_text_of, are_initials, is_reference, is_name, is_rounding_array}
+use Rattle.edit_bodies.specs.Zones.{is_zone}
+use Rattle.edits.specs.Lawful.{IsStationZone}
+use Rattle.edits.specs.Texts.{AreInitials, IsReference, IsName}
+use Rattle.fixed_units.specs.RoundingArray.{IsRoundingArray}
+
+module _ (fewest most : ℕ) (kind : ℕ → Bool) (text : List ℕ) where
+  pub text-true : is_text_of fewest most kind text ≡ true → (fewest ≤ length text) × ((length text ≤ most) × (list_all kind text ≡ true))
+  text-true e =
+      let parts = and_parts _ _ e in
+      let ends = and_parts _ _ parts.0 in
+      (leb-true _ _ ends.0, (leb-true _ _ ends.1, parts.1))
+
+  pub text-from : fewest ≤ length text → length text ≤ most → list_all kind text ≡ true → is_text_of fewest most kind text ≡ true
+  text-from low high each = and_from _ _ (and_from _ _ (le-leb _ _ low) (le-leb _ _ high)) each
+
+pub initials-told : (text : List ℕ) → are_initials text ≡ true ↔ AreInitials text
+initials-told text = (
+  λ e. let p = text-true _ _ _ text e in record { shortest = p.0; longest = p.1.0; letters = AllPass-from_list_all _ text p.1.1 },
+  λ a. text-from _ _ _ text a.shortest a.longest (list_all-from_AllPass _ text a.letters),
+)
+
+pub reference-told : (text : List ℕ) → is_reference text ≡ true ↔ IsReference text
+reference-told text = (
+  λ e. let p = text-true _ _ _ text e in record { shortest = p.0; longest = p.1.0; codes = AllPass-from_list_all _ text p.1.1 },
+  λ a. text-from _ _ _ text a.shortest a.longest (list_all-from_AllPass _ text a.codes),
+)
+
+pub name-told : (text : List ℕ) → is_name text ≡ true ↔ IsName text
+name-told text = (
+  λ e. let p = text-true _ _ _ text e in record { shortest = p.0; longest = p.1.0; codes = AllPass-from_list_all _ text p.1.1 },
+  λ a. text-from _ _ _ text a.shortest a.longest (list_all-from_AllPass _ text a.codes),
+)
+
+pub array-told : (text : List ℕ) → is_rounding_array text ≡ true ↔ IsRoundingArray text
+array-told text = (
+  λ e.
+      let parts = and_parts _ _ e in
+      let p = text-true _ _ _ text parts.0 in
+      record { ten = omega (arith, p.0, p.1.0); digits = p.1.1; decimals = leb-true _ _ parts.1 },
+  λ a. and_from _ _ (text-from _ _ _ text (omega (arith, a.ten)) (omega (arith, a.ten)) a.digits) (le-leb _ _ a.decimals),
+)
+
+-- a value that is there exactly where it passes
+pub kept_if-is : {A : Type 0} (test : A → Bool) (P : Type 0) (x : A) (found : Option A) → test x ≡ true ↔ P → IsSome found ↔ P → IfSome found (λ y. y ≡ x) → found ≡ kept_if test x
+kept_if-is test P x (Some y) told range value = rw (told.1 (range.0 refl)) (ap Some value)
+kept_if-is test P x None told range value = by (test x) told.0
+  where
+    by : (b : Bool) → (b ≡ true → P) → None ≡ (if b then Some x else None)
+    by true told = absurd (let e = range.1 (told refl) in cc)
+    by false told = refl
+
+-- what holds of it exactly where it is there holds of what is answered
+pub ok_or-holds : {A E : Type 0} (P : A → Type 0) (x : A) (found : Option A) (fault : E) → IsSome found ↔ P x → IfSome found (λ y. y ≡ x) → IfOk (ok_or found fault) P
+ok_or-holds P x (Some y) fault range value = subst P (sym value) (range.0 refl)
+ok_or-holds P x None fault range value = tt
+
+pub station_zone-told : (text : List ℕ) → (is_name text && is_zone text) ≡ true ↔ IsStationZone text
+station_zone-told text = (
+  λ e. let p = and_parts _ _ e in record { printed = (name-told text).0 p.0; is = (zone-told text).0 p.1 },
+  λ zone. and_from _ _ ((name-told text).1 zone.printed) ((zone-told text).1 zone.is),
+)

@@ -1,0 +1,7 @@
+use Rattle.std.proofs.Common.{arith}
+use Rattle.edit_bodies.proofs.SiteLemmas.{one_digit_more}
+use Rattle.edit_bodies.proofs.sites.number_of.Goals as goal
+
+pub overflow_mul-value : goal.overflow_mul-value
+overflow_mul-value c =
+    omega (arith, one_digit_more c.args.digits.now c.loop-digit.digit-index c.loop-digit.value c.loop-digit-test.true c.requires.digits c.requires.few c.loop-digit.invariant)

@@ -1,0 +1,7 @@
+pub mod Answers
+pub mod Bodies
+pub mod Grammars
+pub mod Kinds
+pub mod Members
+pub mod Texts
+pub mod Zones

@@ -1,0 +1,118 @@
+//! The members of bodies, each read by its grammar as it is taken out of an object.
+
+ghost use Rattle.std.specs.Prelude.{◌≡◌, IfOk, IfSome};
+ghost use Rattle.edit_bodies.specs.Answers.{IsTaken};
+ghost use Rattle.edit_bodies.specs.Grammars.{by_of, reference_of, site_of, name_of, zone_of, gap_of, array_of};
+ghost use Rattle.edit_bodies.specs.Members.{required};
+ghost use Rattle.edits.specs.Lawful.{IsGap, IsStationZone};
+ghost use Rattle.edits.specs.Texts.{IsName};
+ghost use Rattle.fixed_units.specs.RoundingArray.{IsRoundingArray};
+ghost use Rattle.serde_json.specs.Find.{as_str};
+ghost use Rattle.serde_json.specs.View.{view};
+
+use crate::faults::BodyFault;
+use crate::members::{Fields, Member, take};
+use crate::sites::read_site;
+use edits::{By, Name, Ref, is_zone};
+use fixed_units::{NoMemory, RoundingArray, Site, Text};
+use serde_json::Value;
+use std::alloc::Global;
+
+/// Takes out a string.
+pub(crate) fn take_text(fields: &mut Fields, member: Member) -> Result<Text, BodyFault>
+    ensures { IsTaken (required member as_str) fields.old result fields.new }
+{
+    match take(fields, member) {
+        Some(value) => text_in(value).ok_or(BodyFault::Body(member)),
+        None => Err(BodyFault::Body(member)),
+    }
+}
+
+/// The bytes of a string.
+fn text_in(value: Value) -> Option<Text>
+    ensures { result ≡ as_str (view value) }
+{
+    match value {
+        Value::String(text) => Some(Text::from_vec(text.into_bytes())),
+        _ => None,
+    }
+}
+
+/// Takes out the initials of the person who makes the edit.
+pub(crate) fn take_by(fields: &mut Fields) -> Result<By, BodyFault>
+    ensures { IsTaken (required Member.By by_of) fields.old result fields.new }
+{
+    let text = take_text(fields, Member::By)?;
+    By::new(text.as_slice()).ok_or(BodyFault::Body(Member::By))
+}
+
+/// Takes out the reference under which the edit is sent.
+pub(crate) fn take_reference(fields: &mut Fields) -> Result<Ref, BodyFault>
+    ensures { IsTaken (required Member.Ref reference_of) fields.old result fields.new }
+{
+    let text = take_text(fields, Member::Ref)?;
+    Ref::new(text.as_slice()).ok_or(BodyFault::Body(Member::Ref))
+}
+
+/// Takes out the site whose record the edit changes.
+pub(crate) fn take_site(fields: &mut Fields) -> Result<Site, BodyFault>
+    ensures { IsTaken (required Member.Site site_of) fields.old result fields.new }
+{
+    let text = take_text(fields, Member::Site)?;
+    read_site(text.as_slice()).ok_or(BodyFault::Body(Member::Site))
+}
+
+/// Takes out what the station is called.
+pub(crate) fn take_name(fields: &mut Fields) -> Result<Name, BodyFault>
+    ensures read { IsTaken (required Member.Name name_of) fields.old result fields.new }
+    ensures named { IfOk result IsName }
+{
+    let text = take_text(fields, Member::Name)?;
+    Name::new(text).ok_or(BodyFault::Body(Member::Name))
+}
+
+/// Takes out the text of the station's zone.
+pub(crate) fn take_zone(alloc: Global, fields: &mut Fields) -> Result<Name, BodyFault>
+    ensures read { IsTaken (required Member.Zone zone_of) fields.old result fields.new }
+    ensures zone { IfOk result IsStationZone }
+{
+    let text = take_text(fields, Member::Zone)?;
+    match is_zone(alloc, text.as_slice()) {
+        Ok(true) => Name::new(text).ok_or(BodyFault::Body(Member::Zone)),
+        Ok(false) => Err(BodyFault::Body(Member::Zone)),
+        Err(NoMemory) => Err(BodyFault::NoMemory),
+    }
+}
+
+/// Takes out the gap tolerance in minutes.
+pub(crate) fn take_gap(fields: &mut Fields) -> Result<u32, BodyFault>
+    ensures read { IsTaken (required Member.Gap gap_of) fields.old result fields.new }
+    ensures near { IfOk result IsGap }
+{
+    match take(fields, Member::Gap) {
+        Some(value) => gap_in(&value).ok_or(BodyFault::Body(Member::Gap)),
+        None => Err(BodyFault::Body(Member::Gap)),
+    }
+}
+
+/// The gap tolerance that a value states.
+fn gap_in(value: &Value) -> Option<u32>
+    ensures value { result ≡ gap_of (view value.now) }
+    ensures near { IfSome result IsGap }
+{
+    let minutes = value.as_u64()?;
+    if (1..=720).contains(&minutes) {
+        Some(minutes as u32)
+    } else {
+        None
+    }
+}
+
+/// Takes out a rounding array.
+pub(crate) fn take_array(fields: &mut Fields, member: Member) -> Result<RoundingArray, BodyFault>
+    ensures read { IsTaken (required member array_of) fields.old result fields.new }
+    ensures array { IfOk result IsRoundingArray }
+{
+    let text = take_text(fields, member)?;
+    RoundingArray::read(text.as_slice()).ok_or(BodyFault::Body(member))
+}

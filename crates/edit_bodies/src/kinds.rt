@@ -1,0 +1,105 @@
+//! The kinds of edits, and what an edit of each kind changes by the members of its body.
+
+ghost use Rattle.std.specs.Prelude.{◌≡◌, IfOk};
+ghost use Rattle.edit_bodies.specs.Answers.{IsTaken};
+ghost use Rattle.edit_bodies.specs.Kinds.{kind_of, kind_of_text, row};
+ghost use Rattle.edit_bodies.specs.Members.{required};
+ghost use Rattle.edits.specs.Lawful.{IsLawful};
+
+use crate::faults::BodyFault;
+use crate::grammars::{take_array, take_gap, take_name, take_text, take_zone};
+use crate::members::{Fields, Member};
+use crate::reading_rows::take_readings;
+use edits::What;
+use std::alloc::Global;
+
+/// The kind of an edit.
+#[derive(Clone, Copy, Debug, PartialEq, Eq)]
+pub enum Kind {
+    /// Adds a station.
+    AddStation,
+    /// Sets a station.
+    SetStation,
+    /// Puts readings.
+    PutReadings,
+}
+
+/// Takes the kind out of the members.
+pub(crate) fn take_kind(fields: &mut Fields) -> Result<Kind, BodyFault>
+    ensures { IsTaken (required Member.Kind kind_of) fields.old result fields.new }
+{
+    let text = take_text(fields, Member::Kind)?;
+    kind_named(text.as_slice()).ok_or(BodyFault::Body(Member::Kind))
+}
+
+/// The kind of that name, or `None` exactly where there is no such kind.
+fn kind_named(text: &[u8]) -> Option<Kind>
+    ensures { result ≡ kind_of_text text.now }
+{
+    if text == b"AddStation".as_slice() {
+        Some(Kind::AddStation)
+    } else if text == b"SetStation".as_slice() {
+        Some(Kind::SetStation)
+    } else if text == b"PutReadings".as_slice() {
+        Some(Kind::PutReadings)
+    } else {
+        None
+    }
+}
+
+/// What an edit of that kind changes, by its members, which are taken out.
+pub(crate) fn take_what(alloc: Global, kind: Kind, fields: &mut Fields) -> Result<What, BodyFault>
+    ensures read { IsTaken (row kind) fields.old result fields.new }
+    ensures lawful { IfOk result IsLawful }
+{
+    match kind {
+        Kind::AddStation => take_addition(alloc, fields),
+        Kind::SetStation => take_setting(fields),
+        Kind::PutReadings => take_put(alloc, fields),
+    }
+}
+
+/// The addition of a station.
+fn take_addition(alloc: Global, fields: &mut Fields) -> Result<What, BodyFault>
+    ensures read { IsTaken (row Kind.AddStation) fields.old result fields.new }
+    ensures lawful { IfOk result IsLawful }
+{
+    let name = take_name(fields)?;
+    let zone = take_zone(alloc, fields)?;
+    let gap = take_gap(fields)?;
+    let stage_array = take_array(fields, Member::StageArray)?;
+    let discharge_array = take_array(fields, Member::DischargeArray)?;
+    Ok(What::AddStation {
+        name,
+        zone,
+        gap,
+        stage_array,
+        discharge_array,
+    })
+}
+
+/// The setting of a station.
+fn take_setting(fields: &mut Fields) -> Result<What, BodyFault>
+    ensures read { IsTaken (row Kind.SetStation) fields.old result fields.new }
+    ensures lawful { IfOk result IsLawful }
+{
+    let name = take_name(fields)?;
+    let gap = take_gap(fields)?;
+    let stage_array = take_array(fields, Member::StageArray)?;
+    let discharge_array = take_array(fields, Member::DischargeArray)?;
+    Ok(What::SetStation {
+        name,
+        gap,
+        stage_array,
+        discharge_array,
+    })
+}
+
+/// The put of readings.
+fn take_put(alloc: Global, fields: &mut Fields) -> Result<What, BodyFault>
+    ensures read { IsTaken (row Kind.PutReadings) fields.old result fields.new }
+    ensures lawful { IfOk result IsLawful }
+{
+    let readings = take_readings(alloc, fields)?;
+    Ok(What::PutReadings { readings })
+}

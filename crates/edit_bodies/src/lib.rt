@@ -1,0 +1,15 @@
+//! The JSON body of an edit, read: which edit it is, or the first of its members that is missing or ill formed.
+#![tactic(auto)]
+
+pub mod bodies;
+pub mod faults;
+mod grammars;
+pub mod kinds;
+pub mod members;
+mod reading_rows;
+pub mod sites;
+
+pub use bodies::read_edit;
+pub use faults::BodyFault;
+pub use members::Member;
+pub use sites::read_site;

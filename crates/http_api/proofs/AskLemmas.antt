@@ -1,0 +1,52 @@
+-- Asks of one question are the same.
+use Rattle.std.proofs.Common.{◌≡◌, ap}
+use Rattle.edit_bodies.specs.Bodies.{Parts, parts}
+use Rattle.edits.proofs.EditLemmas.{same_edit}
+use Rattle.edits.specs.declared.content.Edit.{Edit}
+use Rattle.http_api.specs.Asks.{AreTold}
+use Rattle.http_api.specs.declared.asks.Ask.TheVariants as asks
+
+same_parts : (one other : Edit) → parts one ≡ parts other → one ≡ other
+same_parts one other e =
+    same_edit one other (ap (λ (p : Parts). p.by) e) (ap (λ (p : Parts). p.reference) e) (ap (λ (p : Parts). p.site) e)
+    (ap (λ (p : Parts). p.what) e)
+
+pub are_told : AreTold
+are_told (asks.Edit one) (asks.Edit other) e =
+    let same : parts one ≡ parts other = cc in
+    ap asks.Edit (same_parts one other same)
+are_told (asks.Edit one) (asks.Station other) e = cc
+are_told (asks.Edit one) (asks.DayOf other later) e = cc
+are_told (asks.Edit one) (asks.Turns other) e = cc
+are_told (asks.Edit one) asks.Settle e = cc
+are_told (asks.Edit one) asks.Counts e = cc
+are_told (asks.Station one) (asks.Edit other) e = cc
+are_told (asks.Station one) (asks.Station other) e = cc
+are_told (asks.Station one) (asks.DayOf other later) e = cc
+are_told (asks.Station one) (asks.Turns other) e = cc
+are_told (asks.Station one) asks.Settle e = cc
+are_told (asks.Station one) asks.Counts e = cc
+are_told (asks.DayOf one day) (asks.Edit other) e = cc
+are_told (asks.DayOf one day) (asks.Station other) e = cc
+are_told (asks.DayOf one day) (asks.DayOf other later) e = cc
+are_told (asks.DayOf one day) (asks.Turns other) e = cc
+are_told (asks.DayOf one day) asks.Settle e = cc
+are_told (asks.DayOf one day) asks.Counts e = cc
+are_told (asks.Turns one) (asks.Edit other) e = cc
+are_told (asks.Turns one) (asks.Station other) e = cc
+are_told (asks.Turns one) (asks.DayOf other later) e = cc
+are_told (asks.Turns one) (asks.Turns other) e = cc
+are_told (asks.Turns one) asks.Settle e = cc
+are_told (asks.Turns one) asks.Counts e = cc
+are_told asks.Settle (asks.Edit other) e = cc
+are_told asks.Settle (asks.Station other) e = cc
+are_told asks.Settle (asks.DayOf other later) e = cc
+are_told asks.Settle (asks.Turns other) e = cc
+are_told asks.Settle asks.Settle e = cc
+are_told asks.Settle asks.Counts e = cc
+are_told asks.Counts (asks.Edit other) e = cc
+are_told asks.Counts (asks.Station other) e = cc
+are_told asks.Counts (asks.DayOf other later) e = cc
+are_told asks.Counts (asks.Turns other) e = cc
+are_told asks.Counts asks.Settle e = cc
+are_told asks.Counts asks.Counts e = cc

@@ -1,0 +1,5 @@
+mod AskLemmas
+mod NumberLemmas
+mod ReplyLemmas
+mod RouteLemmas
+mod TextLemmas

@@ -1,0 +1,14 @@
+-- A text to which parts are added one after another.
+use Rattle.std.proofs.Common.{◌≡◌, List, ℕ, ◌++◌, append_assoc}
+use Rattle.json.specs.Print.{quoted}
+
+-- two numbers, each behind the name of its member, and the end
+pub numbers_joined : (out first one second other end w x z : List ℕ) → w ≡ out ++ (first ++ one) → x ≡ w ++ (second ++ other) → z ≡ x ++ end
+    → z ≡ out ++ (first ++ one ++ second ++ other ++ end)
+numbers_joined out first one second other end w x z hw hx hz = rw (hz, hx, hw) (simp append_assoc)
+
+-- an array and a string, each behind the name of its member, and the end
+pub texts_joined : (out first array given second text zone end w x y z : List ℕ) → array ≡ given → text ≡ zone
+    → w ≡ out ++ (first ++ array) → x ≡ w ++ second → y ≡ x ++ quoted text → z ≡ y ++ end
+    → z ≡ out ++ (first ++ given ++ second ++ quoted zone ++ end)
+texts_joined out first array given second text zone end w x y z ha ht hw hx hy hz = rw (hz, hy, hx, hw, ha, ht) (simp append_assoc)

@@ -1,0 +1,53 @@
+-- The bodies for days: compact JSON, members in rising order of their names.
+use Rattle.std.specs.Prelude.{ℕ, List, ◌++◌, codes, decimal, Option, Some, None}
+use Rattle.fixed_units.specs.PublishedText.{published_text}
+use Rattle.fixed_units.specs.declared.published.Published.{Published}
+use Rattle.daily_values.specs.Figures.{DayFigures, mean_stage}
+use Rattle.daily_values.specs.declared.day_values.DayValue.{DayValue}
+use Rattle.daily_values.specs.declared.day_values.DayValue.TheVariants as values
+use Rattle.http_api.specs.declared.days.DayAnswer.{DayAnswer}
+use Rattle.http_api.specs.declared.days.DayAnswer.TheVariants.{Pending, Computed}
+use Rattle.http_api.specs.declared.days.DayReply.{DayReply}
+use Rattle.http_api.specs.declared.days.Mark.{Mark}
+use Rattle.http_api.specs.declared.days.Mark.TheVariants.{Working, Review, Approved}
+
+-- how far a day is approved
+abbrev pub mark_text : Mark → List ℕ
+mark_text Working = codes "working"
+mark_text Review = codes "review"
+mark_text Approved = codes "approved"
+
+-- the last member, and the end of the body
+abbrev pub status_member : Mark → List ℕ
+status_member mark = codes ",\"status\":\"" ++ mark_text mark ++ codes "\"}"
+
+-- a published value in quotes, or null
+abbrev pub published_or_null : Option Published → List ℕ
+published_or_null None = codes "null"
+published_or_null (Some value) = codes "\"" ++ published_text value ++ codes "\""
+
+-- the members of a day with figures up to its length
+abbrev pub length_members : ℕ → List ℕ
+length_members seconds =
+    codes "{\"answer\":\"computed\",\"covered\":0,\"discharge\":null,\"estimated\":false,\"length\":" ++ decimal seconds
+
+-- and those behind it
+abbrev pub stage_members : Option Published → List ℕ
+stage_members stage = codes ",\"max\":null,\"min\":null,\"stage\":" ++ published_or_null stage
+
+-- a day with figures; there is no discharge yet
+abbrev pub figures_members : DayFigures → List ℕ
+figures_members figures = length_members figures.length ++ stage_members (mean_stage figures)
+
+abbrev pub value_members : DayValue → List ℕ
+value_members values.Empty = codes "{\"answer\":\"computed\",\"empty\":true"
+value_members (values.Day figures) = figures_members figures
+
+-- what is known of a day: the edit that it awaits, or its value
+abbrev pub answer_members : DayAnswer → List ℕ
+answer_members (Pending edit) = codes "{\"answer\":\"pending\",\"edit\":" ++ decimal edit
+answer_members (Computed value) = value_members value.now
+
+-- the body for a day
+abbrev pub day_text : DayReply → List ℕ
+day_text day = answer_members day.answer ++ status_member day.mark

@@ -1,0 +1,91 @@
+-- The failures: of each reply that is no answer, its status, its code and what it tells beside.
+use Rattle.std.specs.Prelude.{ℕ, List, [], ◌++◌, codes, decimal, Option, Some, None}
+use Rattle.edit_bodies.specs.Members.{member_text}
+use Rattle.office_inputs.specs.declared.refusals.Which.{Which}
+use Rattle.office_inputs.specs.declared.refusals.Which.TheVariants.{Stations, Readings, DayReadings}
+use Rattle.office_inputs.specs.declared.refusals.Full.{Full}
+use Rattle.office_inputs.specs.declared.refusals.Full.TheVariants.{Events, Cells}
+use Rattle.office_inputs.specs.declared.refusals.Refusal.{Refusal}
+use Rattle.office_inputs.specs.declared.refusals.Refusal.TheVariants as refusals
+use Rattle.wire.specs.declared.messages.Verb.{Verb}
+use Rattle.wire.specs.declared.messages.Verb.TheVariants.{Get, Post, Other}
+use Rattle.http_api.specs.JsonTexts.{bool_text}
+use Rattle.http_api.specs.declared.asks.Denied.{Denied}
+use Rattle.http_api.specs.declared.asks.Denied.TheVariants as denials
+use Rattle.http_api.specs.declared.failures.Detail.{Detail}
+use Rattle.http_api.specs.declared.failures.Detail.TheVariants as details
+use Rattle.http_api.specs.declared.replies.Reply.{Reply}
+use Rattle.http_api.specs.declared.replies.Reply.TheVariants as replies
+
+-- a failure: the status, the method that is allowed where another one was used, the code and what stands beside it
+pub record Row : Type 0 where
+  pub status : ℕ
+  pub allow : Option Verb
+  pub code : List ℕ
+  pub detail : Detail
+
+abbrev pub row : ℕ → List ℕ → Detail → Row
+row status code detail = record { status = status; allow = None; code = code; detail = detail }
+
+-- another method would do: GET or POST, since no target has any other one
+abbrev pub not_allowed : Verb → Row
+not_allowed Get = record { status = 405; allow = Some Get; code = codes "NotAllowed"; detail = details.Nothing }
+not_allowed Post = record { status = 405; allow = Some Post; code = codes "NotAllowed"; detail = details.Nothing }
+not_allowed Other = row 404 (codes "NoRoute") details.Nothing
+
+-- why a request asks nothing
+abbrev pub denial_row : Denied → Row
+denial_row denials.NoRoute = row 404 (codes "NoRoute") details.Nothing
+denial_row (denials.NotAllowed verb) = not_allowed verb
+denial_row denials.Json = row 400 (codes "Json") details.Nothing
+denial_row (denials.Body member) = row 400 (codes "Body") (details.Member member)
+denial_row denials.NoMemory = row 507 (codes "NoMemory") details.Nothing
+
+-- why an edit is refused
+abbrev pub refusal_row : Refusal → Row
+refusal_row (refusals.RefReused edit) = row 409 (codes "RefReused") (details.Edit edit)
+refusal_row refusals.NoStation = row 409 (codes "NoStation") details.Nothing
+refusal_row refusals.StationExists = row 409 (codes "StationExists") details.Nothing
+refusal_row (refusals.Limit which) = row 409 (codes "Limit") (details.Limit which)
+refusal_row (refusals.HistoryFull full) = row 409 (codes "HistoryFull") (details.Full full)
+refusal_row refusals.JournalFull = row 409 (codes "JournalFull") details.Nothing
+refusal_row refusals.NoMemory = row 507 (codes "NoMemory") details.Nothing
+refusal_row (refusals.JournalFault in_doubt) = row 503 (codes "JournalFault") (details.InDoubt in_doubt)
+
+-- the failure that a reply tells, unless it is an answer
+abbrev pub failure_of : Reply → Option Row
+failure_of (replies.Edit number repeated) = None
+failure_of (replies.Turned pending published) = None
+failure_of (replies.Counts edits pending) = None
+failure_of (replies.Station station) = None
+failure_of (replies.Day day) = None
+failure_of replies.NoStation = Some (row 404 (codes "NoStation") details.Nothing)
+failure_of (replies.Denied denied) = Some (denial_row denied)
+failure_of (replies.Refused refusal) = Some (refusal_row refusal)
+failure_of replies.NoLength = Some (row 411 (codes "NoLength") details.Nothing)
+failure_of replies.TooLarge = Some (row 413 (codes "TooLarge") details.Nothing)
+failure_of replies.Malformed = Some (row 400 (codes "Malformed") details.Nothing)
+failure_of replies.NoMemory = Some (row 507 (codes "NoMemory") details.Nothing)
+
+-- the names of limits, and of what is full
+abbrev pub which_text : Which → List ℕ
+which_text Stations = codes "Stations"
+which_text Readings = codes "Readings"
+which_text DayReadings = codes "DayReadings"
+
+abbrev pub full_text : Full → List ℕ
+full_text Events = codes "Events"
+full_text Cells = codes "Cells"
+
+-- the member behind the code
+abbrev pub detail_text : Detail → List ℕ
+detail_text details.Nothing = []
+detail_text (details.Edit edit) = codes ",\"edit\":" ++ decimal edit
+detail_text (details.Limit which) = codes ",\"limit\":\"" ++ which_text which ++ codes "\""
+detail_text (details.Full full) = codes ",\"full\":\"" ++ full_text full ++ codes "\""
+detail_text (details.Member member) = codes ",\"member\":\"" ++ member_text member ++ codes "\""
+detail_text (details.InDoubt in_doubt) = codes ",\"in_doubt\":" ++ bool_text in_doubt
+
+-- the body of a failure
+abbrev pub failure_text : Row → List ℕ
+failure_text failure = codes "{\"code\":\"" ++ failure.code ++ codes "\"" ++ detail_text failure.detail ++ codes "}"

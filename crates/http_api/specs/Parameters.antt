@@ -1,0 +1,38 @@
+-- What a target's parameters state.
+use Rattle.std.specs.Prelude.{ℕ, ℤ, Bool, ◌&&◌, nat_le, List, length, codes, Option, Some, None, option_and_then, if◌then◌else◌}
+use Rattle.std.specs.List.{list_all}
+use Rattle.std.specs.Char.{is_ascii_digit}
+use Rattle.std.specs.Str.Parse.{digits_value}
+use Rattle.matchit.specs.Params.{named}
+use Rattle.civil_days.specs.Spelling.{day_of_text}
+use Rattle.edit_bodies.specs.Texts.{site_of_text}
+use Rattle.fixed_units.specs.Quantities.{SiteNumber}
+
+-- what the parameters of a target took: the name of each with its part of the target
+abbrev pub Parameters : Type 0
+Parameters = List (List ℕ × List ℕ)
+
+-- 1 to 9 digits, of which the first may be zeros
+abbrev pub is_number : List ℕ → Bool
+is_number text = nat_le 1 (length text) && (nat_le (length text) 9 && list_all is_ascii_digit text)
+
+-- the number that they state
+abbrev pub number_of : List ℕ → Option ℕ
+number_of text = if is_number text then Some (digits_value 10 text) else None
+
+-- a number of turns, 1 to 1,000
+abbrev pub turns_of : ℕ → Option ℕ
+turns_of count = if nat_le 1 count && nat_le count 1_000 then Some count else None
+
+abbrev pub count_of : List ℕ → Option ℕ
+count_of text = option_and_then turns_of (number_of text)
+
+-- how many turns are asked for, which site, and which day
+abbrev pub count_in : Parameters → Option ℕ
+count_in taken = option_and_then count_of (named (codes "count") taken)
+
+abbrev pub site_in : Parameters → Option SiteNumber
+site_in taken = option_and_then site_of_text (named (codes "site") taken)
+
+abbrev pub day_in : Parameters → Option ℤ
+day_in taken = option_and_then day_of_text (named (codes "day") taken)

@@ -1,0 +1,69 @@
+-- The replies: of each the status, the method that it allows, and the body, which is compact JSON with its members in
+-- rising order of their names.
+use Rattle.std.specs.Prelude.{ℕ, Bool, List, [], ◌++◌, codes, decimal, Option, Some, None}
+use Rattle.wire.specs.ReplyHead.{reply_bytes}
+use Rattle.wire.specs.declared.messages.Verb.{Verb}
+use Rattle.wire.specs.declared.replies.Kind.TheVariants.{Json}
+use Rattle.http_api.specs.Days.{day_text}
+use Rattle.http_api.specs.Failures.{Row, failure_of, failure_text}
+use Rattle.http_api.specs.JsonTexts.{bool_text}
+use Rattle.http_api.specs.Stations.{station_text}
+use Rattle.http_api.specs.declared.replies.Reply.{Reply}
+use Rattle.http_api.specs.declared.replies.Reply.TheVariants.{Edit, Turned, Counts, Station, Day, NoStation, Denied, Refused, NoLength, TooLarge, Malformed, NoMemory}
+
+-- an accepted edit
+abbrev pub edit_text : ℕ → Bool → List ℕ
+edit_text number repeated =
+    codes "{\"edit\":" ++ decimal number ++ codes ",\"repeated\":" ++ bool_text repeated ++ codes "}"
+
+-- turns: the days that are pending after them, and how many were published
+abbrev pub turned_text : ℕ → ℕ → List ℕ
+turned_text pending published =
+    codes "{\"pending\":" ++ decimal pending ++ codes ",\"published\":" ++ decimal published ++ codes "}"
+
+-- how many edits were accepted, and how many days are pending
+abbrev pub counts_text : ℕ → ℕ → List ℕ
+counts_text edits pending = codes "{\"edits\":" ++ decimal edits ++ codes ",\"pending\":" ++ decimal pending ++ codes "}"
+
+-- the body of an answer; a failure is none
+abbrev pub answer_text : Reply → List ℕ
+answer_text (Edit number repeated) = edit_text number repeated
+answer_text (Turned pending published) = turned_text pending published
+answer_text (Counts edits pending) = counts_text edits pending
+answer_text (Station station) = station_text station.now.station
+answer_text (Day day) = day_text day
+answer_text NoStation = []
+answer_text (Denied denied) = []
+answer_text (Refused refusal) = []
+answer_text NoLength = []
+answer_text TooLarge = []
+answer_text Malformed = []
+answer_text NoMemory = []
+
+-- the status: that of the failure, or 200
+abbrev pub status_by : Option Row → ℕ
+status_by None = 200
+status_by (Some failure) = failure.status
+
+abbrev pub status_of : Reply → ℕ
+status_of reply = status_by (failure_of reply)
+
+-- the method that is allowed, where another one was used
+abbrev pub allow_by : Option Row → Option Verb
+allow_by None = None
+allow_by (Some failure) = failure.allow
+
+abbrev pub allow_of : Reply → Option Verb
+allow_of reply = allow_by (failure_of reply)
+
+-- the body: that of the failure, or of the answer
+abbrev pub body_by : Option Row → List ℕ → List ℕ
+body_by None answer = answer
+body_by (Some failure) answer = failure_text failure
+
+abbrev pub body_of : Reply → List ℕ
+body_of reply = body_by (failure_of reply) (answer_text reply)
+
+-- the whole reply, head and body
+unfoldable pub bytes_of : Reply → List ℕ
+bytes_of reply = reply_bytes (status_of reply) Json (allow_of reply) (body_of reply)

@@ -1,0 +1,70 @@
+-- The routes: which targets there are, and what a target of each names.
+use Rattle.std.specs.Prelude.{ℕ, List, [], ◌∷◌, fold, codes, Option, Some, None, option_map, option_and_then, Result, Ok, Err, if◌then◌else◌}
+use Rattle.std.specs.List.{list_all}
+use Rattle.std.specs.Char.{is_ascii}
+use Rattle.matchit.specs.Rows.{RowsOf}
+use Rattle.matchit.specs.Route.{Scan, parse_route}
+use Rattle.matchit.specs.Router.{RouteOf, route_from}
+use Rattle.matchit.specs.Order.{placed}
+use Rattle.matchit.specs.Params.{walk}
+use Rattle.matchit.specs.Seek.{first}
+use Rattle.matchit.specs.declared.error.InsertError.{InsertError}
+use Rattle.http_api.specs.Parameters.{Parameters, count_in, site_in, day_in}
+use Rattle.wire.specs.declared.messages.Verb.{Verb}
+use Rattle.wire.specs.declared.messages.Verb.TheVariants.{Get, Post}
+use Rattle.http_api.specs.declared.routes.Route.{Route}
+use Rattle.http_api.specs.declared.routes.Route.TheVariants as routes
+use Rattle.http_api.specs.declared.routes.Target.{Target}
+use Rattle.http_api.specs.declared.routes.Target.TheVariants as targets
+
+-- how the targets of a route are spelled, with each parameter in braces
+abbrev pub spelling : Route → List ℕ
+spelling routes.Edits = codes "/edits"
+spelling routes.Turns = codes "/turns/{count}"
+spelling routes.Settle = codes "/settle"
+spelling routes.Status = codes "/status"
+spelling routes.Station = codes "/stations/{site}"
+spelling routes.DayOf = codes "/stations/{site}/days/{day}"
+
+-- the routes that there are
+abbrev pub all_routes : List Route
+all_routes = routes.Edits ∷ routes.Turns ∷ routes.Settle ∷ routes.Status ∷ routes.Station ∷ routes.DayOf ∷ []
+
+-- the rows of `matchit` with that of a route, where the spelling reads as one
+abbrev pub placed_by : Result Scan InsertError → Route → RowsOf (RouteOf Route) → RowsOf (RouteOf Route)
+placed_by (Ok scan) route rows = placed (scan.pattern, route_from scan route) rows
+placed_by (Err fault) route rows = rows
+
+unfoldable pub with_route : RowsOf (RouteOf Route) → Route → RowsOf (RouteOf Route)
+with_route rows route = placed_by (parse_route (spelling route)) route rows
+
+-- the rows of all routes
+unfoldable pub route_rows : RowsOf (RouteOf Route)
+route_rows = fold with_route [] all_routes
+
+-- what a target of a route names, if each of its parameters is of its grammar
+abbrev pub target_by : Route → Parameters → Option Target
+target_by routes.Edits taken = Some targets.Edits
+target_by routes.Turns taken = option_map targets.Turns (count_in taken)
+target_by routes.Settle taken = Some targets.Settle
+target_by routes.Status taken = Some targets.Status
+target_by routes.Station taken = option_map targets.Station (site_in taken)
+target_by routes.DayOf taken = option_and_then (λ site. option_map (targets.DayOf site) (day_in taken)) (site_in taken)
+
+-- the method of the requests for it
+abbrev pub verb_of : Target → Verb
+verb_of targets.Edits = Post
+verb_of (targets.Turns count) = Post
+verb_of targets.Settle = Post
+verb_of targets.Status = Get
+verb_of (targets.Station site) = Get
+verb_of (targets.DayOf site day) = Get
+
+-- what a target names by its row, whose parameters take their parts of it
+abbrev pub target_at : Option (RouteOf Route) → List ℕ → Option Target
+target_at None target = None
+target_at (Some row) target = target_by row.value (walk row.pattern row.text target row.names 0 0)
+
+-- what a target names: by the row that `matchit` states for it, as it stands
+abbrev pub target_of : List ℕ → Option Target
+target_of target = if list_all is_ascii target then target_at (first route_rows target) target else None

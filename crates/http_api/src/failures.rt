@@ -1,0 +1,182 @@
+//! The failures: of each reply that is no answer, its status, its code and what it tells beside.
+
+ghost use Rattle.std.specs.Prelude.{◌≡◌, ◌++◌, ◌∷◌, [], None, take, length, OnOk, OnErr};
+ghost use Rattle.http_api.specs.Failures.{denial_row, refusal_row, failure_of, failure_text, detail_text, which_text, full_text};
+
+use crate::asks::Denied;
+use crate::json_texts::write_flag;
+use crate::replies::Reply;
+use edit_bodies::Member;
+use fixed_units::{NoMemory, Text};
+use office_inputs::{Full, Refusal, Which};
+use std::marker::Model;
+use wire::Verb;
+
+/// What a failure tells beside its code.
+#[derive(Clone, Copy, Debug, PartialEq, Eq)]
+pub(crate) enum Detail {
+    /// Nothing.
+    Nothing,
+    /// The number of an edit.
+    Edit(u64),
+    /// Which limit was met.
+    Limit(Which),
+    /// What is full.
+    Full(Full),
+    /// A member of a body.
+    Member(Member),
+    /// Whether an edit may stand in the journal.
+    InDoubt(bool),
+}
+
+/// A failure: contracts see its row.
+#[derive(Debug, Drop)]
+pub(crate) struct Failure {
+    /// The status of the reply.
+    pub(crate) status: u16,
+    /// The method that is allowed, where another one was used.
+    pub(crate) allow: Option<Verb>,
+    /// Its code.
+    code: &'static [u8],
+    /// What it tells beside.
+    detail: Detail,
+}
+
+impl Model for Failure {
+    ghost use Rattle.http_api.specs.Failures.{Row};
+
+    ghost Value = { Row };
+
+    ghost view = { λ f. record { status = f.status; allow = f.allow; code = f.code.now; detail = f.detail } };
+}
+
+/// A failure that allows no other method.
+fn told(status: u16, code: &'static [u8], detail: Detail) -> Failure
+    ensures { result ≡ record { status = status; allow = None; code = code.entry.now; detail = detail } }
+{
+    Failure {
+        status,
+        allow: None,
+        code,
+        detail,
+    }
+}
+
+/// The failure that a reply tells, unless it is an answer.
+pub(crate) fn failure_of(reply: &Reply<'_>) -> Option<Failure>
+    ensures { result ≡ failure_of reply.now }
+{
+    match reply {
+        Reply::NoStation => Some(told(404, b"NoStation", Detail::Nothing)),
+        Reply::Denied(denied) => Some(denial(*denied)),
+        Reply::Refused(refusal) => Some(refusal_failure(*refusal)),
+        Reply::NoLength => Some(told(411, b"NoLength", Detail::Nothing)),
+        Reply::TooLarge => Some(told(413, b"TooLarge", Detail::Nothing)),
+        Reply::Malformed => Some(told(400, b"Malformed", Detail::Nothing)),
+        Reply::NoMemory => Some(told(507, b"NoMemory", Detail::Nothing)),
+        Reply::Edit { .. }
+        | Reply::Turned { .. }
+        | Reply::Counts { .. }
+        | Reply::Station(_)
+        | Reply::Day(_) => None,
+    }
+}
+
+/// Why a request asks nothing.
+fn denial(denied: Denied) -> Failure
+    ensures { result ≡ denial_row denied }
+{
+    match denied {
+        Denied::NoRoute => told(404, b"NoRoute", Detail::Nothing),
+        Denied::NotAllowed(Verb::Other) => told(404, b"NoRoute", Detail::Nothing),
+        Denied::NotAllowed(verb) => Failure {
+            status: 405,
+            allow: Some(verb),
+            code: b"NotAllowed",
+            detail: Detail::Nothing,
+        },
+        Denied::Json => told(400, b"Json", Detail::Nothing),
+        Denied::Body(member) => told(400, b"Body", Detail::Member(member)),
+        Denied::NoMemory => told(507, b"NoMemory", Detail::Nothing),
+    }
+}
+
+/// Why an edit is refused.
+fn refusal_failure(refusal: Refusal) -> Failure
+    ensures { result ≡ refusal_row refusal }
+{
+    match refusal {
+        Refusal::RefReused(edit) => told(409, b"RefReused", Detail::Edit(edit)),
+        Refusal::NoStation => told(409, b"NoStation", Detail::Nothing),
+        Refusal::StationExists => told(409, b"StationExists", Detail::Nothing),
+        Refusal::Limit(which) => told(409, b"Limit", Detail::Limit(which)),
+        Refusal::HistoryFull(full) => told(409, b"HistoryFull", Detail::Full(full)),
+        Refusal::JournalFull => told(409, b"JournalFull", Detail::Nothing),
+        Refusal::NoMemory => told(507, b"NoMemory", Detail::Nothing),
+        Refusal::JournalFault(in_doubt) => { told(503, b"JournalFault", Detail::InDoubt(in_doubt)) }
+    }
+}
+
+impl Failure {
+    /// Adds the body, of which a part may be added where memory runs out.
+    pub(crate) fn write(&self, out: &mut Text) -> Result<(), NoMemory>
+        ensures ok { OnOk result (out.new ≡ out.old ++ failure_text self.now) }
+        ensures err { OnErr result (take (length out.old) out.new ≡ out.old) }
+    {
+        out.push_slice(b"{\"code\":\"")?;
+        out.push_slice(self.code)?;
+        out.push_slice(b"\"")?;
+        write_detail(self.detail, out)?;
+        out.push_slice(b"}")
+    }
+}
+
+/// Adds the member behind the code, of which a part may be added where memory runs out.
+fn write_detail(detail: Detail, out: &mut Text) -> Result<(), NoMemory>
+    ensures ok { OnOk result (out.new ≡ out.old ++ detail_text detail) }
+    ensures err { OnErr result (take (length out.old) out.new ≡ out.old) }
+{
+    match detail {
+        Detail::Nothing => Ok(()),
+        Detail::Edit(edit) => {
+            out.push_slice(b",\"edit\":")?;
+            out.push_number(edit)
+        }
+        Detail::Limit(which) => write_word(b",\"limit\":\"", which_name(which), out),
+        Detail::Full(full) => write_word(b",\"full\":\"", full_name(full), out),
+        Detail::Member(member) => write_word(b",\"member\":\"", member.text().as_bytes(), out),
+        Detail::InDoubt(in_doubt) => {
+            out.push_slice(b",\"in_doubt\":")?;
+            write_flag(in_doubt, out)
+        }
+    }
+}
+
+/// Adds a member whose value is a word, of which a part may be added where memory runs out.
+fn write_word(before: &[u8], word: &[u8], out: &mut Text) -> Result<(), NoMemory>
+    ensures ok { OnOk result (out.new ≡ out.old ++ (before.now ++ word.now ++ (34 ∷ []))) }
+    ensures err { OnErr result (take (length out.old) out.new ≡ out.old) }
+{
+    out.push_slice(before)?;
+    out.push_slice(word)?;
+    out.push_slice(b"\"")
+}
+
+fn which_name(which: Which) -> &'static [u8]
+    ensures { result.now ≡ which_text which }
+{
+    match which {
+        Which::Stations => b"Stations",
+        Which::Readings => b"Readings",
+        Which::DayReadings => b"DayReadings",
+    }
+}
+
+fn full_name(full: Full) -> &'static [u8]
+    ensures { result.now ≡ full_text full }
+{
+    match full {
+        Full::Events => b"Events",
+        Full::Cells => b"Cells",
+    }
+}

@@ -1,0 +1,106 @@
+//! Parts of JSON texts: flags, strings, sites.
+
+ghost use Rattle.std.specs.Prelude.{◌≡◌, ◌++◌, ◌∷◌, [], ◌<◌, ◌≤◌, ◌-◌, replicate, take, length, OnOk, OnErr};
+ghost use Rattle.std.specs.Char.{digit_char};
+ghost use Rattle.json.specs.Print.{escape, escape_byte, escape_letter, quoted};
+ghost use Rattle.http_api.specs.JsonTexts.{bool_text, site_text};
+
+use fixed_units::{NoMemory, Site, Text};
+
+/// Adds a flag. After `NoMemory` the text is as before.
+pub(crate) fn write_flag(flag: bool, out: &mut Text) -> Result<(), NoMemory>
+    ensures ok { OnOk result (out.new ≡ out.old ++ bool_text flag) }
+    ensures err { OnErr result (out.new ≡ out.old) }
+{
+    out.push_slice(if flag { b"true" } else { b"false" })
+}
+
+/// Adds a string in quotes, of which a part may be added where memory runs out.
+pub(crate) fn write_quoted(text: &[u8], out: &mut Text) -> Result<(), NoMemory>
+    ensures ok { OnOk result (out.new ≡ out.old ++ quoted text.now) }
+    ensures err { OnErr result (take (length out.old) out.new ≡ out.old) }
+{
+    out.push(b'"')?;
+    write_escaped(text, out)?;
+    out.push(b'"')
+}
+
+/// Adds the characters of a string, of which a part may be added where memory runs out.
+fn write_escaped(text: &[u8], out: &mut Text) -> Result<(), NoMemory>
+    ensures ok { OnOk result (out.new ≡ out.old ++ escape text.now) }
+    ensures err { OnErr result (take (length out.old) out.new ≡ out.old) }
+{
+    for byte in text {
+        write_escaped_byte(*byte, out)?;
+    }
+    Ok(())
+}
+
+/// Adds what stands in a string for a byte. After `NoMemory` the text is as before.
+#[tactic(auto, unfolding(json::specs::Print::escape_byte))]
+fn write_escaped_byte(byte: u8, out: &mut Text) -> Result<(), NoMemory>
+    ensures ok { OnOk result (out.new ≡ out.old ++ escape_byte byte) }
+    ensures err { OnErr result (out.new ≡ out.old) }
+{
+    let letter = escape_letter(byte);
+    if 0 < letter {
+        return out.push_slice(&[b'\\', letter]);
+    }
+    if byte < 32 {
+        let high = hex_digit(byte / 16);
+        let low = hex_digit(byte % 16);
+        return out.push_slice(&[b'\\', b'u', b'0', b'0', high, low]);
+    }
+    out.push(byte)
+}
+
+/// The letter of a byte's short escape, or 0 where it has none.
+fn escape_letter(byte: u8) -> u8
+    ensures { result ≡ escape_letter byte }
+{
+    if byte == b'"' || byte == b'\\' {
+        byte
+    } else if byte == 8 {
+        b'b'
+    } else if byte == 12 {
+        b'f'
+    } else if byte == b'\n' {
+        b'n'
+    } else if byte == b'\r' {
+        b'r'
+    } else if byte == b'\t' {
+        b't'
+    } else {
+        0
+    }
+}
+
+/// A digit to the base of 16.
+fn hex_digit(digit: u8) -> u8
+    requires { digit < 16 }
+    ensures { result ≡ digit_char digit }
+{
+    if digit < 10 { 48 + digit } else { 87 + digit }
+}
+
+/// As many zeros as a site number has digits at most.
+const ZEROS: [u8; 15] = *b"000000000000000";
+
+/// Adds a site number, of which a part may be added where memory runs out.
+pub(crate) fn write_site(site: Site, out: &mut Text) -> Result<(), NoMemory>
+    ensures ok { OnOk result (out.new ≡ out.old ++ site_text site) }
+    ensures err { OnErr result (take (length out.old) out.new ≡ out.old) }
+{
+    let mut buffer = itoa::Buffer::new();
+    let value = buffer.format(site.value()).as_bytes();
+    out.push_slice(zeros(site.digits(), value.len()))?;
+    out.push_slice(value)
+}
+
+/// The zeros in front of so many digits of a site number.
+fn zeros(digits: u8, written: usize) -> &'static [u8]
+    requires { digits ≤ 15 }
+    ensures { result.now ≡ replicate (digits - written) 48 }
+{
+    &ZEROS[..usize::from(digits).saturating_sub(written)]
+}

@@ -1,0 +1,16 @@
+//! Requests as asks of the office, and its answers as the bytes of replies.
+#![tactic(auto)]
+
+pub mod asks;
+mod days;
+mod failures;
+mod json_texts;
+mod parameters;
+pub mod replies;
+pub mod routes;
+mod stations;
+
+pub use asks::{Ask, Denied};
+pub use days::{DayAnswer, DayReply, Mark};
+pub use replies::{Reply, reply_text, write_reply};
+pub use routes::Router;

@@ -1,0 +1,100 @@
+//! What the parameters of a target take from it, and what their texts state.
+
+ghost use Rattle.std.specs.Prelude.{◌≡◌, ◌≤◌, ◌<◌, ◌^◌, true, IfSome, length, option_map};
+ghost use Rattle.std.specs.List.{list_all};
+ghost use Rattle.std.specs.Char.{is_ascii_digit};
+ghost use Rattle.std.specs.Str.Parse.{digits_value};
+ghost use Rattle.matchit.specs.Params.{walk, named, AllText};
+ghost use Rattle.http_api.specs.Parameters.{is_number, number_of, turns_of, count_of, count_in, site_in, day_in};
+
+use civil_days::read_day;
+use edit_bodies::read_site;
+use fixed_units::{Day, Site};
+use matchit::Params;
+
+/// The number of turns among the parameters.
+pub(crate) fn count_in(params: &Params<'_, '_>) -> Option<u32>
+    requires { AllText (walk params.now.pattern.now params.now.text.now params.now.path.now params.now.names.now 0 0) }
+    ensures { result ≡ count_in (walk params.now.pattern.now params.now.text.now params.now.path.now params.now.names.now 0 0) }
+{
+    count_of(part(params, "count")?)
+}
+
+/// The site among the parameters.
+pub(crate) fn site_in(params: &Params<'_, '_>) -> Option<Site>
+    requires { AllText (walk params.now.pattern.now params.now.text.now params.now.path.now params.now.names.now 0 0) }
+    ensures { result ≡ site_in (walk params.now.pattern.now params.now.text.now params.now.path.now params.now.names.now 0 0) }
+{
+    read_site(part(params, "site")?)
+}
+
+/// The day among the parameters.
+pub(crate) fn day_in(params: &Params<'_, '_>) -> Option<Day>
+    requires { AllText (walk params.now.pattern.now params.now.text.now params.now.path.now params.now.names.now 0 0) }
+    ensures { result ≡ day_in (walk params.now.pattern.now params.now.text.now params.now.path.now params.now.names.now 0 0) }
+{
+    read_day(part(params, "day")?)
+}
+
+/// The part of a target that the parameter of a name took.
+fn part<'v>(params: &Params<'_, 'v>, name: &str) -> Option<&'v [u8]>
+    requires { AllText (walk params.now.pattern.now params.now.text.now params.now.path.now params.now.names.now 0 0) }
+    ensures { option_map (λ part. part.now) result ≡ named name.now (walk params.now.pattern.now params.now.text.now params.now.path.now params.now.names.now 0 0) }
+{
+    Some(params.get(name)?.as_bytes())
+}
+
+/// How many turns a text asks for: 1 to 9 digits that state 1 to 1,000.
+fn count_of(text: &[u8]) -> Option<u32>
+    ensures { result ≡ count_of text.now }
+{
+    turns_of(number_of(text)?)
+}
+
+/// The number of turns, where it is one.
+fn turns_of(count: u64) -> Option<u32>
+    ensures { result ≡ turns_of count }
+{
+    if 1 <= count && count <= 1_000 {
+        Some(count as u32)
+    } else {
+        None
+    }
+}
+
+/// The number that 1 to 9 digits state.
+fn number_of(text: &[u8]) -> Option<u64>
+    ensures { result ≡ number_of text.now }
+{
+    if is_number(text) {
+        Some(value_of(text))
+    } else {
+        None
+    }
+}
+
+/// Whether these are 1 to 9 digits.
+fn is_number(text: &[u8]) -> bool
+    ensures { result ≡ is_number text.now }
+{
+    !text.is_empty() && text.len() <= 9 && are_digits(text)
+}
+
+fn are_digits(text: &[u8]) -> bool
+    ensures { result ≡ list_all is_ascii_digit text.now }
+{
+    text.iter().all(u8::is_ascii_digit)
+}
+
+/// The number that the digits write.
+fn value_of(digits: &[u8]) -> u64
+    requires digits { list_all is_ascii_digit digits.now ≡ true }
+    requires few { length digits.now ≤ 9 }
+    ensures { result ≡ digits_value 10 digits.now }
+{
+    let mut value = 0;
+    for digit in digits {
+        value = value * 10 + u64::from(*digit - b'0');
+    }
+    value
+}

@@ -1,0 +1,180 @@
+//! The routes: which targets there are, and what a target names.
+
+ghost use Rattle.std.specs.Prelude.{◌≡◌, true, false, OnOk, IfOk, MatchOption};
+ghost use Rattle.std.specs.List.{list_all};
+ghost use Rattle.std.specs.Char.{is_ascii};
+ghost use Rattle.matchit.specs.Params.{walk, AllText};
+ghost use Rattle.http_api.specs.Routes.{spelling, verb_of, with_route, route_rows, target_by, target_of};
+
+use crate::parameters::{count_in, day_in, site_in};
+use fixed_units::{Day, NoMemory, Site};
+use matchit::{InsertError, Params};
+use std::alloc::Global;
+use std::marker::Model;
+use wire::Verb;
+
+/// A kind of targets that are spelled alike.
+#[derive(Clone, Copy, Debug, PartialEq, Eq)]
+pub(crate) enum Route {
+    /// The edits.
+    Edits,
+    /// So many turns.
+    Turns,
+    /// The settlement.
+    Settle,
+    /// The counts.
+    Status,
+    /// A station.
+    Station,
+    /// A day of a station.
+    DayOf,
+}
+
+/// What a target names.
+#[derive(Clone, Copy, Debug, PartialEq, Eq)]
+pub(crate) enum Target {
+    /// The edits.
+    Edits,
+    /// So many turns, 1 to 1,000.
+    Turns(u32),
+    /// The settlement.
+    Settle,
+    /// The counts.
+    Status,
+    /// A station.
+    Station(Site),
+    /// A day of a station.
+    DayOf(Site, Day),
+}
+
+/// All routes.
+const ROUTES: [Route; 6] = [
+    Route::Edits,
+    Route::Turns,
+    Route::Settle,
+    Route::Status,
+    Route::Station,
+    Route::DayOf,
+];
+
+impl Route {
+    /// How its targets are spelled, with each parameter in braces.
+    fn spelling(self) -> &'static str
+        ensures { result.now ≡ spelling self }
+    {
+        match self {
+            Route::Edits => "/edits",
+            Route::Turns => "/turns/{count}",
+            Route::Settle => "/settle",
+            Route::Status => "/status",
+            Route::Station => "/stations/{site}",
+            Route::DayOf => "/stations/{site}/days/{day}",
+        }
+    }
+}
+
+impl Target {
+    /// The verb of its requests.
+    pub(crate) fn verb(&self) -> Verb
+        ensures { result ≡ verb_of self.now }
+    {
+        match self {
+            Target::Edits | Target::Turns(_) | Target::Settle => Verb::Post,
+            Target::Status | Target::Station(_) | Target::DayOf(_, _) => Verb::Get,
+        }
+    }
+}
+
+/// The routes of all requests.
+#[derive(Drop)]
+pub struct Router {
+    rows: matchit::Router<Route>,
+}
+
+impl Model for Router {
+    ghost use Rattle.std.specs.Prelude.{◌≡◌};
+    ghost use Rattle.http_api.specs.Routes.{route_rows};
+
+    ghost Value = { Unit {0} };
+
+    ghost view = { λ r. tt };
+
+    ghost invariant = { λ r. r.rows ≡ route_rows };
+}
+
+impl Router {
+    /// The router of all routes.
+    pub fn new(alloc: Global) -> Result<Router, NoMemory> {
+        match rows(alloc) {
+            Ok(rows) => Ok(Router { rows }),
+            Err(_) => Err(NoMemory),
+        }
+    }
+
+    /// What a target names.
+    pub(crate) fn target(&self, target: &[u8]) -> Option<Target>
+        ensures { result ≡ target_of target.now }
+    {
+        let text = ascii(target)?;
+        match self.rows.at(text) {
+            Ok(found) => target_by(*found.value, &found.params),
+            Err(_) => None,
+        }
+    }
+}
+
+/// The rows of all routes.
+fn rows(alloc: Global) -> Result<matchit::Router<Route>, InsertError>
+    ensures { IfOk result (λ rows. rows ≡ route_rows) }
+{
+    let mut rows = matchit::Router::new(alloc);
+    for route in &ROUTES {
+        add(&mut rows, *route)?;
+    }
+    Ok(rows)
+}
+
+/// Adds the row of a route.
+fn add(rows: &mut matchit::Router<Route>, route: Route) -> Result<(), InsertError>
+    ensures { OnOk result (rows.new ≡ with_route rows.old route) }
+{
+    rows.insert(route.spelling(), route)
+}
+
+/// The bytes as a text, where they are ASCII.
+fn ascii(target: &[u8]) -> Option<&str>
+    ensures { MatchOption result (list_all is_ascii target.now ≡ false) (λ text. (list_all is_ascii target.now ≡ true) × (text.now ≡ target.now)) }
+{
+    if !are_ascii(target) {
+        return None;
+    }
+    match str::from_utf8(target) {
+        Ok(text) => Some(text),
+        Err(_) => None,
+    }
+}
+
+fn are_ascii(target: &[u8]) -> bool
+    ensures { result ≡ list_all is_ascii target.now }
+{
+    target.iter().all(u8::is_ascii)
+}
+
+/// What a target of a route names by its parameters.
+fn target_by(route: Route, params: &Params<'_, '_>) -> Option<Target>
+    requires { AllText (walk params.now.pattern.now params.now.text.now params.now.path.now params.now.names.now 0 0) }
+    ensures { result ≡ target_by route (walk params.now.pattern.now params.now.text.now params.now.path.now params.now.names.now 0 0) }
+{
+    match route {
+        Route::Edits => Some(Target::Edits),
+        Route::Turns => Some(Target::Turns(count_in(params)?)),
+        Route::Settle => Some(Target::Settle),
+        Route::Status => Some(Target::Status),
+        Route::Station => Some(Target::Station(site_in(params)?)),
+        Route::DayOf => {
+            let site = site_in(params)?;
+            let day = day_in(params)?;
+            Some(Target::DayOf(site, day))
+        }
+    }
+}

@@ -1,6 +1,6 @@
 //! An event of a history, for proofs alone.
 
-ghost use Rattle.std.specs.Prelude.{◌≡◌, Option, Some, None};
+ghost use Rattle.std.specs.Prelude.{◌≡◌, Some, None};
 ghost use Rattle.fixed_units.specs.Quantities.{SiteNumber};
 ghost use Rattle.history.specs.Events.{Event, Accepted, Published, Faulted};
 
@@ -21,10 +21,45 @@ enum Kind {
     WasAccepted(Snapshot<Record>),
     /// The value of a day was published.
     WasPublished(Site, Day),
-    /// A fault of the journal refused an edit, which left the journal in doubt of no record.
-    WasFaulted,
-    /// A fault of the journal refused an edit, which left the journal in doubt of this record.
-    WasDoubted(Snapshot<Record>),
+    /// A fault of the journal refused an edit, which left this doubt.
+    WasFaulted(Snapshot<Doubt>),
+}
+
+/// Which record a journal is in doubt of, if of any. It takes no memory.
+#[derive(Drop)]
+pub struct Doubt {
+    piece: Option<Snapshot<Record>>,
+}
+
+impl Model for Doubt {
+    ghost use Rattle.edits.specs.contracts.content.Edit as edit;
+    ghost use Rattle.records.specs.declared.payloads.Record.{Record};
+    ghost use Rattle.std.specs.Prelude.{Option, option_map};
+    ghost use Rattle.std.specs.Coded.{codes};
+
+    ghost Value = { Option Record };
+
+    ghost coded = { Prim.hlevel (codes, edit.the_row.coded) };
+
+    ghost view = { λ d. option_map (λ s. s.value) d.piece };
+}
+
+impl Doubt {
+    /// The journal is in doubt of no record.
+    pub fn none() -> Doubt
+        ensures { result ≡ None }
+    {
+        Doubt { piece: None }
+    }
+
+    /// The journal is in doubt of this record.
+    pub fn of(piece: &Record) -> Doubt
+        ensures { result ≡ Some piece.now }
+    {
+        Doubt {
+            piece: Some(Snapshot::of(piece)),
+        }
+    }
 }
 
 impl Model for Recorded {
@@ -59,21 +94,12 @@ impl Recorded {
         }
     }
 
-    /// A fault of the journal refused an edit, which left the journal in doubt of no record.
-    pub fn faulted() -> Recorded
-        ensures { result ≡ Faulted None }
+    /// A fault of the journal refused an edit, which left this doubt.
+    pub fn faulted(doubt: &Doubt) -> Recorded
+        ensures { result ≡ Faulted doubt.now }
     {
         Recorded {
-            kind: Kind::WasFaulted,
-        }
-    }
-
-    /// A fault of the journal refused an edit, which left the journal in doubt of this record.
-    pub fn doubted(piece: Snapshot<Record>) -> Recorded
-        ensures { result ≡ Faulted (Some piece.value) }
-    {
-        Recorded {
-            kind: Kind::WasDoubted(piece),
+            kind: Kind::WasFaulted(Snapshot::of(doubt)),
         }
     }
 }

@@ -5,6 +5,7 @@ mod drafts;
 pub mod laws;
 pub mod payloads;
 mod reading;
-mod writing;
+pub mod writing;
 
-pub use payloads::{DecodeFault, Record, decode, encode, encode_and_close};
+pub use payloads::{DecodeFault, Record, decode, encode, encode_and_close, same_edit};
+pub use writing::edit_len;

@@ -11,8 +11,8 @@ use fixed_units::{Flag, Micro, NoMemory, Reading, RoundingArray, Second, Site};
 /// How many bytes the kind, the site and the lengths of the texts take.
 const FRAME: usize = 12;
 
-/// How many bytes an edit takes.
-pub(crate) fn edit_len(edit: &Edit) -> usize
+/// How many bytes an edit takes in a record's payload, at most 206.
+pub fn edit_len(edit: &Edit) -> usize
     ensures value { result ≡ length (edit_bytes edit.now) }
     ensures few { result ≤ 206 }
 {

@@ -1,5 +1,15 @@
+pub mod FaultLemmas
+pub mod FoundLemmas
 pub mod KeepsLemmas
+pub mod NamedPlaceLemmas
+pub mod OpenedLemmas
 pub mod PlaceLemmas
+pub mod PublishLemmas
+pub mod ReadyLemmas
 pub mod RiseLemmas
+pub mod RoomLemmas
+pub mod SettleLemmas
+pub mod TakenLemmas
 pub mod TellsLemmas
+pub mod TurnLemmas
 pub mod WaitingLemmas

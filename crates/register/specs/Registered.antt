@@ -1,9 +1,10 @@
 -- What an office keeps in memory, as contracts see it: what happened, which claims are out, and for what there is room.
-use Rattle.std.specs.Prelude.{◌≡◌, ℕ, ◌≤◌, Bool, false, not, if◌then◌else◌, List, length, take, find, Option, Some, ℤ}
+use Rattle.std.specs.Prelude.{◌≡◌, ℕ, ◌≤◌, Bool, true, false, not, ◌&&◌, if◌then◌else◌, List, length, take, find, Option, Some, ℤ}
 use Rattle.std.specs.List.{list_any}
+use Rattle.day_cells.specs.Days.{contains_day}
 use Rattle.day_cells.specs.KeptDays.{KeptDays}
 use Rattle.edits.specs.declared.content.Edit.{Edit}
-use Rattle.fixed_units.specs.Quantities.{SiteNumber}
+use Rattle.fixed_units.specs.Quantities.{SiteNumber, same_site}
 use Rattle.history.specs.Accepted.{edits_of, stations_at}
 use Rattle.history.specs.After.{after_publications}
 use Rattle.history.specs.Awaited.{SiteDay, is_day_of, pending_days}
@@ -13,6 +14,7 @@ use Rattle.office_inputs.specs.Kept as kept_inputs
 use Rattle.office_inputs.specs.Kept.{InForce}
 use Rattle.recompute.specs.Cells as kept_cells
 use Rattle.recompute.specs.Cells.{is_out_in}
+use Rattle.recompute.specs.Jobs.{DayJob}
 use Rattle.register.specs.References.{Placed, place_for}
 
 -- what happened; beside it the inputs, the cells and the places of references as they are kept, and for how many more edits there is
@@ -47,6 +49,20 @@ NoneOut r = (site : SiteNumber) (day : ℤ) → is_out r site day ≡ false
 -- the same claims are out
 abbrev pub KeepsClaims : Registered → Registered → Type 0
 KeepsClaims old new = (site : SiteNumber) (day : ℤ) → is_out new site day ≡ is_out old site day
+
+-- the claims of the days that the edit changes are no longer out
+abbrev pub MarksClaims : Registered → Registered → Edit → Type 0
+MarksClaims old new edit = (site : SiteNumber) (day : ℤ)
+    → is_out new site day
+    ≡ (if same_site edit.site site && contains_day (changed_days (stations_at old.history.events) edit) day then false else is_out old site day)
+
+-- the claim of the job's day is out
+abbrev pub TakesClaim : Registered → Registered → DayJob → Type 0
+TakesClaim old new job = (site : SiteNumber) (day : ℤ) → is_out new site day ≡ (if is_day_of job.site job.day site day then true else is_out old site day)
+
+-- the claim of the job's day is no longer out
+abbrev pub EndsClaim : Registered → Registered → DayJob → Type 0
+EndsClaim old new job = (site : SiteNumber) (day : ℤ) → is_out new site day ≡ (if is_day_of job.site job.day site day then false else is_out old site day)
 
 -- the first pending day whose claim is not out, by site, then day
 abbrev pub first_unclaimed : Registered → Option SiteDay

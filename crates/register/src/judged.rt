@@ -1,6 +1,9 @@
 //! What is said to an edit.
 
+ghost use Rattle.std.specs.Prelude.{◌≡◌};
+
 use depend::DayList;
+use fixed_units::NoMemory;
 use office_inputs::Refusal;
 use thiserror::Error;
 
@@ -24,4 +27,14 @@ pub enum NotReadmitted {
     /// There was no memory for it.
     #[error("there was no memory for a record")]
     NoMemory,
+}
+
+impl From<NoMemory> for NotReadmitted {
+    ghost use Rattle.register.specs.declared.judged.NotReadmitted.{NotReadmitted};
+
+    ghost from_gives = { λ _ told. told ≡ NotReadmitted.NoMemory };
+
+    fn from(_: NoMemory) -> NotReadmitted {
+        NotReadmitted::NoMemory
+    }
 }

@@ -1,12 +1,17 @@
-//! What an office keeps in memory beside its stations and cells: the references by which an edit is known again; what is said and
-//! answered, as types; and what holds of jobs over every history. It knows no disk.
+//! What an office keeps in memory: its history in proofs, and beside it the stations in force, the cells of their days, the accepted
+//! edits and the references by which an edit is known again. It knows no disk.
 #![tactic(auto)]
 
+pub mod accepting;
 pub mod answers;
+pub mod computing;
 pub mod judged;
+pub mod judging;
 pub mod laws;
 pub mod references;
+pub mod registers;
 
 pub use answers::Answer;
 pub use judged::{Judged, NotReadmitted};
 pub use references::References;
+pub use registers::Register;

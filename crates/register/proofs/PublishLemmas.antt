@@ -1,0 +1,80 @@
+-- A publication: what was pending, and what is kept behind it.
+use Rattle.std.specs.Prelude.{◌≡◌, ℕ, ◌+◌, ◌<◌, ◌^◌, Bool, true, List, [], ◌∷◌, ◌++◌, length, map, Option, Some, None, is_some}
+use Rattle.std.proofs.Common.{arith, refl, ap, sym, subst, ◌∙◌, length-append}
+use Rattle.daily_values.specs.DayValue.{day_value}
+use Rattle.daily_values.specs.declared.day_values.DayValue.{DayValue}
+use Rattle.day_cells.specs.KeptDays.{KeptDays}
+use Rattle.day_cells.specs.Sites.{station_rank}
+use Rattle.fixed_units.specs.Quantities.{IsDay}
+use Rattle.history.specs.Accepted.{edit_of, stations_at}
+use Rattle.history.specs.Awaited.{is_pending, pending_days, value_at}
+use Rattle.history.specs.Events.{Event, Published}
+use Rattle.history.proofs.EventLemmas.{accepted_published}
+use Rattle.office_inputs.specs.Kept.{InForce, AreStations, in_force}
+use Rattle.office_inputs.specs.Stations.{StationRecord, place_of, stations_of, inputs_of_day}
+use Rattle.recompute.specs.Cells.{Publishes, waiting}
+use Rattle.recompute.specs.Jobs.{DayJob, outcome_by, outcome_of}
+use Rattle.recompute.specs.declared.jobs.Publish.TheVariants as publish
+use Rattle.records.specs.declared.payloads.Record.{Record}
+use Rattle.register.specs.Keeping.{Keeps, Tells}
+use Rattle.register.specs.References.{Placed}
+use Rattle.register.specs.Registered.{registered}
+use Rattle.register.proofs.KeepsLemmas.{keeps_published}
+use Rattle.register.proofs.RiseLemmas.{rising_stations}
+use Rattle.register.proofs.TellsLemmas.{tells_published}
+use Rattle.register.proofs.WaitingLemmas.{waiting_count}
+use Rattle.rising.specs.Lists.{IsRising}
+
+-- what is published was awaited
+published_awaits : (o : Option ℕ) (awaits : ℕ) (same : Bool) → outcome_by o awaits same ≡ publish.Published → is_some o ≡ true
+published_awaits None awaits same h = absurd (cc)
+published_awaits (Some edit) awaits same h = refl
+
+module _ (opened : ℕ) (inputs : InForce) (cells : List KeptDays) (places : List Placed) (spare : ℕ) (events : List Event)
+    (pieces : List Record) (count bytes : ℕ) (kept : Keeps (registered opened inputs cells places spare events) pieces count bytes)
+    (stations : AreStations inputs.kept) (rising : IsRising station_rank cells) (new : List KeptDays) (new_rising : IsRising station_rank new)
+    (job : DayJob) (value : DayValue) (day : IsDay job.day) (told : outcome_of cells (in_force inputs) job ≡ publish.Published)
+    (publishes : Publishes cells new job.site job.day value) (computed : value ≡ day_value (inputs_of_day (in_force inputs) job.site job.day)) where
+  abbrev more : List Event
+  more = events ++ Published job.site job.day ∷ []
+
+  was_pending : is_pending events job.site job.day ≡ true
+  was_pending =
+      ap (λ (o : Option ℕ). is_some o) (sym (kept.cells_tell.awaited_told job.site job.day day))
+      ∙ published_awaits _ _ _ told
+
+  is_value : value ≡ value_at events job.site job.day
+  is_value = computed ∙ ap (λ (s : List StationRecord). day_value (inputs_of_day s job.site job.day)) kept.stations
+
+  now_told : Tells more new
+  now_told = tells_published events cells new kept.cells_tell job.site job.day value is_value publishes
+
+  stations_stay : stations_at events ≡ stations_at more
+  stations_stay = ap (λ (ps : List Record). stations_of (map edit_of ps)) (sym (accepted_published events job.site job.day))
+
+  stations_rise : IsRising place_of (stations_at events)
+  stations_rise = rising_stations inputs.kept (stations_at events) stations kept.stations
+
+  -- one day less is pending
+  pub one_less : length (pending_days more) + 1 ≡ length (pending_days events)
+  one_less =
+      let before : length (waiting cells) ≡ length (pending_days events) = waiting_count events cells kept.cells_tell rising stations_rise in
+      let after : length (waiting new) ≡ length (pending_days more) = waiting_count more new now_told new_rising (subst (IsRising place_of) stations_stay stations_rise) in
+      let step = publishes.pending in
+      omega (arith, before, after, step)
+
+  -- one event more can be counted
+  pub room : count + 1 < 2 ^ 64
+  room =
+      let counted = kept.events_are in
+      let fits = kept.fits in
+      let less = one_less in
+      omega (arith, counted, fits, less)
+
+  pub kept_published : Keeps (registered opened inputs new places spare more) pieces (count + 1) bytes
+  kept_published =
+      let whole : length more ≡ length events + 1 = length-append events (Published job.site job.day ∷ []) in
+      let fits = kept.fits in
+      let less = one_less in
+      keeps_published opened inputs cells places spare events pieces count bytes kept job.site job.day value new (count + 1) was_pending is_value publishes refl
+      (omega (arith, whole, fits, less))

@@ -1,0 +1,35 @@
+-- What the verdict says of an accepted edit; the limits are numbers of 64 bits.
+use Rattle.std.specs.Prelude.{◌≡◌, ℕ, ◌<◌, ◌≤◌, ◌^◌, Option, Some, None, IfSome, unwrap_or}
+use Rattle.std.proofs.Common.{arith, ap, ◌∙◌, refl}
+use Rattle.history.specs.Accepted.{accepted, journal_size}
+use Rattle.history.specs.Verdicts.{with_edit}
+use Rattle.history.proofs.VerdictLemmas.{accepted_parts}
+use Rattle.office_inputs.specs.declared.limits.Limits.{Limits}
+use Rattle.register.specs.Registered.{Registered}
+use Rattle.register.proofs.registers.Register.accept.Goals as goal
+
+counted_bytes : (told : Option ℕ) (other size : ℕ) → IfSome told (λ bytes. bytes ≡ size) → (told ≡ None → 2 ^ 64 ≤ size) → size < 2 ^ 64 → unwrap_or told other ≡ size
+counted_bytes (Some bytes) other size h most small = h
+counted_bytes None other size h most small = let large = most refl in absurd (omega (arith, large))
+
+pub take_in-requires-clause-events : goal.take_in-requires-clause-events
+take_in-requires-clause-events c =
+    let told = ap (λ (l : Limits). l.events) c.limits.ensures ∙ ap (λ (r : Registered). r.history.limits.events) c.self.view_is in
+    let small : c.args.self.now.history.limits.events < 2 ^ 64 = omega (arith, told) in
+    let parts = (accepted_parts c.args.self.now.history c.args.piece.edit c.requires.verdict).events in
+    omega (arith, small, parts)
+
+pub take_in-requires-clause-new : goal.take_in-requires-clause-new
+take_in-requires-clause-new c = (accepted_parts c.args.self.now.history c.args.piece.edit c.requires.verdict).new
+
+pub take_in-requires-clause-lawful : goal.take_in-requires-clause-lawful
+take_in-requires-clause-lawful c = (accepted_parts c.args.self.now.history c.args.piece.edit c.requires.verdict).stations
+
+pub take_in-requires-clause-bytes : goal.take_in-requires-clause-bytes
+take_in-requires-clause-bytes c =
+    let told = ap (λ (l : Limits). l.journal_bytes) c.limits.ensures ∙ ap (λ (r : Registered). r.history.limits.journal_bytes) c.self.view_is in
+    let small : c.args.self.now.history.limits.journal_bytes < 2 ^ 64 = omega (arith, told) in
+    let parts = (accepted_parts c.args.self.now.history c.args.piece.edit c.requires.verdict).journal in
+    c.unwrap_or-bytes.ensures
+    ∙ counted_bytes c.journal_after.result 18446744073709551615 (journal_size (accepted (with_edit c.args.self.now.history c.args.piece.edit)))
+    c.journal_after.ensures.counted c.journal_after.ensures.most (omega (arith, small, parts))

@@ -1,0 +1,13 @@
+-- The stations in force are those of the history, so the search is as long.
+use Rattle.std.specs.Prelude.{◌+◌, ◌≤◌, List, length}
+use Rattle.std.proofs.Common.{ap, subst, ◌∙◌}
+use Rattle.history.specs.Accepted.{stations_at}
+use Rattle.office_inputs.specs.Stations.{StationRecord}
+use Rattle.office_inputs.specs.Touched.{interval}
+use Rattle.register.specs.Registered.{Registered}
+use Rattle.register.proofs.registers.Register.judge.Goals as goal
+
+pub returns-clause-steps : goal.returns-clause-steps
+returns-clause-steps g c =
+    let same = c.self.invariant.stations ∙ ap (λ (r : Registered). stations_at r.history.events) c.self.view_is in
+    subst (λ (stations : List StationRecord). c.reach.new.steps ≤ c.args.steps.now + length (interval stations c.args.edit.now) + 9) same c.reach.ensures.steps

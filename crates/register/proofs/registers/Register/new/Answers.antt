@@ -1,0 +1,7 @@
+-- Of no edit all that is kept is empty.
+use Rattle.register.proofs.KeepsLemmas.{keeps_empty}
+use Rattle.register.proofs.registers.Register.new.Goals as goal
+
+pub invariant_of-result : goal.invariant_of-result
+invariant_of-result c =
+    keeps_empty c.new.result c.new-2.result c.new-3.result _ c.new-5.result c.new-4.result.items c.new.ensures.stations c.new-2.ensures c.new-3.ensures c.new-5.ensures c.new-4.ensures.items

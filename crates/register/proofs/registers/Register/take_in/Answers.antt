@@ -1,0 +1,31 @@
+-- The changed days rise as the calendar does, and each part took the edit in.
+use Rattle.std.proofs.Common.{arith, ◌+◌, ◌-◌, ◌∷◌, ◌++◌, [], ap, ◌∙◌}
+use Rattle.std.specs.Vec.{vec_capacity, vec_len}
+use Rattle.depend.proofs.ReachLemmas.{changed_rise}
+use Rattle.history.specs.Accepted.{stations_at}
+use Rattle.history.specs.Events.{Event}
+use Rattle.register.proofs.TakenLemmas.{keeps_taken}
+use Rattle.register.proofs.registers.Register.take_in.Goals as goal
+
+pub mark-requires-clause-rising : goal.mark-requires-clause-rising
+mark-requires-clause-rising c = changed_rise (stations_at c.args.self.now.history.events) c.args.piece.edit c.args.days.now c.requires.days
+
+pub invariant_of-self : goal.invariant_of-self
+invariant_of-self c =
+    keeps_taken c.self.inside.opened c.self.inside.inputs c.self.inside.cells c.self.inside.references
+    (vec_capacity c.self.inside.pieces - vec_len c.self.inside.pieces) c.self.inside.past c.self.inside.pieces.items c.self.inside.events c.self.inside.journal_bytes
+    c.self.invariant c.args.self.now c.self.view_is c.args.piece c.args.days.now c.args.journal_bytes
+    (record {
+      new = c.requires.new;
+      lawful = c.requires.lawful;
+      days_are = c.requires.days;
+      room = c.requires.room;
+      counted = c.requires.events;
+      size_is = c.requires.bytes;
+      size_fits = omega arith;
+    })
+    c.apply.new.self c.mark.new.self (vec_capacity c.push_reserved.new.self - vec_len c.push_reserved.new.self) (c.len.result + 1) c.record.new.self
+    c.push_reserved.new.self.items c.apply.ensures.stations c.apply.ensures.limits (ap (λ k. k + 1) (c.len.ensures ∙ c.self.inside.pieces.ok.0))
+    c.mark.ensures.marks
+    (c.record.ensures ∙ ap (λ (e : Event). c.self.inside.past ++ e ∷ []) c.accepted-accepted.ensures)
+    c.push_reserved.ensures.items

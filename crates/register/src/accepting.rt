@@ -1,0 +1,161 @@
+//! An edit accepted, or refused by a fault of its journal; and the edits that an office is opened with.
+
+ghost use Rattle.std.specs.Prelude.{◌≡◌, ◌<◌, ◌+◌, ◌^◌, ◌∷◌, ◌++◌, [], false, ◌&&◌, if◌then◌else◌, length, None, IfErr, OnOk, OnErr};
+ghost use Rattle.day_cells.specs.Days.{contains_day};
+ghost use Rattle.fixed_units.specs.Quantities.{SiteNumber, same_site};
+ghost use Rattle.history.specs.Accepted.{accepted, edits_of, stations_at, named, journal_size};
+ghost use Rattle.history.specs.After.{after_edit, after_fault, reopen};
+ghost use Rattle.history.specs.Awaited.{pending_days};
+ghost use Rattle.history.specs.Verdicts.{Accepts, refused_by_stations, verdict, with_edit};
+ghost use Rattle.office_inputs.specs.Changes.{changed_days};
+ghost use Rattle.register.specs.Asked.{IsNotReadmitted, readmission_refusal};
+ghost use Rattle.register.specs.Registered.{IsReady, KeepsClaims, MarksClaims, NoneOut};
+
+use crate::judged::NotReadmitted;
+use crate::registers::Register;
+use depend::reach;
+use edits::Edit;
+use fixed_units::{Day, NoMemory};
+use history::{Doubt, Recorded};
+use office_inputs::{Refusal, stations_keep_to_their_ranges};
+use records::Record;
+use std::marker::Brand;
+use std::sync::ledger::{Blank, Ledger};
+use steps::Steps;
+
+impl Register {
+    /// Makes room for all that an edit adds which changes these days, so that its acceptance takes no memory. What happened and which
+    /// claims are out is as before, also after `NoMemory`.
+    pub fn prepare(&mut self, edit: &Edit, days: &[Day]) -> Result<(), NoMemory>
+        requires new { named (edits_of self.old.history.events) edit.now.reference ≡ None }
+        requires days { days.now ≡ changed_days (stations_at self.old.history.events) edit.now }
+        ensures history { self.new.history ≡ self.old.history }
+        ensures claims { KeepsClaims self.old self.new }
+        ensures room { OnOk result (IsReady self.new edit.now) }
+    {
+        self.inputs.prepare(edit)?;
+        self.cells.prepare(edit.site, days)?;
+        self.pieces.reserve(1)?;
+        let place = self.pieces.len() as u64;
+        self.references
+            .put(self.alloc, edit.reference.as_slice(), place)
+    }
+
+    /// Accepts an edit by its record, for which room is made: the days that it changes await it from then on, and their claims are no
+    /// longer out. It takes no memory.
+    pub fn accept(&mut self, piece: Record, days: &[Day])
+        requires verdict { verdict self.old.history piece.edit ≡ Accepts }
+        requires days { days.now ≡ changed_days (stations_at self.old.history.events) piece.edit }
+        requires room { IsReady self.old piece.edit }
+        ensures history { self.new.history ≡ after_edit self.old.history piece.edit }
+        ensures claims { MarksClaims self.old self.new piece.edit }
+    {
+        // What an accepted edit counts is within the limits, which are numbers of 64 bits.
+        let _ = self.inputs.limits();
+        let bytes = self.journal_after(&piece.edit).unwrap_or(u64::MAX);
+        self.take_in(piece, days, bytes);
+    }
+
+    /// Accepts an edit that was not refused and whose reference is new.
+    fn take_in(&mut self, piece: Record, days: &[Day], journal_bytes: u64)
+        requires new { named (edits_of self.old.history.events) piece.edit.reference ≡ None }
+        requires lawful { refused_by_stations self.old.history piece.edit ≡ None }
+        requires days { days.now ≡ changed_days (stations_at self.old.history.events) piece.edit }
+        requires room { IsReady self.old piece.edit }
+        requires events { length self.old.history.events + 1 + length (pending_days (with_edit self.old.history piece.edit)) < 2 ^ 64 }
+        requires bytes { journal_bytes ≡ journal_size (accepted (with_edit self.old.history piece.edit)) }
+        ensures history { self.new.history ≡ after_edit self.old.history piece.edit }
+        ensures claims { MarksClaims self.old self.new piece.edit }
+    {
+        let accepted = Recorded::accepted(&piece);
+        let number = self.pieces.len() as u64 + 1;
+        let edit = &piece.edit;
+        self.inputs.apply(edit);
+        self.cells.mark(edit.site, days, number);
+        self.events += 1;
+        self.journal_bytes = journal_bytes;
+        self.past.record(&accepted);
+        self.pieces.push_reserved(piece);
+    }
+
+    /// A fault of the journal refused an edit that nothing else refused, and left this doubt. It takes no memory.
+    pub fn fault(&mut self, edit: &Edit, doubt: &Doubt)
+        requires { verdict self.old.history edit.now ≡ Accepts }
+        ensures history { self.new.history ≡ after_fault self.old.history doubt.now }
+        ensures claims { KeepsClaims self.old self.new }
+        ensures room { (other : Edit) → IsReady self.old other → IsReady self.new other }
+    {
+        stations_keep_to_their_ranges(&self.inputs);
+        // There was room for an event within the limits, which are numbers of 64 bits.
+        let _ = self.inputs.limits();
+        self.events += 1;
+        self.past.record(&Recorded::faulted(doubt));
+    }
+
+    /// Accepts an edit by its record while an office is opened with it.
+    ///
+    /// # Errors
+    ///
+    /// [`NotReadmitted::Refused`] exactly where its reference is that of an accepted edit or the stations in force refuse it, and
+    /// [`NotReadmitted::NoMemory`] where there was none, or the events or the bytes of the journal could not be counted. What happened
+    /// is then as before.
+    pub fn readmit(&mut self, piece: Record) -> Result<(), NotReadmitted>
+        requires { self.old.history ≡ reopen self.old.history.limits (accepted self.old.history.events) }
+        ensures history { OnOk result (self.new.history ≡ reopen self.old.history.limits (accepted self.old.history.events ++ piece ∷ [])) }
+        ensures lawful { OnOk result (readmission_refusal self.old.history piece.edit ≡ None) }
+        ensures refused { IfErr result (IsNotReadmitted (readmission_refusal self.old.history piece.edit)) }
+        ensures same { OnErr result (self.new.history ≡ self.old.history) }
+        ensures claims { NoneOut self.old → NoneOut self.new }
+    {
+        self.readmit_counted::<Brand>(piece, Blank::new(1))
+    }
+
+    /// The same, with a counter that nobody reads.
+    fn readmit_counted<L: Ledger>(
+        &mut self,
+        piece: Record,
+        blank: Blank,
+    ) -> Result<(), NotReadmitted>
+        requires name { blank.name ≡ L.name }
+        requires parts { blank.parts ≡ L.parts }
+        requires some { 0 < blank.parts }
+        requires opening { self.old.history ≡ reopen self.old.history.limits (accepted self.old.history.events) }
+        ensures history { OnOk result (self.new.history ≡ reopen self.old.history.limits (accepted self.old.history.events ++ piece ∷ [])) }
+        ensures lawful { OnOk result (readmission_refusal self.old.history piece.edit ≡ None) }
+        ensures refused { IfErr result (IsNotReadmitted (readmission_refusal self.old.history piece.edit)) }
+        ensures same { OnErr result (self.new.history ≡ self.old.history) }
+        ensures claims { NoneOut self.old → NoneOut self.new }
+    {
+        if let Some((number, _)) = self.named(piece.edit.reference.as_slice()) {
+            return Err(NotReadmitted::Refused(Refusal::RefReused(number)));
+        }
+        if let Some(refusal) = self.inputs.refusal(&piece.edit) {
+            return Err(NotReadmitted::Refused(refusal));
+        }
+        let mut steps = Steps::<L>::new(blank);
+        let days = reach(self.alloc, &self.inputs, &piece.edit, &mut steps)?;
+        self.readmit_on(piece, days.as_slice())
+    }
+
+    /// Accepts an edit that is not refused and changes these days, while an office is opened with it.
+    fn readmit_on(&mut self, piece: Record, days: &[Day]) -> Result<(), NotReadmitted>
+        requires opening { self.old.history ≡ reopen self.old.history.limits (accepted self.old.history.events) }
+        requires lawful { readmission_refusal self.old.history piece.edit ≡ None }
+        requires days { days.now ≡ changed_days (stations_at self.old.history.events) piece.edit }
+        ensures history { OnOk result (self.new.history ≡ reopen self.old.history.limits (accepted self.old.history.events ++ piece ∷ [])) }
+        ensures refused { IfErr result (IsNotReadmitted (readmission_refusal self.old.history piece.edit)) }
+        ensures same { OnErr result (self.new.history ≡ self.old.history) }
+        ensures claims { NoneOut self.old → NoneOut self.new }
+    {
+        if self.events_after(&piece.edit, days).is_none() {
+            return Err(NotReadmitted::NoMemory);
+        }
+        let Some(bytes) = self.journal_after(&piece.edit) else {
+            return Err(NotReadmitted::NoMemory);
+        };
+        self.prepare(&piece.edit, days)?;
+        self.take_in(piece, days, bytes);
+        self.opened += 1;
+        Ok(())
+    }
+}

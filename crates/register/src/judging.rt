@@ -1,0 +1,149 @@
+//! What is said to an edit: that it comes again, why it is refused, or that it is accepted and which days it changes.
+
+ghost use Rattle.std.specs.Prelude.{◌≡◌, ◌≤◌, ◌+◌, ◌^◌, true, false, if◌then◌else◌, length, count_by, is_none, IfOk, IfSome, None};
+ghost use Rattle.history.specs.Accepted.{accepted, edits_of, stations_at, cell_count, journal_size};
+ghost use Rattle.history.specs.Awaited.{pending_days};
+ghost use Rattle.history.specs.Events.{History};
+ghost use Rattle.history.specs.Verdicts.{or_else, refused_where, refused_by_stations, is_full_of_events, is_full_of_cells, is_journal_full, same_edit, verdict, with_edit, Repeats, Refuses};
+ghost use Rattle.office_inputs.specs.Changes.{changed_days};
+ghost use Rattle.office_inputs.specs.Touched.{interval};
+ghost use Rattle.office_inputs.specs.declared.refusals.Full.TheVariants as fulls;
+ghost use Rattle.office_inputs.specs.declared.refusals.Refusal.TheVariants.{RefReused, HistoryFull, JournalFull};
+ghost use Rattle.recompute.specs.Cells.{awaited_in};
+ghost use Rattle.records.specs.Payloads.{edit_bytes};
+ghost use Rattle.register.specs.Asked.{TellsChanged, verdict_told, needs_days};
+
+use crate::judged::Judged;
+use crate::registers::Register;
+use depend::reach;
+use edits::Edit;
+use fixed_units::{Day, NoMemory, Site};
+use office_inputs::{Full, Refusal, stations_keep_to_their_ranges};
+use recompute::pending_days_stand_by_site;
+use records::{edit_len, same_edit};
+use std::alloc::Global;
+use std::sync::ledger::Ledger;
+use steps::Steps;
+
+impl Register {
+    /// The verdict of an edit. Nothing is changed. No step is taken where the edit comes again or where the stations in force refuse
+    /// it, and else no more than the search for its days may take.
+    ///
+    /// # Errors
+    ///
+    /// [`NoMemory`] where there was none for the search, or for the comparison with the edit of that reference.
+    pub fn judge<L: Ledger>(&self, edit: &Edit, steps: &mut Steps<L>) -> Result<Judged, NoMemory>
+        ensures verdict { IfOk result (λ judged. verdict_told judged ≡ verdict self.now.history edit.now) }
+        ensures changed { IfOk result (TellsChanged self.now.history edit.now) }
+        ensures steps { steps.new ≤ steps.old + length (interval (stations_at self.now.history.events) edit.now) + 9 }
+        ensures no_step { needs_days self.now.history edit.now ≡ false → steps.new ≡ steps.old }
+    {
+        if let Some((number, other)) = self.named(edit.reference.as_slice()) {
+            return judge_again(self.alloc, number, other, edit);
+        }
+        if let Some(refusal) = self.inputs.refusal(edit) {
+            return Ok(Judged::Refused(refusal));
+        }
+        let days = reach(self.alloc, &self.inputs, edit, steps)?;
+        Ok(match self.lacks_room(edit, days.as_slice()) {
+            Some(refusal) => Judged::Refused(refusal),
+            None => Judged::Accepted(days),
+        })
+    }
+
+    /// For what there is no room, of an edit that changes these days: its events, its cells or its record.
+    fn lacks_room(&self, edit: &Edit, days: &[Day]) -> Option<Refusal>
+        requires lawful { refused_by_stations self.now.history edit.now ≡ None }
+        requires days { days.now ≡ changed_days (stations_at self.now.history.events) edit.now }
+        ensures { result ≡ or_else (refused_where (is_full_of_events self.now.history edit.now) (HistoryFull fulls.Events)) (or_else (refused_where (is_full_of_cells self.now.history edit.now) (HistoryFull fulls.Cells)) (refused_where (is_journal_full self.now.history edit.now) JournalFull)) }
+    {
+        if self.lacks_events(edit, days) {
+            return Some(Refusal::HistoryFull(Full::Events));
+        }
+        if self.lacks_cells(edit, days) {
+            return Some(Refusal::HistoryFull(Full::Cells));
+        }
+        if self.lacks_bytes(edit) {
+            return Some(Refusal::JournalFull);
+        }
+        None
+    }
+
+    /// Whether an edit that changes these days and the publications that it brings are too many events.
+    fn lacks_events(&self, edit: &Edit, days: &[Day]) -> bool
+        requires { days.now ≡ changed_days (stations_at self.now.history.events) edit.now }
+        ensures { result ≡ is_full_of_events self.now.history edit.now }
+    {
+        let limit = self.inputs.limits().events;
+        self.events_after(edit, days)
+            .is_none_or(|events| events > limit)
+    }
+
+    /// Whether there would be too many cells with an edit that changes these days.
+    fn lacks_cells(&self, edit: &Edit, days: &[Day]) -> bool
+        requires { days.now ≡ changed_days (stations_at self.now.history.events) edit.now }
+        ensures { result ≡ is_full_of_cells self.now.history edit.now }
+    {
+        stations_keep_to_their_ranges(&self.inputs);
+        pending_days_stand_by_site(&self.cells);
+        self.cells.cells_after(edit.site, days) > self.inputs.limits().cells
+    }
+
+    /// Whether the journal would be too long with the record of an edit.
+    fn lacks_bytes(&self, edit: &Edit) -> bool
+        ensures { result ≡ is_journal_full self.now.history edit.now }
+    {
+        let limit = self.inputs.limits().journal_bytes;
+        self.journal_after(edit).is_none_or(|bytes| bytes > limit)
+    }
+
+    /// How many events there would be with an edit that changes these days and a publication of each day that would be pending, or
+    /// `None` where that cannot be counted.
+    pub(crate) fn events_after(&self, edit: &Edit, days: &[Day]) -> Option<u64>
+        requires { days.now ≡ changed_days (stations_at self.now.history.events) edit.now }
+        ensures counted { IfSome result (λ events. events ≡ length self.now.history.events + 1 + length (pending_days (with_edit self.now.history edit.now))) }
+        ensures most { result ≡ None → 2 ^ 64 ≤ length self.now.history.events + 1 + length (pending_days (with_edit self.now.history edit.now)) }
+    {
+        stations_keep_to_their_ranges(&self.inputs);
+        pending_days_stand_by_site(&self.cells);
+        let settled = self.events + self.cells.pending();
+        let added = 1 + self.newly_pending(edit.site, days);
+        settled.checked_add(added)
+    }
+
+    /// How many of some days of a site await no edit.
+    fn newly_pending(&self, site: Site, days: &[Day]) -> u64
+        ensures count { result ≡ count_by (λ day. is_none (awaited_in self.now.cells site day)) days.now }
+        ensures most { result ≤ length days.now }
+    {
+        days.iter()
+            .filter(|day| self.cells.awaited(site, **day).is_none())
+            .count() as u64
+    }
+
+    /// How many bytes the journal would have with an edit, or `None` where that cannot be counted.
+    pub(crate) fn journal_after(&self, edit: &Edit) -> Option<u64>
+        ensures counted { IfSome result (λ bytes. bytes ≡ journal_size (accepted (with_edit self.now.history edit.now))) }
+        ensures most { result ≡ None → 2 ^ 64 ≤ journal_size (accepted (with_edit self.now.history edit.now)) }
+    {
+        self.journal_bytes.checked_add(block_len(edit))
+    }
+}
+
+/// How many bytes of a journal an edit takes: a gate, the length of its payload in four bytes, and the payload.
+fn block_len(edit: &Edit) -> u64
+    ensures { result ≡ 5 + length (edit_bytes edit.now) }
+{
+    5 + edit_len(edit) as u64
+}
+
+/// The verdict of an edit under the reference of an accepted one.
+fn judge_again(alloc: Global, number: u64, other: &Edit, edit: &Edit) -> Result<Judged, NoMemory>
+    ensures verdict { IfOk result (λ judged. verdict_told judged ≡ (if same_edit other.now edit.now then Repeats number else Refuses (RefReused number))) }
+    ensures changed { IfOk result (λ judged. (h : History) → TellsChanged h edit.now judged) }
+{
+    if same_edit(alloc, other, edit)? {
+        return Ok(Judged::Repeated(number));
+    }
+    Ok(Judged::Refused(Refusal::RefReused(number)))
+}

@@ -1,0 +1,5 @@
+pub mod DoubtLemmas
+pub mod EditLemmas
+pub mod KeepingLemmas
+pub mod RefusedLemmas
+pub mod ReplayLemmas

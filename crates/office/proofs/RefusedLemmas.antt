@@ -1,0 +1,107 @@
+-- A history refuses no edit for a fault of the journal.
+use Rattle.std.specs.Prelude.{◌≡◌, ℕ, Bool, true, false, not, ◌&&◌, cond, List, [], Option, Some, None, IfSome}
+use Rattle.std.proofs.Common.{refl, ap, sym, subst, inl, append-nil}
+use Rattle.edits.specs.declared.content.Edit.{Edit}
+use Rattle.history.specs.Accepted.{Numbered, edits_of, named, stations_at}
+use Rattle.history.specs.Events.{History}
+use Rattle.history.specs.Verdicts.{Repeats, Refuses, or_else, refused_by_stations, is_full_of_events, is_full_of_cells, is_journal_full, refused_where, refusal_of, same_edit, verdict_of_refusal, verdict_by, verdict}
+use Rattle.journal.specs.Writing.{Lists}
+use Rattle.office.specs.Edits.{IsRefusedBy, RefusalCalls, is_fault}
+use Rattle.office_inputs.specs.Refusals as inputs
+use Rattle.office_inputs.specs.Stations.{stations_after}
+use Rattle.office_inputs.specs.declared.refusals.Full.TheVariants as fulls
+use Rattle.office_inputs.specs.declared.refusals.Refusal.{Refusal}
+use Rattle.office_inputs.specs.declared.refusals.Refusal.TheVariants.{RefReused, NoStation, StationExists, Limit, HistoryFull, JournalFull, NoMemory, JournalFault}
+use Rattle.office_inputs.specs.declared.refusals.Which.{Which}
+
+abbrev NoFault : Option Refusal → Type 0
+NoFault o = IfSome o (λ refusal. is_fault refusal ≡ false)
+
+of_limit : (o : Option Which) → NoFault (inputs.limit_refusal o)
+of_limit None = tt
+of_limit (Some which) = refl
+
+of_stations : (missing kept : Bool) (o : Option Which) → NoFault (cond missing (Some NoStation) (cond kept (Some StationExists) (inputs.limit_refusal o)))
+of_stations true kept o = refl
+of_stations false true o = refl
+of_stations false false o = of_limit o
+
+of_room : (events cells journal : Bool) → NoFault (or_else (refused_where events (HistoryFull fulls.Events))
+    (or_else (refused_where cells (HistoryFull fulls.Cells)) (refused_where journal JournalFull)))
+of_room true cells journal = refl
+of_room false true journal = refl
+of_room false false true = refl
+of_room false false false = tt
+
+first_or : (x y : Option Refusal) → NoFault x → NoFault y → NoFault (or_else x y)
+first_or None y p q = q
+first_or (Some refusal) y p q = p
+
+by_stations : (h : History) (edit : Edit) → NoFault (refused_by_stations h edit)
+by_stations h edit =
+    let stations = stations_at h.events in
+    of_stations (not (inputs.adds_station edit.what) && not (inputs.is_kept stations edit.site)) (inputs.adds_station edit.what && inputs.is_kept stations edit.site)
+    (inputs.passed_limit h.limits edit.site stations (stations_after stations edit))
+
+by_history : (h : History) (edit : Edit) → NoFault (refusal_of h edit)
+by_history h edit =
+    let events = refused_where (is_full_of_events h edit) (HistoryFull fulls.Events) in
+    let cells = refused_where (is_full_of_cells h edit) (HistoryFull fulls.Cells) in
+    let journal = refused_where (is_journal_full h edit) JournalFull in
+    first_or (refused_by_stations h edit) (or_else events (or_else cells journal)) (by_stations h edit)
+    (of_room (is_full_of_events h edit) (is_full_of_cells h edit) (is_journal_full h edit))
+
+of_refusal : (o : Option Refusal) (refusal : Refusal) → NoFault o → verdict_of_refusal o ≡ Refuses refusal → is_fault refusal ≡ false
+of_refusal None refusal p v = absurd (cc)
+of_refusal (Some other) refusal p v = let same : other ≡ refusal = cc in subst (λ (r : Refusal). is_fault r ≡ false) same p
+
+of_again : (b : Bool) (number : ℕ) (refusal : Refusal) → cond b (Repeats number) (Refuses (RefReused number)) ≡ Refuses refusal → is_fault refusal ≡ false
+of_again true number refusal v = absurd (cc)
+of_again false number refusal v = let same : RefReused number ≡ refusal = cc in subst (λ (r : Refusal). is_fault r ≡ false) same refl
+
+of_verdict : (o : Option Numbered) (edit : Edit) (r : Option Refusal) (refusal : Refusal) → NoFault r → verdict_by o edit r ≡ Refuses refusal
+    → is_fault refusal ≡ false
+of_verdict None edit r refusal p v = of_refusal r refusal p v
+of_verdict (Some other) edit r refusal p v = of_again (same_edit other.edit edit) other.number refusal v
+
+pub refused_no_fault : (h : History) (edit : Edit) (refusal : Refusal) → verdict h edit ≡ Refuses refusal → is_fault refusal ≡ false
+refused_no_fault h edit refusal v = of_verdict (named (edits_of h.events) edit.reference) edit (refusal_of h edit) refusal (by_history h edit) v
+
+refused_by : (h : History) (edit : Edit) (refusal : Refusal) → verdict h edit ≡ Refuses refusal → is_fault refusal ≡ false → IsRefusedBy h edit h refusal
+refused_by h edit (RefReused number) v f = (v, refl)
+refused_by h edit NoStation v f = (v, refl)
+refused_by h edit StationExists v f = (v, refl)
+refused_by h edit (Limit which) v f = (v, refl)
+refused_by h edit (HistoryFull full) v f = (v, refl)
+refused_by h edit JournalFull v f = (v, refl)
+refused_by h edit NoMemory v f = refl
+refused_by h edit (JournalFault in_doubt) v f = absurd (cc)
+
+pub is_refused : (h : History) (edit : Edit) (refusal : Refusal) → verdict h edit ≡ Refuses refusal → IsRefusedBy h edit h refusal
+is_refused h edit refusal v = refused_by h edit refusal v (refused_no_fault h edit refusal v)
+
+-- and the disk is not asked
+no_calls : (doubtful : Bool) (refusal : Refusal) → is_fault refusal ≡ false → RefusalCalls doubtful refusal []
+no_calls doubtful (RefReused number) f = refl
+no_calls doubtful NoStation f = refl
+no_calls doubtful StationExists f = refl
+no_calls doubtful (Limit which) f = refl
+no_calls doubtful (HistoryFull full) f = refl
+no_calls doubtful JournalFull f = refl
+no_calls doubtful NoMemory f = refl
+no_calls doubtful (JournalFault in_doubt) f = absurd (cc)
+
+lists_none : (content : Option (List ℕ)) (calls : List Bool) (faults : ℕ) (P : List Bool → Type 0) → P [] → Lists content calls calls faults P
+lists_none None calls faults P p = tt
+lists_none (Some bytes) calls faults P p = inl ([], sym (append-nil calls), p)
+
+pub lists_refused : (content : Option (List ℕ)) (calls : List Bool) (faults : ℕ) (doubtful : Bool) (h : History) (edit : Edit) (refusal : Refusal)
+    → verdict h edit ≡ Refuses refusal → Lists content calls calls faults (RefusalCalls doubtful refusal)
+lists_refused content calls faults doubtful h edit refusal v =
+    lists_none content calls faults (RefusalCalls doubtful refusal) (no_calls doubtful refusal (refused_no_fault h edit refusal v))
+
+pub not_a_fault : (h : History) (edit : Edit) (refusal : Refusal) (in_doubt : Bool) → verdict h edit ≡ Refuses refusal → refusal ≡ JournalFault in_doubt → ⊥
+not_a_fault h edit refusal in_doubt v e =
+    let none = refused_no_fault h edit refusal v in
+    let fault : is_fault refusal ≡ true = ap is_fault e in
+    cc

@@ -1,0 +1,198 @@
+-- An office that is opened accepts the records of its journal again, and stands for them.
+use Rattle.std.specs.Prelude.{◌≡◌, ℕ, ◌+◌, ◌<◌, ◌≤◌, false, List, [], ◌∷◌, ◌++◌, length, map, reverse, flat_map, sum_by, Option, Some, None, is_some, IsSome, IfSome, All}
+use Rattle.std.specs.Int.{w32, to_le_bytes}
+use Rattle.std.proofs.Common.{arith, refl, ap, sym, subst, inr, ◌∙◌, length-append}
+use Rattle.std.proofs.lemmas.List.{map-append, reverse-append}
+use Rattle.std.proofs.lemmas.List.Concat.{flat_map-cons}
+use Rattle.std.proofs.lemmas.List.Elements.{All-head, All-tail}
+use Rattle.std.proofs.lemmas.List.Sums.{sum_by-cons}
+use Rattle.devices.specs.declared.disks.Disk.{Ghosts}
+use Rattle.devices.specs.Disks.{IsDurable, NothingNew}
+use Rattle.history.specs.Accepted.{accepted, journal_size}
+use Rattle.history.specs.After.{reopen, doubt_back, doubt}
+use Rattle.history.specs.Events.{Event, History, Accepted}
+use Rattle.history.specs.Legal.{IsLegal}
+use Rattle.history.proofs.EventLemmas.{accepted_all}
+use Rattle.journal.specs.JournalBytes.{InGrammar, header, block, front}
+use Rattle.journal.specs.Keeping.{Holds}
+use Rattle.journal.specs.Moments.{LeavesOnly, OnlyReads}
+use Rattle.journal.specs.Reading.{HasRead, HasEnded}
+use Rattle.journal.specs.declared.keeping.Journal.{Journal}
+use Rattle.journal.specs.declared.opening.Opening.{Opening}
+use Rattle.journal.proofs.Moments.{joined}
+use Rattle.journal.proofs.Stages.{front-push, length_front-push}
+use Rattle.office.specs.Openings.{IsDamagedFor}
+use Rattle.office.specs.Replaying.{HasReadmitted, HasReadmittedAll}
+use Rattle.office.specs.Standing.{Stands}
+use Rattle.office_inputs.specs.declared.limits.Limits.{Limits}
+use Rattle.records.specs.Payloads.{payload, encoded}
+use Rattle.records.specs.declared.payloads.Record.{Record}
+use Rattle.register.specs.Asked.{readmission_refusal}
+use Rattle.register.specs.Registered.{Registered, NoneOut}
+
+-- how many bytes the records have
+four : (n : ℕ) → length (to_le_bytes w32 n) ≡ 4
+four n = refl
+
+block_length : (piece : Record) → length (block piece) ≡ 5 + length (payload piece)
+block_length piece =
+    let cut = length-append (to_le_bytes w32 (length (payload piece))) (payload piece) in
+    let head = four (length (payload piece)) in
+    let gate : length (block piece) ≡ 1 + length (encoded piece) = omega arith in
+    omega (arith, cut, head, gate)
+
+blocks_length : (pieces : List Record) → length (flat_map block pieces) ≡ sum_by (λ piece. 5 + length (payload piece)) pieces
+blocks_length [] = refl
+blocks_length (piece ∷ pieces) =
+    let i = blocks_length pieces in
+    let one = block_length piece in
+    let cut : length (flat_map block (piece ∷ pieces)) ≡ length (block piece) + length (flat_map block pieces) =
+    ap length (flat_map-cons block piece pieces) ∙ length-append (block piece) (flat_map block pieces) in
+    let sum = sum_by-cons (λ (p : Record). 5 + length (payload p)) piece pieces in
+    omega (arith, i, one, cut, sum)
+
+sixteen : length header ≡ 16
+sixteen = refl
+
+pub front_size : (pieces : List Record) → length (front pieces) + 1 ≡ journal_size pieces
+front_size pieces =
+    let all = length-append header (flat_map block pieces) in
+    let blocks = blocks_length pieces in
+    let head = sixteen in
+    omega (arith, all, blocks, head)
+
+-- a reopened history is in doubt of nothing
+reverse_accepted : (pieces : List Record) → reverse (map Accepted pieces) ≡ map Accepted (reverse pieces)
+reverse_accepted [] = refl
+reverse_accepted (piece ∷ pieces) =
+    let accept : Record → Event = λ p. Accepted p in
+    reverse-append (Accepted piece ∷ []) (map Accepted pieces)
+    ∙ ap (λ (l : List Event). l ++ Accepted piece ∷ []) (reverse_accepted pieces)
+    ∙ sym (map-append accept (reverse pieces) (piece ∷ []))
+    ∙ ap (map accept) (sym (reverse-append (piece ∷ []) pieces))
+
+all_accepted : (pieces : List Record) → doubt_back (map Accepted pieces) ≡ None
+unfolding doubt_back
+all_accepted [] = refl
+all_accepted (piece ∷ pieces) = refl
+
+pub doubt_reopened : (limits : Limits) (pieces : List Record) → doubt (reopen limits pieces) ≡ None
+doubt_reopened limits pieces = ap doubt_back (reverse_accepted pieces) ∙ all_accepted (reverse pieces)
+
+-- its records are its accepted edits
+pub accepted_reopened : (h : History) (limits : Limits) (pieces : List Record) → h ≡ reopen limits pieces → accepted h.events ≡ pieces
+accepted_reopened h limits pieces e = ap (λ (x : History). accepted x.events) e ∙ accepted_all pieces
+
+pub reopened_again : (h : History) (pieces : List Record) → h ≡ reopen h.limits pieces → h ≡ reopen h.limits (accepted h.events)
+reopened_again h pieces e = e ∙ ap (reopen h.limits) (sym (accepted_reopened h h.limits pieces e))
+
+module _ {D : Type 0} {g : Ghosts D} (pieces : List Record) (old new : Registered) (before after : Opening D g) where
+  -- one record more
+  pub read_push : (piece : Record) → HasReadmitted old.history.limits pieces old before → HasRead (pieces ++ piece ∷ []) after
+      → new.history ≡ reopen old.history.limits (accepted old.history.events ++ piece ∷ []) → (NoneOut old → NoneOut new)
+      → HasReadmitted old.history.limits (pieces ++ piece ∷ []) new after
+  read_push piece h read reopened claims = record {
+    read = read;
+    reopened =
+        reopened
+        ∙ ap (λ (l : List Record). reopen old.history.limits (l ++ piece ∷ [])) (accepted_reopened old.history old.history.limits pieces h.reopened);
+    claims = claims h.claims;
+  }
+
+  pub read_all : HasReadmitted old.history.limits pieces old before → HasEnded pieces after → HasReadmittedAll old.history.limits pieces old after
+  read_all h ended = record { ended = ended; reopened = h.reopened; claims = h.claims }
+
+-- by the limits under another name
+module _ {D : Type 0} {g : Ghosts D} (from to : Limits) (pieces : List Record) (r : Registered) (opening : Opening D g) (same : from ≡ to) where
+  pub of_limits : HasReadmitted from pieces r opening → HasReadmitted to pieces r opening
+  of_limits h = subst (λ (l : Limits). HasReadmitted l pieces r opening) same h
+
+  pub all_of_limits : HasReadmittedAll from pieces r opening → HasReadmittedAll to pieces r opening
+  all_of_limits h = subst (λ (l : Limits). HasReadmittedAll l pieces r opening) same h
+
+-- the gate moves on
+pub gate_moves : {D : Type 0} {g : Ghosts D} (pieces : List Record) (piece : Record) (before after : Opening D g)
+    → HasRead pieces before → HasRead (pieces ++ piece ∷ []) after → before.gate < after.gate
+gate_moves pieces piece before after h k =
+    let push = length_front-push pieces piece in
+    let from = h.gate in
+    let to = k.gate in
+    omega (arith, push, from, to)
+
+last_grammar : (pieces : List Record) (piece : Record) → All InGrammar (pieces ++ piece ∷ []) → InGrammar piece
+last_grammar [] piece h = All-head InGrammar piece [] h
+last_grammar (first ∷ pieces) piece h = last_grammar pieces piece (All-tail InGrammar first (pieces ++ piece ∷ []) h)
+
+-- a record that is not accepted
+refused_here : (content : Option (List ℕ)) (limits : Limits) (pieces : List Record) (piece : Record) (at : ℕ) → InGrammar piece
+    → IsLegal (reopen limits pieces) → at ≡ length (front pieces) → IsSome (readmission_refusal (reopen limits pieces) piece.edit)
+    → IfSome content (λ bytes. (rest : List ℕ) × (bytes ≡ front (pieces ++ piece ∷ []) ++ rest)) → IfSome content (IsDamagedFor limits at)
+refused_here None limits pieces piece at grammar legal place refused bytes = tt
+refused_here (Some content) limits pieces piece at grammar legal place refused bytes =
+    inr (record {
+      pieces = pieces;
+      piece = piece;
+      rest = bytes.0;
+      grammar = grammar;
+      legal = legal;
+      bytes_are = bytes.1 ∙ front-push pieces piece bytes.0;
+      place = place;
+      refused = refused;
+    })
+
+pub refused_at : {D : Type 0} {g : Ghosts D} (h : History) (pieces : List Record) (piece : Record) (before after : Opening D g) (at : ℕ)
+    → h ≡ reopen h.limits pieces → IsLegal h → HasRead pieces before → HasRead (pieces ++ piece ∷ []) after → at ≡ before.gate
+    → IsSome (readmission_refusal h piece.edit) → IfSome (g.content after.ahead.disk) (IsDamagedFor h.limits at)
+refused_at {g = g} h pieces piece before after at reopened legal was read place refused =
+    refused_here (g.content after.ahead.disk) h.limits pieces piece at (last_grammar pieces piece read.grammar) (subst IsLegal reopened legal) (place ∙ was.gate)
+    (subst (λ (x : History). IsSome (readmission_refusal x piece.edit)) reopened refused) read.bytes
+
+-- reading on and on writes nothing
+pub reads_on : {D : Type 0} (g : Ghosts D) (a b c : D) → OnlyReads g a b → OnlyReads g b c → OnlyReads g a c
+reads_on g a b c h k = record {
+  same = k.same ∙ h.same;
+  images = λ image m. h.images image (k.images image m);
+  any_moment = joined g a b c (g.may_leave a) (g.may_leave b) (g.may_leave a) h.any_moment k.any_moment (λ image m. m) h.images;
+  counted = omega (arith, h.counted, k.counted);
+}
+
+-- and a journal that is read behind its opening leaves what the disk might have left before
+pub reads_behind : {D : Type 0} (g : Ghosts D) (a b c : D)
+    → ((disk : D) (since : ℕ) (image : List ℕ) → since ≤ g.moment disk → g.may_leave disk image → g.left_since disk since image)
+    → LeavesOnly g a b (g.may_leave a) → OnlyReads g b c → LeavesOnly g a c (g.may_leave a)
+reads_behind g a b c counts_now first second =
+    joined g a b c (g.may_leave a) (g.may_leave b) (g.may_leave a) first second.any_moment (λ image left. left)
+    (λ image left. first.each image (counts_now b (g.moment a) image first.later left))
+
+-- what is safe from a stop stays so while nothing is written
+durable_on : (content : Option (List ℕ)) (old new : List ℕ → Type 0) → NothingNew old new → IsDurable content old → IsDurable content new
+durable_on None old new less durable = durable
+durable_on (Some bytes) old new less durable = λ image left. durable image (less image left)
+
+pub durable_still : (before after : Option (List ℕ)) (old new : List ℕ → Type 0) → after ≡ before → NothingNew old new → IsDurable before old
+    → IsDurable after new
+durable_still before after old new same less durable =
+    subst (λ (o : Option (List ℕ)). IsDurable o new) (sym same) (durable_on before old new less durable)
+
+-- the office that is opened
+module _ {D : Type 0} {g : Ghosts D} (found limits : Limits) (pieces : List Record) (r : Registered) (opening : Opening D g)
+    (left : Option Record) (journal : Journal D g) (same : found ≡ limits) (all : HasReadmittedAll found pieces r opening) where
+  pub opened_stands : left ≡ None → journal.disk ≡ opening.ahead.disk → journal.gate ≡ opening.gate → journal.limit ≡ limits.journal_bytes
+      → journal.in_doubt ≡ false
+      → ((records : List Record) → HasEnded records opening → IsSome (g.content opening.ahead.disk)
+      → IsDurable (g.content opening.ahead.disk) (g.may_leave opening.ahead.disk) → Holds records None journal)
+      → IsDurable (g.content opening.ahead.disk) (g.may_leave opening.ahead.disk) → Stands r.history left journal
+  opened_stands none disk gate limit settled holds durable =
+      let edits = accepted_reopened r.history found pieces all.reopened in
+      let calm : doubt r.history ≡ None = ap doubt all.reopened ∙ doubt_reopened found pieces in
+      let whole = front_size pieces in
+      let at = all.ended.gate in
+      let size : journal.gate + 1 ≡ journal_size pieces = omega (arith, gate, whole, at) in
+      let kept : r.history.limits ≡ limits = ap (λ (x : History). x.limits) all.reopened ∙ same in
+      record {
+        size = size ∙ ap journal_size (sym edits);
+        limit = limit ∙ ap (λ (l : Limits). l.journal_bytes) (sym kept);
+        left_is = none ∙ sym calm;
+        in_doubt_is = settled ∙ ap is_some (sym calm);
+        holds = λ told. rw (edits, calm) (holds pieces all.ended (subst (λ (d : D). IsSome (g.content d)) disk told) durable);
+      }

@@ -1,0 +1,72 @@
+use Rattle.std.proofs.Common.{◌≡◌, Bool, false, List, IsSome, is_some, refl, ap, sym, subst}
+use Rattle.history.specs.After.{doubt}
+use Rattle.history.specs.Events.{Accepted, Faulted, History}
+use Rattle.history.specs.Verdicts.{Accepts, verdict}
+use Rattle.journal.specs.Moments.{LeavesOnly}
+use Rattle.journal.specs.Writing.{Lists}
+use Rattle.office.specs.Edits.{FaultCalls, IsFaulted, IsTaken}
+use Rattle.office.specs.Offices.{Officed}
+use Rattle.office.specs.Standing.{Stands}
+use Rattle.office.specs.Stops.{IsLeftBetween}
+use Rattle.office.proofs.EditLemmas.{does_fit, stands_faulted, stands_accepted, is_faulted, is_taken, leaves_between, calls_inside}
+use Rattle.office.proofs.offices.Office.keep_and_accept.Goals as goal
+
+pub keep-requires-clause-fits : goal.keep-requires-clause-fits
+keep-requires-clause-fits g c κs within =
+    does_fit c.self.inside.register.history c.self.inside.doubt c.self.inside.journal c.self.invariant c.args.piece.edit c.args.bytes.now
+    (subst (λ (o : Officed g.row.D.Denot). verdict o.register.history c.args.piece.edit ≡ Accepts) (sym c.self.view_is) c.requires.verdict) c.requires.next.1
+
+-- a fault
+pub invariant_of-self : goal.invariant_of-self
+invariant_of-self g c =
+    subst (λ (h : History). Stands h c.keep.new.doubt c.keep.new.journal) (sym c.fault.ensures.history)
+    (stands_faulted c.self.inside.register.history c.self.inside.doubt c.self.inside.journal c.self.invariant c.keep.new.journal c.keep.new.doubt
+    c.in-Err.ensures.gate c.keep.ensures.limit c.keep.ensures.in_doubt c.keep.ensures.untold c.in-Err.ensures.keeps)
+
+pub returns-in-Err-clause-fault : goal.returns-in-Err-clause-fault
+returns-in-Err-clause-fault g c =
+    let lawful = subst (λ (o : Officed g.row.D.Denot). verdict o.register.history c.args.piece.edit ≡ Accepts) (sym c.self.view_is) c.requires.verdict in
+    let faulted = is_faulted c.self.inside.register.history c.self.inside.doubt c.self.inside.journal c.self.invariant c.args.piece.edit c.keep.new.doubt
+    c.in-Err.failed lawful c.in-Err.ensures.leaves in (
+      c.in-Err.failed.in_doubt,
+      refl,
+      subst (λ (o : Officed g.row.D.Denot). IsFaulted o.register.history c.args.piece.edit c.fault.new.self.history c.in-Err.failed.in_doubt) c.self.view_is
+          (subst (λ (h : History). IsFaulted c.self.inside.register.history c.args.piece.edit h c.in-Err.failed.in_doubt) (sym c.fault.ensures.history) faulted),
+    )
+
+pub returns-in-Err-clause-any_moment : goal.returns-in-Err-clause-any_moment
+returns-in-Err-clause-any_moment g c =
+    subst (λ (o : Officed g.row.D.Denot). IsSome (g.D.Disk.content o.disk)
+    → LeavesOnly g.D.Disk o.disk c.keep.new.journal.disk (IsLeftBetween o.register.history c.fault.new.self.history)) c.self.view_is
+    (leaves_between c.self.inside.register.history c.self.inside.doubt c.self.inside.journal c.self.invariant c.fault.new.self.history (Faulted c.keep.new.doubt)
+    c.keep.new.journal.disk (ap (λ (h : History). h.events) c.fault.ensures.history) c.in-Err.ensures.any_moment)
+
+pub returns-in-Err-clause-calls : goal.returns-in-Err-clause-calls
+returns-in-Err-clause-calls g c =
+    subst (λ (o : Officed g.row.D.Denot). Lists (g.D.Disk.content o.disk) (g.D.Disk.calls o.disk) (g.D.Disk.calls c.keep.new.journal.disk)
+    (g.D.Disk.faults c.keep.new.journal.disk) (FaultCalls (is_some (doubt o.register.history)) c.in-Err.failed.in_doubt)) c.self.view_is
+    (calls_inside c.self.inside.register.history c.self.inside.doubt c.self.inside.journal c.self.invariant c.keep.new.journal.disk
+    (λ (doubtful : Bool) (calls : List Bool). FaultCalls doubtful c.in-Err.failed.in_doubt calls) c.in-Err.ensures.calls)
+
+-- the record is kept
+pub invariant_of-self-2 : goal.invariant_of-self-2
+invariant_of-self-2 g c =
+    subst (λ (h : History). Stands h c.keep.new.doubt c.keep.new.journal) (sym c.accept.ensures.history)
+    (stands_accepted c.self.inside.register.history c.self.inside.doubt c.self.inside.journal c.self.invariant c.args.piece.edit c.args.bytes.now
+    c.keep.new.journal c.keep.new.doubt c.in_default.ensures.leaves c.requires.next.1 c.in_default.ensures.gate c.keep.ensures.limit c.keep.ensures.in_doubt
+    c.keep.ensures.untold c.in_default.ensures.keeps)
+
+pub returns-clause-accepted : goal.returns-clause-accepted
+returns-clause-accepted g c =
+    let lawful = subst (λ (o : Officed g.row.D.Denot). verdict o.register.history c.args.piece.edit ≡ Accepts) (sym c.self.view_is) c.requires.verdict in (
+      refl,
+      subst (λ (o : Officed g.row.D.Denot). IsTaken o.register.history c.args.piece.edit c.accept.new.self.history c.edits.result false) c.self.view_is
+          (is_taken c.self.inside.register.history c.args.piece.edit c.accept.new.self.history c.edits.result lawful c.accept.ensures.history c.edits.ensures),
+    )
+
+pub returns-clause-any_moment : goal.returns-clause-any_moment
+returns-clause-any_moment g c =
+    subst (λ (o : Officed g.row.D.Denot). IsSome (g.D.Disk.content o.disk)
+    → LeavesOnly g.D.Disk o.disk c.keep.new.journal.disk (IsLeftBetween o.register.history c.accept.new.self.history)) c.self.view_is
+    (leaves_between c.self.inside.register.history c.self.inside.doubt c.self.inside.journal c.self.invariant c.accept.new.self.history (Accepted c.args.piece)
+    c.keep.new.journal.disk (ap (λ (h : History). h.events) c.accept.ensures.history) c.in_default.ensures.any_moment)

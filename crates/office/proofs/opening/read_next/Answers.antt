@@ -1,0 +1,37 @@
+-- One record read, and its edit accepted.
+use Rattle.std.specs.Prelude.{◌≡◌, ◌++◌, ◌∷◌, [], is_some}
+use Rattle.std.proofs.Common.{arith, ap, ◌∙◌}
+use Rattle.journal.specs.Reading.{HasRead}
+use Rattle.office.proofs.ReplayLemmas.{read_push, refused_at, reopened_again}
+use Rattle.office.proofs.opening.read_next.Goals as goal
+
+pub readmit-requires : goal.readmit-requires
+readmit-requires g c = reopened_again c.args.register.now.history c.requires.0 c.requires.1.reopened
+
+pub returns-in-Ok-clause-reads : goal.returns-in-Ok-clause-reads
+returns-in-Ok-clause-reads g c =
+    let r = c.in_ok-piece.ensures in
+    λ pieces h. (
+      c.in-Some.piece,
+      read_push pieces c.args.register.now c.readmit.new.self c.args.opening.now c.next.new.self c.in-Some.piece h
+          (rw c.in-Some.is at r.reads pieces h.read) c.in-Ok.ensures.history c.in-Ok.ensures.claims,
+    )
+
+pub returns-in-Ok-clause-within : goal.returns-in-Ok-clause-within
+returns-in-Ok-clause-within g c =
+    λ e.
+    let r = c.in_ok-piece.ensures in
+    let place : c.next.new.self.last ≡ c.args.opening.now.gate = rw c.in-Some.is at r.offset in
+    let gate = c.offset-gate.ensures in
+    let fits = c.offset-gate.type_inv in
+    omega arith
+
+pub returns-in-Err-Refused-clause-refused : goal.returns-in-Err-Refused-clause-refused
+returns-in-Err-Refused-clause-refused g c =
+    let r = c.in_ok-piece.ensures in
+    let h = c.requires.1 in
+    let read : HasRead (c.requires.0 ++ c.in-Some.piece ∷ []) c.next.new.self = rw c.in-Some.is at r.reads c.requires.0 h.read in
+    let place : c.next.new.self.last ≡ c.args.opening.now.gate = rw c.in-Some.is at r.offset in
+    refused_at c.args.register.now.history c.requires.0 c.in-Some.piece c.args.opening.now c.next.new.self c.offset-gate.result h.reopened
+    c.a_history_is_legal.ensures h.read read (c.offset-gate.ensures ∙ place)
+    (ap is_some (rw c.in-Err-Refused.field-0-is at c.in-Err-Refused.ensures.refused))

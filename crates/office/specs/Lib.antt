@@ -1,0 +1,7 @@
+pub mod Edits
+pub mod Keeping
+pub mod Offices
+pub mod Openings
+pub mod Replaying
+pub mod Standing
+pub mod Stops

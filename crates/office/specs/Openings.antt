@@ -1,0 +1,43 @@
+-- What the opening of an office answers.
+use Rattle.std.specs.Prelude.{◌≡◌, ◌⊎◌, ℕ, List, ◌++◌, length, Option, IsSome, IfSome, ⊤}
+use Rattle.devices.specs.Faults.{Rose}
+use Rattle.history.specs.After.{reopen}
+use Rattle.history.specs.Legal.{IsLegal}
+use Rattle.journal.specs.JournalBytes.{HasHeader, IsDamagedAt, IsJournalOf, InGrammar, front, block}
+use Rattle.journal.specs.declared.opening.OpenFault.{OpenFault}
+use Rattle.journal.specs.declared.opening.OpenFault.TheVariants.{Fault, NotAJournal, Damaged, NoMemory}
+use Rattle.office_inputs.specs.declared.limits.Limits.{Limits}
+use Rattle.records.specs.declared.payloads.Record.{Record}
+use Rattle.register.specs.Asked.{readmission_refusal}
+use Rattle.register.specs.Registered.{Registered, NoneOut}
+
+-- The journal that was found is that of these records, and the office goes on from them; no claim is out.
+pub record IsOpened (content : Option (List ℕ)) (limits : Limits) (register : Registered) : Type 0 where
+  pub pieces : List Record
+  pub found : IfSome content (IsJournalOf pieces)
+  pub reopened : register.history ≡ reopen limits pieces
+  pub legal : IsLegal register.history
+  pub claims : NoneOut register
+
+-- At this gate a record stands that is not accepted behind those before it: its reference is that of one of them, or the stations in
+-- force refuse it.
+pub record IsRefusedAt (limits : Limits) (at : ℕ) (bytes : List ℕ) : Type 0 where
+  pub pieces : List Record
+  pub piece : Record
+  pub rest : List ℕ
+  pub grammar : InGrammar piece
+  pub legal : IsLegal (reopen limits pieces)
+  pub bytes_are : bytes ≡ front pieces ++ (block piece ++ rest)
+  pub place : at ≡ length (front pieces)
+  pub refused : IsSome (readmission_refusal (reopen limits pieces) piece.edit)
+
+-- a journal is damaged for an office: at a gate without a record, or with one that is not accepted
+abbrev pub IsDamagedFor : Limits → ℕ → List ℕ → Type 0
+IsDamagedFor limits at bytes = IsDamagedAt at bytes ⊎ IsRefusedAt limits at bytes
+
+-- why an office is not opened, over a disk with this content and counts of faults
+abbrev pub IsNotOpened : Option (List ℕ) → Limits → OpenFault → ℕ → ℕ → Type 0
+IsNotOpened content limits Fault before now = Rose before now
+IsNotOpened content limits NotAJournal before now = IfSome content (λ bytes. ¬ HasHeader bytes)
+IsNotOpened content limits (Damaged at) before now = IfSome content (IsDamagedFor limits at)
+IsNotOpened content limits NoMemory before now = ⊤

@@ -27,7 +27,7 @@ pub fn addition(alloc: Global, called: &[u8], gap: u32) -> Result<What, Fail> {
         zone: name(alloc, b"-05:00")?,
         gap,
         stage_array: array(b"9999999992")?,
-        discharge_array: array(b"0222233332")?,
+        discharge_array: array(b"9999999992")?,
     })
 }
 
@@ -37,7 +37,7 @@ pub fn setting(alloc: Global, called: &[u8], gap: u32) -> Result<What, Fail> {
         name: name(alloc, called)?,
         gap,
         stage_array: array(b"9999999992")?,
-        discharge_array: array(b"0222233332")?,
+        discharge_array: array(b"9999999992")?,
     })
 }
 

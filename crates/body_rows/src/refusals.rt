@@ -9,35 +9,35 @@ use std::test::Fail;
 fn missing_members_are_named(rt: HostRuntime) -> Result<(), Fail> {
     let rows: [(&[u8], Member); 16] = [
         (
-            br#"{"by":"AB","ref":"a-1","site":"01646500","name":"POTOMAC","zone":"-05:00","gap":60,"stage_array":"9999999992","discharge_array":"0222233332"}"#,
+            br#"{"by":"AB","ref":"a-1","site":"01646500","name":"POTOMAC","zone":"-05:00","gap":60,"stage_array":"9999999992","discharge_array":"9999999992"}"#,
             Member::Kind,
         ),
         (
-            br#"{"kind":"AddStation","ref":"a-1","site":"01646500","name":"POTOMAC","zone":"-05:00","gap":60,"stage_array":"9999999992","discharge_array":"0222233332"}"#,
+            br#"{"kind":"AddStation","ref":"a-1","site":"01646500","name":"POTOMAC","zone":"-05:00","gap":60,"stage_array":"9999999992","discharge_array":"9999999992"}"#,
             Member::By,
         ),
         (
-            br#"{"kind":"AddStation","by":"AB","site":"01646500","name":"POTOMAC","zone":"-05:00","gap":60,"stage_array":"9999999992","discharge_array":"0222233332"}"#,
+            br#"{"kind":"AddStation","by":"AB","site":"01646500","name":"POTOMAC","zone":"-05:00","gap":60,"stage_array":"9999999992","discharge_array":"9999999992"}"#,
             Member::Ref,
         ),
         (
-            br#"{"kind":"AddStation","by":"AB","ref":"a-1","name":"POTOMAC","zone":"-05:00","gap":60,"stage_array":"9999999992","discharge_array":"0222233332"}"#,
+            br#"{"kind":"AddStation","by":"AB","ref":"a-1","name":"POTOMAC","zone":"-05:00","gap":60,"stage_array":"9999999992","discharge_array":"9999999992"}"#,
             Member::Site,
         ),
         (
-            br#"{"kind":"AddStation","by":"AB","ref":"a-1","site":"01646500","zone":"-05:00","gap":60,"stage_array":"9999999992","discharge_array":"0222233332"}"#,
+            br#"{"kind":"AddStation","by":"AB","ref":"a-1","site":"01646500","zone":"-05:00","gap":60,"stage_array":"9999999992","discharge_array":"9999999992"}"#,
             Member::Name,
         ),
         (
-            br#"{"kind":"AddStation","by":"AB","ref":"a-1","site":"01646500","name":"POTOMAC","gap":60,"stage_array":"9999999992","discharge_array":"0222233332"}"#,
+            br#"{"kind":"AddStation","by":"AB","ref":"a-1","site":"01646500","name":"POTOMAC","gap":60,"stage_array":"9999999992","discharge_array":"9999999992"}"#,
             Member::Zone,
         ),
         (
-            br#"{"kind":"AddStation","by":"AB","ref":"a-1","site":"01646500","name":"POTOMAC","zone":"-05:00","stage_array":"9999999992","discharge_array":"0222233332"}"#,
+            br#"{"kind":"AddStation","by":"AB","ref":"a-1","site":"01646500","name":"POTOMAC","zone":"-05:00","stage_array":"9999999992","discharge_array":"9999999992"}"#,
             Member::Gap,
         ),
         (
-            br#"{"kind":"AddStation","by":"AB","ref":"a-1","site":"01646500","name":"POTOMAC","zone":"-05:00","gap":60,"discharge_array":"0222233332"}"#,
+            br#"{"kind":"AddStation","by":"AB","ref":"a-1","site":"01646500","name":"POTOMAC","zone":"-05:00","gap":60,"discharge_array":"9999999992"}"#,
             Member::StageArray,
         ),
         (
@@ -45,15 +45,15 @@ fn missing_members_are_named(rt: HostRuntime) -> Result<(), Fail> {
             Member::DischargeArray,
         ),
         (
-            br#"{"kind":"SetStation","by":"AB","ref":"a-1","site":"01646500","gap":60,"stage_array":"9999999992","discharge_array":"0222233332"}"#,
+            br#"{"kind":"SetStation","by":"AB","ref":"a-1","site":"01646500","gap":60,"stage_array":"9999999992","discharge_array":"9999999992"}"#,
             Member::Name,
         ),
         (
-            br#"{"kind":"SetStation","by":"AB","ref":"a-1","site":"01646500","name":"POTOMAC","stage_array":"9999999992","discharge_array":"0222233332"}"#,
+            br#"{"kind":"SetStation","by":"AB","ref":"a-1","site":"01646500","name":"POTOMAC","stage_array":"9999999992","discharge_array":"9999999992"}"#,
             Member::Gap,
         ),
         (
-            br#"{"kind":"SetStation","by":"AB","ref":"a-1","site":"01646500","name":"POTOMAC","gap":60,"discharge_array":"0222233332"}"#,
+            br#"{"kind":"SetStation","by":"AB","ref":"a-1","site":"01646500","name":"POTOMAC","gap":60,"discharge_array":"9999999992"}"#,
             Member::StageArray,
         ),
         (
@@ -65,7 +65,7 @@ fn missing_members_are_named(rt: HostRuntime) -> Result<(), Fail> {
             Member::Readings,
         ),
         (
-            br#"{"kind":"AddStation","ref":"a-1","site":"01646500","name":"POTOMAC","zone":"-05:00","stage_array":"9999999992","discharge_array":"0222233332"}"#,
+            br#"{"kind":"AddStation","ref":"a-1","site":"01646500","name":"POTOMAC","zone":"-05:00","stage_array":"9999999992","discharge_array":"9999999992"}"#,
             Member::By,
         ),
         (b"{}", Member::Kind),
@@ -152,87 +152,87 @@ fn senders_are_tested(rt: HostRuntime) -> Result<(), Fail> {
 fn settings_are_tested(rt: HostRuntime) -> Result<(), Fail> {
     let rows: [(&[u8], Member); 23] = [
         (
-            br#"{"kind":"AddStation","by":"AB","ref":"a-1","site":"01646500","name":"","zone":"-05:00","gap":60,"stage_array":"9999999992","discharge_array":"0222233332"}"#,
+            br#"{"kind":"AddStation","by":"AB","ref":"a-1","site":"01646500","name":"","zone":"-05:00","gap":60,"stage_array":"9999999992","discharge_array":"9999999992"}"#,
             Member::Name,
         ),
         (
-            br#"{"kind":"AddStation","by":"AB","ref":"a-1","site":"01646500","name":"xxxxxxxxxxxxxxxxxxxxxxxxxxxxxxxxxxxxxxxxxxxxxxxxxxxxxxxxxxxxx","zone":"-05:00","gap":60,"stage_array":"9999999992","discharge_array":"0222233332"}"#,
+            br#"{"kind":"AddStation","by":"AB","ref":"a-1","site":"01646500","name":"xxxxxxxxxxxxxxxxxxxxxxxxxxxxxxxxxxxxxxxxxxxxxxxxxxxxxxxxxxxxx","zone":"-05:00","gap":60,"stage_array":"9999999992","discharge_array":"9999999992"}"#,
             Member::Name,
         ),
         (
-            br#"{"kind":"AddStation","by":"AB","ref":"a-1","site":"01646500","name":"caf\u00e9","zone":"-05:00","gap":60,"stage_array":"9999999992","discharge_array":"0222233332"}"#,
+            br#"{"kind":"AddStation","by":"AB","ref":"a-1","site":"01646500","name":"caf\u00e9","zone":"-05:00","gap":60,"stage_array":"9999999992","discharge_array":"9999999992"}"#,
             Member::Name,
         ),
         (
-            br#"{"kind":"AddStation","by":"AB","ref":"a-1","site":"01646500","name":"\u007f","zone":"-05:00","gap":60,"stage_array":"9999999992","discharge_array":"0222233332"}"#,
+            br#"{"kind":"AddStation","by":"AB","ref":"a-1","site":"01646500","name":"\u007f","zone":"-05:00","gap":60,"stage_array":"9999999992","discharge_array":"9999999992"}"#,
             Member::Name,
         ),
         (
-            br#"{"kind":"AddStation","by":"AB","ref":"a-1","site":"01646500","name":null,"zone":"-05:00","gap":60,"stage_array":"9999999992","discharge_array":"0222233332"}"#,
+            br#"{"kind":"AddStation","by":"AB","ref":"a-1","site":"01646500","name":null,"zone":"-05:00","gap":60,"stage_array":"9999999992","discharge_array":"9999999992"}"#,
             Member::Name,
         ),
         (
-            br#"{"kind":"AddStation","by":"AB","ref":"a-1","site":"01646500","name":"POTOMAC","zone":"EST","gap":60,"stage_array":"9999999992","discharge_array":"0222233332"}"#,
+            br#"{"kind":"AddStation","by":"AB","ref":"a-1","site":"01646500","name":"POTOMAC","zone":"EST","gap":60,"stage_array":"9999999992","discharge_array":"9999999992"}"#,
             Member::Zone,
         ),
         (
-            br#"{"kind":"AddStation","by":"AB","ref":"a-1","site":"01646500","name":"POTOMAC","zone":"","gap":60,"stage_array":"9999999992","discharge_array":"0222233332"}"#,
+            br#"{"kind":"AddStation","by":"AB","ref":"a-1","site":"01646500","name":"POTOMAC","zone":"","gap":60,"stage_array":"9999999992","discharge_array":"9999999992"}"#,
             Member::Zone,
         ),
         (
-            br#"{"kind":"AddStation","by":"AB","ref":"a-1","site":"01646500","name":"POTOMAC","zone":"+15:00","gap":60,"stage_array":"9999999992","discharge_array":"0222233332"}"#,
+            br#"{"kind":"AddStation","by":"AB","ref":"a-1","site":"01646500","name":"POTOMAC","zone":"+15:00","gap":60,"stage_array":"9999999992","discharge_array":"9999999992"}"#,
             Member::Zone,
         ),
         (
-            br#"{"kind":"AddStation","by":"AB","ref":"a-1","site":"01646500","name":"POTOMAC","zone":"America/New_York","gap":60,"stage_array":"9999999992","discharge_array":"0222233332"}"#,
+            br#"{"kind":"AddStation","by":"AB","ref":"a-1","site":"01646500","name":"POTOMAC","zone":"America/New_York","gap":60,"stage_array":"9999999992","discharge_array":"9999999992"}"#,
             Member::Zone,
         ),
         (
-            br#"{"kind":"AddStation","by":"AB","ref":"a-1","site":"01646500","name":"POTOMAC","zone":"\u00e9","gap":0,"stage_array":"9999999992","discharge_array":"0222233332"}"#,
+            br#"{"kind":"AddStation","by":"AB","ref":"a-1","site":"01646500","name":"POTOMAC","zone":"\u00e9","gap":0,"stage_array":"9999999992","discharge_array":"9999999992"}"#,
             Member::Zone,
         ),
         (
-            br#"{"kind":"AddStation","by":"AB","ref":"a-1","site":"01646500","name":"POTOMAC","zone":"-05:00","gap":0,"stage_array":"9999999992","discharge_array":"0222233332"}"#,
+            br#"{"kind":"AddStation","by":"AB","ref":"a-1","site":"01646500","name":"POTOMAC","zone":"-05:00","gap":0,"stage_array":"9999999992","discharge_array":"9999999992"}"#,
             Member::Gap,
         ),
         (
-            br#"{"kind":"AddStation","by":"AB","ref":"a-1","site":"01646500","name":"POTOMAC","zone":"-05:00","gap":721,"stage_array":"9999999992","discharge_array":"0222233332"}"#,
+            br#"{"kind":"AddStation","by":"AB","ref":"a-1","site":"01646500","name":"POTOMAC","zone":"-05:00","gap":721,"stage_array":"9999999992","discharge_array":"9999999992"}"#,
             Member::Gap,
         ),
         (
-            br#"{"kind":"AddStation","by":"AB","ref":"a-1","site":"01646500","name":"POTOMAC","zone":"-05:00","gap":60.0,"stage_array":"9999999992","discharge_array":"0222233332"}"#,
+            br#"{"kind":"AddStation","by":"AB","ref":"a-1","site":"01646500","name":"POTOMAC","zone":"-05:00","gap":60.0,"stage_array":"9999999992","discharge_array":"9999999992"}"#,
             Member::Gap,
         ),
         (
-            br#"{"kind":"AddStation","by":"AB","ref":"a-1","site":"01646500","name":"POTOMAC","zone":"-05:00","gap":6e1,"stage_array":"9999999992","discharge_array":"0222233332"}"#,
+            br#"{"kind":"AddStation","by":"AB","ref":"a-1","site":"01646500","name":"POTOMAC","zone":"-05:00","gap":6e1,"stage_array":"9999999992","discharge_array":"9999999992"}"#,
             Member::Gap,
         ),
         (
-            br#"{"kind":"AddStation","by":"AB","ref":"a-1","site":"01646500","name":"POTOMAC","zone":"-05:00","gap":-0,"stage_array":"9999999992","discharge_array":"0222233332"}"#,
+            br#"{"kind":"AddStation","by":"AB","ref":"a-1","site":"01646500","name":"POTOMAC","zone":"-05:00","gap":-0,"stage_array":"9999999992","discharge_array":"9999999992"}"#,
             Member::Gap,
         ),
         (
-            br#"{"kind":"AddStation","by":"AB","ref":"a-1","site":"01646500","name":"POTOMAC","zone":"-05:00","gap":-60,"stage_array":"9999999992","discharge_array":"0222233332"}"#,
+            br#"{"kind":"AddStation","by":"AB","ref":"a-1","site":"01646500","name":"POTOMAC","zone":"-05:00","gap":-60,"stage_array":"9999999992","discharge_array":"9999999992"}"#,
             Member::Gap,
         ),
         (
-            br#"{"kind":"AddStation","by":"AB","ref":"a-1","site":"01646500","name":"POTOMAC","zone":"-05:00","gap":"60","stage_array":"9999999992","discharge_array":"0222233332"}"#,
+            br#"{"kind":"AddStation","by":"AB","ref":"a-1","site":"01646500","name":"POTOMAC","zone":"-05:00","gap":"60","stage_array":"9999999992","discharge_array":"9999999992"}"#,
             Member::Gap,
         ),
         (
-            br#"{"kind":"AddStation","by":"AB","ref":"a-1","site":"01646500","name":"POTOMAC","zone":"-05:00","gap":18446744073709551616,"stage_array":"9999999992","discharge_array":"0222233332"}"#,
+            br#"{"kind":"AddStation","by":"AB","ref":"a-1","site":"01646500","name":"POTOMAC","zone":"-05:00","gap":18446744073709551616,"stage_array":"9999999992","discharge_array":"9999999992"}"#,
             Member::Gap,
         ),
         (
-            br#"{"kind":"SetStation","by":"AB","ref":"a-1","site":"01646500","name":"POTOMAC","gap":60,"stage_array":"999999999","discharge_array":"0222233332"}"#,
+            br#"{"kind":"SetStation","by":"AB","ref":"a-1","site":"01646500","name":"POTOMAC","gap":60,"stage_array":"999999999","discharge_array":"9999999992"}"#,
             Member::StageArray,
         ),
         (
-            br#"{"kind":"SetStation","by":"AB","ref":"a-1","site":"01646500","name":"POTOMAC","gap":60,"stage_array":"9999999997","discharge_array":"0222233332"}"#,
+            br#"{"kind":"SetStation","by":"AB","ref":"a-1","site":"01646500","name":"POTOMAC","gap":60,"stage_array":"9999999997","discharge_array":"9999999992"}"#,
             Member::StageArray,
         ),
         (
-            br#"{"kind":"SetStation","by":"AB","ref":"a-1","site":"01646500","name":"POTOMAC","gap":60,"stage_array":"999999999a","discharge_array":"0222233332"}"#,
+            br#"{"kind":"SetStation","by":"AB","ref":"a-1","site":"01646500","name":"POTOMAC","gap":60,"stage_array":"999999999a","discharge_array":"9999999992"}"#,
             Member::StageArray,
         ),
         (
@@ -314,11 +314,11 @@ fn readings_are_tested(rt: HostRuntime) -> Result<(), Fail> {
 fn further_members_are_refused_last(rt: HostRuntime) -> Result<(), Fail> {
     let rows: [(&[u8], Member); 7] = [
         (
-            br#"{"kind":"AddStation","by":"AB","ref":"a-1","site":"01646500","name":"POTOMAC","zone":"-05:00","gap":60,"stage_array":"9999999992","discharge_array":"0222233332","x":1}"#,
+            br#"{"kind":"AddStation","by":"AB","ref":"a-1","site":"01646500","name":"POTOMAC","zone":"-05:00","gap":60,"stage_array":"9999999992","discharge_array":"9999999992","x":1}"#,
             Member::Further,
         ),
         (
-            br#"{"kind":"SetStation","by":"AB","ref":"a-1","site":"01646500","name":"POTOMAC","gap":60,"stage_array":"9999999992","discharge_array":"0222233332","zone":"-05:00"}"#,
+            br#"{"kind":"SetStation","by":"AB","ref":"a-1","site":"01646500","name":"POTOMAC","gap":60,"stage_array":"9999999992","discharge_array":"9999999992","zone":"-05:00"}"#,
             Member::Further,
         ),
         (
@@ -330,7 +330,7 @@ fn further_members_are_refused_last(rt: HostRuntime) -> Result<(), Fail> {
             Member::Further,
         ),
         (
-            br#"{"kind":"AddStation","by":"AB","ref":"a-1","site":"01646500","name":"POTOMAC","zone":"-05:00","gap":0,"stage_array":"9999999992","discharge_array":"0222233332","x":1}"#,
+            br#"{"kind":"AddStation","by":"AB","ref":"a-1","site":"01646500","name":"POTOMAC","zone":"-05:00","gap":0,"stage_array":"9999999992","discharge_array":"9999999992","x":1}"#,
             Member::Gap,
         ),
         (
@@ -357,7 +357,7 @@ fn last_of_a_member_that_comes_twice_counts(rt: HostRuntime) -> Result<(), Fail>
             Member::Ref,
         ),
         (
-            br#"{"kind":"AddStation","by":"AB","ref":"a-1","site":"01646500","name":"POTOMAC","zone":"-05:00","gap":60,"stage_array":"9999999992","discharge_array":"0222233332","gap":0}"#,
+            br#"{"kind":"AddStation","by":"AB","ref":"a-1","site":"01646500","name":"POTOMAC","zone":"-05:00","gap":60,"stage_array":"9999999992","discharge_array":"9999999992","gap":0}"#,
             Member::Gap,
         ),
     ];

@@ -63,6 +63,10 @@ pub ok_or-holds : {A E : Type 0} (P : A → Type 0) (x : A) (found : Option A) (
 ok_or-holds P x (Some y) fault range value = subst P (sym value) (range.0 refl)
 ok_or-holds P x None fault range value = tt
 
+pub ok_or-each : {A E : Type 0} (P : A → Type 0) (found : Option A) (fault : E) → IfSome found P → IfOk (ok_or found fault) P
+ok_or-each P (Some y) fault each = each
+ok_or-each P None fault each = tt
+
 pub station_zone-told : (text : List ℕ) → (is_name text && is_zone text) ≡ true ↔ IsStationZone text
 station_zone-told text = (
   λ e. let p = and_parts _ _ e in record { printed = (name-told text).0 p.0; is = (zone-told text).0 p.1 },

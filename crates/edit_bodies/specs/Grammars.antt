@@ -2,7 +2,7 @@
 use Rattle.std.specs.Prelude.{ℕ, Bool, true, ◌&&◌, nat_le, List, [], ◌∷◌, length, int_lt, ℤ, Option, Some, None, option_map, option_and_then, if◌then◌else◌}
 use Rattle.std.specs.Result.{result_ok}
 use Rattle.civil_days.specs.Spelling.{stamp_of_text, only}
-use Rattle.edit_bodies.specs.Texts.{are_initials, is_reference, is_name, is_rounding_array, site_of_text}
+use Rattle.edit_bodies.specs.Texts.{are_initials, is_reference, is_name, is_known_array, site_of_text}
 use Rattle.edit_bodies.specs.Zones.{is_zone}
 use Rattle.edits.specs.Lawful.{most_gap, most_readings}
 use Rattle.fixed_units.specs.Decimals.{decimal_of}
@@ -46,9 +46,9 @@ whole_of least greatest value =
 abbrev pub gap_of : Data → Option ℕ
 gap_of value = whole_of 1 most_gap value
 
--- a rounding array
+-- a rounding array that is known so far
 abbrev pub array_of : Data → Option (List ℕ)
-array_of value = string_of (kept_if is_rounding_array) value
+array_of value = string_of (kept_if is_known_array) value
 
 -- an instant that is a stamp
 abbrev pub instant_of : Data → Option ℤ

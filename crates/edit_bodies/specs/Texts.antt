@@ -1,5 +1,5 @@
 -- The texts of an edit's members, as tests: of what `edits` says they are.
-use Rattle.std.specs.Prelude.{ℕ, Bool, ◌&&◌, ◌||◌, ◌==◌, nat_le, List, length, Option, Some, None, if◌then◌else◌}
+use Rattle.std.specs.Prelude.{ℕ, Bool, ◌&&◌, ◌||◌, ◌==◌, nat_le, List, length, bytes_eq, codes, Option, Some, None, if◌then◌else◌}
 use Rattle.std.specs.List.{list_all}
 use Rattle.std.specs.Char.{is_ascii_digit}
 use Rattle.std.specs.Str.Parse.{digits_value}
@@ -24,6 +24,10 @@ is_name text = is_text_of 1 60 is_printed text
 -- a rounding array: ten digits, the tenth of 0 to 6
 abbrev pub is_rounding_array : List ℕ → Bool
 is_rounding_array text = is_text_of 10 10 is_ascii_digit text && nat_le (most_decimals text) 6
+
+-- the one rounding array that a body may name so far: amounts of any size have two decimals
+abbrev pub is_known_array : List ℕ → Bool
+is_known_array text = bytes_eq text (codes "9999999992")
 
 -- the site of a text of 8 to 15 digits
 abbrev pub site_of_text : List ℕ → Option SiteNumber

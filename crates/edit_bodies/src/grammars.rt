@@ -1,10 +1,11 @@
 //! The members of bodies, each read by its grammar as it is taken out of an object.
 
-ghost use Rattle.std.specs.Prelude.{◌≡◌, IfOk, IfSome};
+ghost use Rattle.std.specs.Prelude.{◌≡◌, ◌↔◌, true, IfOk, IfSome, IsSome};
 ghost use Rattle.edit_bodies.specs.Answers.{IsTaken};
 ghost use Rattle.edit_bodies.specs.Grammars.{by_of, reference_of, site_of, name_of, zone_of, gap_of, array_of};
 ghost use Rattle.edit_bodies.specs.Members.{required};
 ghost use Rattle.edits.specs.Lawful.{IsGap, IsStationZone};
+ghost use Rattle.edit_bodies.specs.Texts.{is_known_array};
 ghost use Rattle.edits.specs.Texts.{IsName};
 ghost use Rattle.fixed_units.specs.RoundingArray.{IsRoundingArray};
 ghost use Rattle.serde_json.specs.Find.{as_str};
@@ -108,11 +109,27 @@ fn gap_in(value: &Value) -> Option<u32>
     }
 }
 
+/// The rounding array that bodies may name so far.
+const ONLY_ARRAY: &[u8] = b"9999999992";
+
+/// The rounding array of a text, or `None` exactly where it is not the one that is known so far.
+fn known_array(text: &[u8]) -> Option<RoundingArray>
+    ensures range { IsSome result ↔ is_known_array text.now ≡ true }
+    ensures value { IfSome result (λ array. array ≡ text.now) }
+    ensures array { IfSome result IsRoundingArray }
+{
+    if text == ONLY_ARRAY {
+        RoundingArray::read(text)
+    } else {
+        None
+    }
+}
+
 /// Takes out a rounding array.
 pub(crate) fn take_array(fields: &mut Fields, member: Member) -> Result<RoundingArray, BodyFault>
     ensures read { IsTaken (required member array_of) fields.old result fields.new }
     ensures array { IfOk result IsRoundingArray }
 {
     let text = take_text(fields, member)?;
-    RoundingArray::read(text.as_slice()).ok_or(BodyFault::Body(member))
+    known_array(text.as_slice()).ok_or(BodyFault::Body(member))
 }

@@ -1,187 +1,218 @@
-//! What no clause says: that messages come at all, and which bytes make which message.
-ghost use Rattle.std.specs.Prelude.{◌<◌, ◌≤◌};
+//! How the input is cut into messages, and bytes that are none.
 
-use devices::MemorySource;
-use first_wire::{Incoming, Message, Verb};
+use crate::fixtures::{
+    BAD_REQUEST, BATCH, Due, OK, TOO_LARGE, expect, left, new_journal, push_reply, replies, run,
+    same,
+};
 use fixed_units::{NoMemory, Text};
 use std::alloc::Global;
 use std::test::Fail;
 
-const WHOLE: usize = 65_536;
+const STATUS: &[u8] = b"GET /status HTTP/1.1\r\n\r\n";
 
-// The messages of a stream, each with a semicolon behind it, up to one that no other follows.
-fn read_all(alloc: Global, bytes: &[u8], failing: Vec<u64>, piece: usize) -> Result<Text, NoMemory>
-    requires { 0 < piece }
-{
-    let mut source = MemorySource::new(Vec::from_slice(alloc, bytes)?, failing, piece);
-    let mut incoming = Incoming::new(alloc)?;
-    let mut all = Text::new(alloc);
-    for _ in 0..20 {
-        let message = incoming.next(alloc, &mut source);
-        describe(&message, &mut all)?;
-        if is_last(&message) {
-            break;
-        }
-    }
-    Ok(all)
-}
+const COUNTS: Due = (OK, r#"{"edits":0,"pending":0}"#);
 
-fn describe(message: &Message, out: &mut Text) -> Result<(), NoMemory> {
-    match message {
-        Message::Request { verb, target, body } => {
-            out.push_slice(verb_text(*verb))?;
-            out.push_slice(target.as_slice())?;
-            out.push_slice(body.as_slice())?;
-        }
-        Message::NoMemory => out.push_slice(b"no memory")?,
-        Message::End => out.push_slice(b"end")?,
-        Message::Malformed(at) => {
-            out.push_slice(b"malformed ")?;
-            out.push_number(*at)?;
-        }
-        Message::Long => out.push_slice(b"long")?,
-        Message::Failed => out.push_slice(b"failed")?,
-    }
-    out.push(b';')
-}
+const MALFORMED: Due = (BAD_REQUEST, r#"{"code":"Malformed"}"#);
 
-fn verb_text(verb: Verb) -> &'static [u8] {
-    match verb {
-        Verb::Get => b"get ",
-        Verb::Post => b"post ",
-        Verb::Other => b"other ",
-    }
-}
-
-fn is_last(message: &Message) -> bool {
-    matches!(
-        message,
-        Message::End | Message::Malformed(_) | Message::Long
-    )
-}
-
-// A head of so many bytes.
-fn head_of_length(alloc: Global, len: usize) -> Result<Vec<u8>, NoMemory>
-    requires { 23 ≤ len }
-{
-    let mut head = Vec::from_slice(alloc, b"GET / HTTP/1.1\r\nA: ")?;
-    for _ in 23..len {
-        head.push(b'x')?;
-    }
-    head.extend_from_slice(b"\r\n\r\n")?;
-    Ok(head)
-}
-
-// A head of so many fields.
-fn head_of_fields(alloc: Global, fields: usize) -> Result<Vec<u8>, NoMemory> {
-    let mut head = Vec::from_slice(alloc, b"GET / HTTP/1.1\r\n")?;
-    for _ in 0..fields {
-        head.extend_from_slice(b"A:\r\n")?;
-    }
-    head.extend_from_slice(b"\r\n")?;
-    Ok(head)
-}
+/// Bytes behind a whole message of 24 bytes that begin no message: heads that are cut, that are none, or whose length is none or is
+/// told twice, and bodies that are cut.
+const NO_MESSAGES: [&[u8]; 20] = [
+    b"G",
+    b"GET /status HTT",
+    b"GET /status HTTP/1.1\r\n",
+    b"GET /status HTTP/1.1\r\nHost: here\r\n",
+    b"\r\nGET /status HTTP/1.1\r\n",
+    b"GET /status HTTP/2.0\r\n\r\n",
+    b"GET /status\r\n\r\n",
+    b"GET /status HTTP/1.1\r\nno colon\r\n\r\n",
+    b"POST /settle HTTP/1.1\r\nContent-Length:\r\n\r\n",
+    b"POST /settle HTTP/1.1\r\nContent-Length: 123456789\r\n\r\n",
+    b"POST /settle HTTP/1.1\r\nContent-Length: +0\r\n\r\n",
+    b"POST /settle HTTP/1.1\r\nContent-Length: -1\r\n\r\n",
+    b"POST /settle HTTP/1.1\r\nContent-Length: 0, 0\r\n\r\n",
+    b"POST /settle HTTP/1.1\r\nContent-Length: 0\r\nCONTENT-LENGTH: 0\r\n\r\n",
+    b"POST /settle HTTP/1.1\r\nTransfer-Encoding: chunked\r\n\r\n0\r\n\r\n",
+    b"GET /status HTTP/1.1\r\ntransfer-encoding: identity\r\n\r\n",
+    b"POST /settle HTTP/1.1\r\nContent-Length: 5\r\n\r\n",
+    b"POST /settle HTTP/1.1\r\nContent-Length: 5\r\n\r\n1234",
+    b"POST /settle HTTP/1.1\r\nContent-Length: 4194305\r\n\r\n1234",
+    b"DELETE /nothing HTTP/1.1\r\nContent-Length: 1\r\n\r\n",
+];
 
 #[test]
-fn pieces_make_no_difference(rt: HostRuntime) -> Result<(), Fail> {
-    let alloc = rt.alloc();
-    let cases: [(&[u8], &[u8]); 9] = [
-        (b"", b"end;"),
-        (b"\r\n\n", b"end;"),
-        (
-            b"GET /a?b=1 HTTP/1.1\r\nHost: h\r\n\r\n",
-            b"get /a?b=1;end;",
-        ),
-        (
-            b"\r\n\nGET /a HTTP/1.1\r\n\r\nPOST /b HTTP/1.1\nContent-Length: 0\n\n\r\n",
-            b"get /a;post /b;end;",
-        ),
-        (b"PUT /a HTTP/1.1\r\n\r\n", b"other /a;end;"),
-        (
-            b"POST /a HTTP/1.1\r\nContent-Length: 00\r\n\r\n",
-            b"malformed 0;",
-        ),
-        (
-            b"\r\nGET /a HTTP/1.1\r\n\r\n\r\nPOST /b HTTP/1.1\r\n\r\n",
-            b"get /a;malformed 21;",
-        ),
-        (b"GET /a HTTP/1.1\r\n", b"malformed 0;"),
-        (b"\r\nGET  /a HTTP/1.1\r\n\r\n", b"malformed 0;"),
-    ];
-    for (bytes, want) in cases {
-        for piece in [1, 2, 7, WHOLE] {
-            let all = read_all(alloc, bytes, Vec::new(alloc), piece)?;
-            assert_eq!(rt; all.as_slice(), want, "in pieces of {piece}");
-        }
+fn bytes_that_are_no_message(rt: HostRuntime) -> Result<(), Fail> {
+    let due = replies(rt.alloc(), &[COUNTS, MALFORMED])?;
+    for bytes in NO_MESSAGES {
+        let mut input = STATUS.to_vec(rt.alloc())?;
+        input.extend_from_slice(bytes)?;
+        let mut cabinet = new_journal(rt.alloc())?;
+        let ran = run(&rt, rt.alloc(), &mut cabinet, BATCH, &input)?;
+        expect(
+            &rt,
+            &ran,
+            9,
+            due.as_slice(),
+            b"streamoffice: malformed at 24\n",
+        );
     }
     Ok(())
 }
 
+/// What follows bytes that are no message is not read as one.
 #[test]
-fn heads_have_limits(rt: HostRuntime) -> Result<(), Fail> {
-    let alloc = rt.alloc();
-    let cases = [
-        (head_of_length(alloc, 8_192)?, b"get /;end;".as_slice()),
-        (head_of_length(alloc, 8_193)?, b"malformed 0;".as_slice()),
-        (head_of_fields(alloc, 64)?, b"get /;end;".as_slice()),
-        (head_of_fields(alloc, 65)?, b"malformed 0;".as_slice()),
-    ];
-    for (bytes, want) in &cases {
-        let all = read_all(alloc, bytes, Vec::new(alloc), WHOLE)?;
-        assert_eq!(rt; all.as_slice(), *want);
+fn a_malformed_message_ends_the_session(rt: HostRuntime) -> Result<(), Fail> {
+    let input = b"GET / HTTP/1.1\r\nContent-Length: x\r\n\r\nGET /status HTTP/1.1\r\n\r\n";
+    let mut cabinet = new_journal(rt.alloc())?;
+    let ran = run(&rt, rt.alloc(), &mut cabinet, BATCH, input)?;
+    let due =
+        b"HTTP/1.1 400 Bad Request\r\nContent-Type: application/json\r\nContent-Length: 20\r\n\r\n{\"code\":\"Malformed\"}";
+    expect(&rt, &ran, 9, due, b"streamoffice: malformed at 0\n");
+    Ok(())
+}
+
+/// Messages whose lengths are told in other spellings, and bodies that are not looked at.
+const SPELLINGS: [&[u8]; 10] = [
+    b"\r\nGET /status HTTP/1.1\r\n\r\n",
+    b"\nGET /status HTTP/1.1\n\n",
+    b"GET /status HTTP/1.0\r\n\r\n",
+    b"GET /status HTTP/1.1\r\n\r\n\r\n\n\r\n",
+    b"GET /status HTTP/1.1\r\nHost: here\r\nAccept: */*\r\n\r\n",
+    b"GET /status HTTP/1.1\r\nContent-Length: 0\r\n\r\n",
+    b"GET /status HTTP/1.1\r\ncontent-length: 3\r\n\r\n{]x",
+    b"GET /status HTTP/1.1\r\nContent-Length: 00000003\r\n\r\n{]x",
+    b"GET /status HTTP/1.1\r\nCONTENT-LENGTH:   3  \r\n\r\n{]x",
+    b"GET /status HTTP/1.1\r\nContent-Length: 24\r\n\r\nGET /status HTTP/1.1\r\n\r\n",
+];
+
+#[test]
+fn messages_are_spelled_in_many_ways(rt: HostRuntime) -> Result<(), Fail> {
+    let due = replies(rt.alloc(), &[COUNTS])?;
+    for input in SPELLINGS {
+        let mut cabinet = new_journal(rt.alloc())?;
+        let ran = run(&rt, rt.alloc(), &mut cabinet, BATCH, input)?;
+        expect(&rt, &ran, 0, due.as_slice(), b"");
     }
     Ok(())
 }
 
+/// Inputs without a message.
+const NOTHING: [&[u8]; 4] = [b"", b"\r\n", b"\n\n", b"\r\n\r\n\n"];
+
 #[test]
-fn blank_bytes_are_skipped(rt: HostRuntime) -> Result<(), Fail> {
-    let alloc = rt.alloc();
-    let mut bytes = vec![in alloc; b'\n'; 9_000]?;
-    let all = read_all(alloc, &bytes, Vec::new(alloc), 1_000)?;
-    assert_eq!(rt; all.as_slice(), b"end;".as_slice());
-    bytes.push(b'x')?;
-    let all = read_all(alloc, &bytes, Vec::new(alloc), 1_000)?;
-    assert_eq!(rt; all.as_slice(), b"malformed 0;".as_slice());
+fn an_input_without_messages(rt: HostRuntime) -> Result<(), Fail> {
+    for input in NOTHING {
+        let mut cabinet = new_journal(rt.alloc())?;
+        let ran = run(&rt, rt.alloc(), &mut cabinet, BATCH, input)?;
+        expect(&rt, &ran, 0, b"", b"");
+        same(
+            &rt,
+            "left",
+            &left(&cabinet).map(|bytes| bytes.len()),
+            &Some(17),
+        );
+    }
     Ok(())
 }
 
+/// Adds this many bytes of blanks, in pieces of 1,024, and one more where that is asked for.
+fn push_body(kibibytes: u32, one_more: bool, out: &mut Text) -> Result<(), NoMemory> {
+    let piece = [b' '; 1_024];
+    for _ in 0..kibibytes {
+        out.push_slice(&piece)?;
+    }
+    if one_more { out.push(b' ') } else { Ok(()) }
+}
+
+/// A message with a body of 4,194,304 bytes or one more, and another behind it.
+fn large(alloc: Global, head: &[u8], one_more: bool) -> Result<Text, NoMemory> {
+    let mut input = Text::new(alloc);
+    input.push_slice(head)?;
+    push_body(4_096, one_more, &mut input)?;
+    input.push_slice(STATUS)?;
+    Ok(input)
+}
+
+/// A head, whether its body has one byte above 4,194,304, and the reply.
+const LARGE: [(&[u8], bool, Due); 6] = [
+    (
+        b"POST /settle HTTP/1.1\r\nContent-Length: 4194304\r\n\r\n",
+        false,
+        (OK, r#"{"pending":0,"published":0}"#),
+    ),
+    (
+        b"POST /edits HTTP/1.1\r\nContent-Length: 4194304\r\n\r\n",
+        false,
+        (BAD_REQUEST, r#"{"code":"Json"}"#),
+    ),
+    (
+        b"POST /settle HTTP/1.1\r\nContent-Length: 4194305\r\n\r\n",
+        true,
+        (TOO_LARGE, r#"{"code":"TooLarge"}"#),
+    ),
+    (
+        b"POST /nothing HTTP/1.1\r\nContent-Length: 4194305\r\n\r\n",
+        true,
+        (TOO_LARGE, r#"{"code":"TooLarge"}"#),
+    ),
+    (
+        b"GET /status HTTP/1.1\r\nContent-Length: 4194305\r\n\r\n",
+        true,
+        (TOO_LARGE, r#"{"code":"TooLarge"}"#),
+    ),
+    (
+        b"DELETE /settle HTTP/1.1\r\nContent-Length: 04194305\r\n\r\n",
+        true,
+        (TOO_LARGE, r#"{"code":"TooLarge"}"#),
+    ),
+];
+
 #[test]
-fn a_failure_loses_nothing(rt: HostRuntime) -> Result<(), Fail> {
-    let alloc = rt.alloc();
-    let failing = vec![in alloc; 2, 4]?;
-    let all = read_all(alloc, b"GET /a HTTP/1.1\r\n\r\n", failing, 10)?;
-    assert_eq!(rt; all.as_slice(), b"failed;get /a;failed;end;".as_slice());
+fn large_bodies_are_skipped(rt: HostRuntime) -> Result<(), Fail> {
+    for (head, one_more, due) in LARGE {
+        let input = large(rt.alloc(), head, one_more)?;
+        let mut cabinet = new_journal(rt.alloc())?;
+        let ran = run(&rt, rt.alloc(), &mut cabinet, BATCH, input.as_slice())?;
+        let due = replies(rt.alloc(), &[due, COUNTS])?;
+        expect(&rt, &ran, 0, due.as_slice(), b"");
+    }
     Ok(())
 }
 
-#[test]
-fn a_source_is_asked_only_for_what_is_missing(rt: HostRuntime) -> Result<(), Fail> {
-    let alloc = rt.alloc();
-    let bytes = b"GET /a HTTP/1.1\r\n\r\nGET /b HTTP/1.1\r\n\r\n";
-    let mut source = MemorySource::new(Vec::from_slice(alloc, bytes)?, Vec::new(alloc), WHOLE);
-    let mut incoming = Incoming::new(alloc)?;
-    let mut all = Text::new(alloc);
-    describe(&incoming.next(alloc, &mut source), &mut all)?;
-    describe(&incoming.next(alloc, &mut source), &mut all)?;
-    assert_eq!(rt; source.calls(), 1);
-    assert_eq!(rt; all.as_slice(), b"get /a;get /b;".as_slice());
-    Ok(())
+/// A head of so many bytes in all: a line, and a header that fills it.
+fn head_of(alloc: Global, filling: u32) -> Result<Text, NoMemory> {
+    let mut input = Text::new(alloc);
+    input.push_slice(b"GET /status HTTP/1.1\r\nX:")?;
+    for _ in 0..filling {
+        input.push(b'x')?;
+    }
+    input.push_slice(b"\r\n\r\n")?;
+    Ok(input)
 }
 
+/// A head has at most 8,192 bytes, of which 28 are around the filling.
 #[test]
-fn a_line_at_fault_is_told_once_it_is_ended(rt: HostRuntime) -> Result<(), Fail> {
-    let alloc = rt.alloc();
-    let mut source = MemorySource::new(
-        Vec::from_slice(alloc, b"GET  /a HTTP/1.1\r\n")?,
-        Vec::new(alloc),
-        WHOLE,
+fn a_long_head(rt: HostRuntime) -> Result<(), Fail> {
+    let mut cabinet = new_journal(rt.alloc())?;
+    let good = head_of(rt.alloc(), 8_164)?;
+    same(&rt, "length", &good.len(), &8_192);
+    let ran = run(&rt, rt.alloc(), &mut cabinet, BATCH, good.as_slice())?;
+    expect(
+        &rt,
+        &ran,
+        0,
+        replies(rt.alloc(), &[COUNTS])?.as_slice(),
+        b"",
     );
-    let mut incoming = Incoming::new(alloc)?;
-    let mut all = Text::new(alloc);
-    describe(&incoming.next(alloc, &mut source), &mut all)?;
-    assert_eq!(rt; (source.calls(), source.end_count()), (1, 0));
-    describe(&incoming.next(alloc, &mut source), &mut all)?;
-    assert_eq!(rt; (source.calls(), source.end_count()), (1, 0));
-    assert_eq!(rt; all.as_slice(), b"malformed 0;malformed 0;".as_slice());
+    let bad = head_of(rt.alloc(), 8_165)?;
+    let ran = run(&rt, rt.alloc(), &mut cabinet, BATCH, bad.as_slice())?;
+    let mut due = Text::new(rt.alloc());
+    push_reply(MALFORMED.0, MALFORMED.1.as_bytes(), &mut due)?;
+    expect(
+        &rt,
+        &ran,
+        9,
+        due.as_slice(),
+        b"streamoffice: malformed at 0\n",
+    );
     Ok(())
 }

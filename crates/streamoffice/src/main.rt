@@ -1,16 +1,7 @@
 //! The program `streamoffice`: a records office for river gauging stations.
 #![tactic(auto)]
 
-mod answers;
-mod commands;
-mod laws;
-mod sessions;
-#[cfg(test)]
-mod tests;
-mod top;
-mod words;
-
-use crate::top::run_office;
+use commands::run_office;
 use devices::{FileCabinet, StderrSink, StdinSource, StdoutSink, take_up_missing_streams};
 use std::env;
 use std::process::ExitCode;

@@ -1,0 +1,6 @@
+pub mod MakingLemmas
+pub mod PlaceLemmas
+pub mod ReopenLemmas
+pub mod ServingLemmas
+pub mod TopLemmas
+pub mod WordLemmas

@@ -1,0 +1,86 @@
+-- What an office begins with that is opened on the records of a journal.
+use Rattle.std.proofs.Common.{◌≡◌, ℕ, List, [], ◌∷◌, ◌++◌, reverse, map, Option, None, refl, sym, ◌∙◌, ap, subst, inl}
+use Rattle.std.proofs.lemmas.List.{append-nil, map-append, reverse-append}
+use Rattle.commands.specs.Serving.{usual}
+use Rattle.desk.specs.Passing.{fault_count}
+use Rattle.history.proofs.EventLemmas.{accepted_all}
+use Rattle.history.specs.Accepted.{accepted}
+use Rattle.history.specs.After.{doubt, doubt_back, go_on, reopen}
+use Rattle.history.specs.Events.{Event, Accepted, History}
+use Rattle.journal.specs.JournalBytes.{IsJournalOf, StandsFor}
+use Rattle.office.specs.Stops.{IsLeft, IsLeftBefore, IsLeftBetween}
+use Rattle.office_inputs.specs.declared.limits.Limits.{Limits}
+use Rattle.office_inputs.specs.declared.limits.TheConstants.{USUAL_STATIONS, USUAL_READINGS, USUAL_DAY_READINGS, USUAL_CELLS, USUAL_EVENTS, USUAL_JOURNAL_BYTES}
+use Rattle.records.specs.declared.payloads.Record.{Record}
+
+-- an office keeps to these numbers
+abbrev with_all : ℕ → ℕ → ℕ → ℕ → ℕ → ℕ → Limits
+with_all stations readings day_readings cells events journal_bytes = record {
+  stations = stations;
+  readings = readings;
+  day_readings = day_readings;
+  cells = cells;
+  events = events;
+  journal_bytes = journal_bytes;
+}
+
+-- numbers that are those of every run one by one
+pub are_usual : (limits : Limits) → limits.stations ≡ USUAL_STATIONS → limits.readings ≡ USUAL_READINGS
+    → limits.day_readings ≡ USUAL_DAY_READINGS → limits.cells ≡ USUAL_CELLS → limits.events ≡ USUAL_EVENTS
+    → limits.journal_bytes ≡ USUAL_JOURNAL_BYTES → limits ≡ usual
+are_usual limits stations readings day_readings cells events journal_bytes =
+    ap (λ (n : ℕ). with_all n limits.readings limits.day_readings limits.cells limits.events limits.journal_bytes) stations
+    ∙ ap (λ (n : ℕ). with_all USUAL_STATIONS n limits.day_readings limits.cells limits.events limits.journal_bytes) readings
+    ∙ ap (λ (n : ℕ). with_all USUAL_STATIONS USUAL_READINGS n limits.cells limits.events limits.journal_bytes) day_readings
+    ∙ ap (λ (n : ℕ). with_all USUAL_STATIONS USUAL_READINGS USUAL_DAY_READINGS n limits.events limits.journal_bytes) cells
+    ∙ ap (λ (n : ℕ). with_all USUAL_STATIONS USUAL_READINGS USUAL_DAY_READINGS USUAL_CELLS n limits.journal_bytes) events
+    ∙ ap (λ (n : ℕ). with_all USUAL_STATIONS USUAL_READINGS USUAL_DAY_READINGS USUAL_CELLS USUAL_EVENTS n) journal_bytes
+
+-- no fault is among the edits that were found
+pub count_reopened : (pieces : List Record) (since : List Event) → fault_count (map Accepted pieces ++ since) ≡ fault_count since
+count_reopened [] since = refl
+count_reopened (piece ∷ pieces) since = count_reopened pieces since
+
+-- the edits read back
+reversed : (pieces : List Record) → reverse (map Accepted pieces) ≡ map Accepted (reverse pieces)
+reversed [] = refl
+reversed (piece ∷ pieces) =
+    let accept : Record → Event = λ p. Accepted p in
+    reverse-append (Accepted piece ∷ []) (map accept pieces)
+    ∙ ap (λ (l : List Event). l ++ Accepted piece ∷ []) (reversed pieces)
+    ∙ sym (map-append accept (reverse pieces) (piece ∷ []))
+    ∙ ap (λ (l : List Record). map accept l) (sym (reverse-append (piece ∷ []) pieces))
+
+-- no record is in doubt
+none_back : (pieces : List Record) → doubt_back (map Accepted pieces) ≡ None
+unfolding doubt_back
+none_back [] = refl
+none_back (piece ∷ pieces) = refl
+
+none_in_doubt : (pieces : List Record) → doubt (reopen usual pieces) ≡ None
+none_in_doubt pieces = ap doubt_back (reversed pieces) ∙ none_back (reverse pieces)
+
+-- the journal that was found is that of the edits that were accepted
+left_found : (pieces : List Record) (image : List ℕ) → IsJournalOf pieces image → IsLeft (reopen usual pieces) image
+left_found pieces image journal =
+    subst (λ (o : Option Record). StandsFor (accepted (map Accepted pieces)) o image) (sym (none_in_doubt pieces))
+    (subst (λ (all : List Record). StandsFor all None image) (sym (accepted_all pieces)) journal)
+
+-- what may be left between two calls may be left before the next event
+left_before : (h : History) (behind : List Event) (image : List ℕ) → IsLeft h image → IsLeftBefore h behind image
+left_before h [] image left = left
+left_before h (event ∷ behind) image left = inl left
+
+-- and is left while the history goes on
+pub found_left : (pieces : List Record) (after : History) (since : List Event) (bytes image : List ℕ)
+    → after ≡ go_on (reopen usual pieces) since → IsJournalOf pieces bytes → image ≡ bytes
+    → IsLeftBetween (reopen usual pieces) after image
+found_left pieces after since bytes image goes_on journal is = record {
+  since = [];
+  behind = since;
+  after_is = ap (λ (h : History). h.events) goes_on ∙ ap (λ (l : List Event). l ++ since) (sym (append-nil (map Accepted pieces)));
+  left =
+      left_before (go_on (reopen usual pieces) []) since image
+      (subst (λ (l : List Event). IsLeft (record (reopen usual pieces) { events = l }) image) (sym (append-nil (map Accepted pieces)))
+      (left_found pieces image (subst (IsJournalOf pieces) (sym is) journal)));
+}

@@ -1,0 +1,48 @@
+use Rattle.std.proofs.Common.{sym, ◌∙◌, ap, subst}
+use Rattle.commands.proofs.ReopenLemmas.{are_usual}
+use Rattle.commands.proofs.ServingLemmas.{carries, not_opened}
+use Rattle.commands.proofs.runs.serve_disk.Goals as goal
+use Rattle.desk.specs.Passing.{Passes}
+use Rattle.desk.specs.Sessions.{IsServed}
+use Rattle.history.specs.After.{reopen}
+use Rattle.history.specs.Events.{History}
+use Rattle.office.specs.Openings.{IsNotOpened}
+use Rattle.office_inputs.specs.declared.limits.Limits.{Limits}
+
+pub returns-in-Ok-clause-serves : goal.returns-in-Ok-clause-serves
+returns-in-Ok-clause-serves g c =
+    let opened = c.in-Ok.ensures.opened in
+    let limits = c.usual.ensures in
+    let reopened = opened.reopened
+    ∙ ap (λ (l : Limits). reopen l opened.pieces)
+    (are_usual c.usual.result limits.stations limits.readings limits.day_readings limits.cells limits.events limits.journal_bytes) in
+    let after = c.session-end.new.office.register.history in (
+      opened.pieces,
+      after,
+      subst
+          (λ (h : History). IsServed h after c.session-end.result
+          (g.S.Source.left c.args.input.now) (g.S.Source.left c.session-end.new.source)
+          (g.K.Sink.written c.args.output.now) (g.K.Sink.written c.session-end.new.sink))
+          reopened c.session-end.ensures.served,
+      carries g.D.Disk opened.pieces after c.args.disk c.in-Ok.office.disk c.close.result
+          opened.found c.in-Ok.ensures.same c.in-Ok.ensures.synced
+          (subst (λ (h : History). Passes g.D.Disk h after c.in-Ok.office.disk c.close.result) reopened
+          (subst (λ (d : g.row.D.Denot). Passes g.D.Disk c.in-Ok.office.register.history after c.in-Ok.office.disk d) (sym c.close.ensures.disk)
+          c.session-end.ensures.passed))
+          c.close.ensures.now c.close.ensures.images
+          c.an_office_stands_on_its_disk.ensures.legal,
+    )
+
+pub returns-in-Err-clause-serves : goal.returns-in-Err-clause-serves
+returns-in-Err-clause-serves g c =
+    let limits = c.usual.ensures in
+    let laws = g.met.D.Disk g.world.𝓛 g.world.𝓜 g.world.𝓡 ((λ s x. x), (λ x. x), (λ x. x), λ x. x) in
+    not_opened g.D.Disk c.in-Err.refused.fault
+    c.end_of_opening.result c.args.disk c.in-Err.refused.disk
+    (g.S.Source.left c.args.input.now) (g.S.Source.left c.args.input.now) (g.K.Sink.written c.args.output.now) (g.K.Sink.written c.args.output.now)
+    laws.counts_now c.end_of_opening.ensures
+    (subst
+    (λ (l : Limits). IsNotOpened (g.D.Disk.content c.args.disk) l c.in-Err.refused.fault (g.D.Disk.faults c.args.disk) (g.D.Disk.faults c.in-Err.refused.disk))
+    (are_usual c.usual.result limits.stations limits.readings limits.day_readings limits.cells limits.events limits.journal_bytes)
+    c.in-Err.ensures.refused)
+    c.in-Err.ensures.refused_same c.in-Err.ensures.refused_any_moment

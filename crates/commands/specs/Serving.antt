@@ -1,0 +1,98 @@
+-- What a run of `batch` comes to.
+use Rattle.std.specs.Prelude.{◌≡◌, ◌⊎◌, ℕ, List, Option, IfSome, IsSomeAnd, ⊤}
+use Rattle.commands.specs.Places.{HasKept, IfKept, IsLeftAlone, HasTheSame}
+use Rattle.commands.specs.declared.runs.RunEnd.{RunEnd}
+use Rattle.commands.specs.declared.runs.RunEnd.TheVariants.{Made, Served, Exists, DiskFault, NotAJournal, Damaged, NoMemory}
+use Rattle.desk.specs.Passing.{RoseBy, fault_count}
+use Rattle.desk.specs.Sessions.{IsServed}
+use Rattle.devices.specs.Cabinets.{Place, OthersStay}
+use Rattle.devices.specs.Faults.{Rose}
+use Rattle.devices.specs.declared.disks.Disk.{Ghosts}
+use Rattle.history.specs.After.{reopen}
+use Rattle.history.specs.Events.{History}
+use Rattle.history.specs.Legal.{IsLegal}
+use Rattle.journal.specs.JournalBytes.{HasHeader, IsJournalOf}
+use Rattle.journal.specs.Moments.{SyncsFirst}
+use Rattle.office.specs.Openings.{IsDamagedFor}
+use Rattle.office.specs.Stops.{IsLeft, IsLeftBetween}
+use Rattle.office_inputs.specs.declared.limits.Limits.{Limits}
+use Rattle.office_inputs.specs.declared.limits.TheConstants.{USUAL_STATIONS, USUAL_READINGS, USUAL_DAY_READINGS, USUAL_CELLS, USUAL_EVENTS, USUAL_JOURNAL_BYTES}
+use Rattle.records.specs.declared.payloads.Record.{Record}
+
+-- the numbers that every run keeps to
+abbrev pub usual : Limits
+usual = record {
+  stations = USUAL_STATIONS;
+  readings = USUAL_READINGS;
+  day_readings = USUAL_DAY_READINGS;
+  cells = USUAL_CELLS;
+  events = USUAL_EVENTS;
+  journal_bytes = USUAL_JOURNAL_BYTES;
+}
+
+module _ {D : Type 0} (g : Ghosts D) where
+  -- a file, and whatever a stop may leave of it, stands for the edits that were accepted, or for these and the one in doubt
+  pub record IsLeftOn (h : History) (disk : D) : Type 0 where
+    pub now : IsSomeAnd (g.content disk) (IsLeft h)
+    pub images : (image : List ℕ) → g.may_leave disk image → IsLeft h image
+
+  -- a disk under the name, if there is one, has bytes with P, and all is as before
+  abbrev pub StaysWith : List ℕ → (Place D → Type 0) → Option (List ℕ → Place D) → Option (List ℕ → Place D) → Type 0
+  StaysWith name P places_before places_after =
+      IfSome places_before (λ b. IsSomeAnd places_after (λ a.
+      P (b name) × (HasTheSame g (b name) (a name) × OthersStay name b a)))
+
+  -- The disk had the journal of these records and is left with that of the history behind them, where it tells its bytes. Until the
+  -- sync that began the opening was done, a stop left what it might have left before; from then on it left the journal of the edits
+  -- that were accepted up to some point of that history, or of these and one more. No more faults are in the history than the disk
+  -- had, and the history is legal.
+  pub record Carries (pieces : List Record) (after : History) (found left : D) : Type 0 where
+    pub journal : IfSome (g.content found) (λ bytes. IsJournalOf pieces bytes × IsLeftOn after left)
+    pub any_moment : IfSome (g.content found) (λ bytes. SyncsFirst g found left (IsLeftBetween (reopen usual pieces) after))
+    pub causes : RoseBy (fault_count after.events) 0 (g.faults left)
+    pub legal : IsLegal after
+
+  -- what a batch over a disk comes to, whose counts of faults are given
+  abbrev pub ServesDisk : RunEnd → D → D → Option (List ℕ) → Option (List ℕ) → Option (List ℕ) → Option (List ℕ) → Type 0
+  ServesDisk (Served end) found left left_before left_after written_before written_after =
+      (pieces : List Record) × (after : History)
+      × IsServed (reopen usual pieces) after end left_before left_after written_before written_after × Carries pieces after found left
+  ServesDisk NotAJournal found left left_before left_after written_before written_after =
+      IfSome (g.content found) (λ bytes. ¬ HasHeader bytes) × IsLeftAlone g found left
+  ServesDisk (Damaged at) found left left_before left_after written_before written_after =
+      IfSome (g.content found) (IsDamagedFor usual at) × IsLeftAlone g found left
+  ServesDisk DiskFault found left left_before left_after written_before written_after =
+      Rose (g.faults found) (g.faults left) × IsLeftAlone g found left
+  ServesDisk NoMemory found left left_before left_after written_before written_after =
+      IsLeftAlone g found left
+  ServesDisk Made found left left_before left_after written_before written_after = ⊥
+  ServesDisk Exists found left left_before left_after written_before written_after = ⊥
+
+  -- the journal of these records was found under the name, and that of the history behind them is left there
+  abbrev pub CarriesAt : List Record → History → Place D → Place D → Type 0
+  CarriesAt pieces after before now = HasKept (λ found. HasKept (λ left. Carries pieces after found left) now) before
+
+  -- both where the cabinet tells what it has; under the other names nothing has changed
+  abbrev pub CarriesUnder : List ℕ → List Record → History → Option (List ℕ → Place D) → Option (List ℕ → Place D) → Type 0
+  CarriesUnder name pieces after places_before places_after =
+      IfSome places_before (λ b. IsSomeAnd places_after (λ a. CarriesAt pieces after (b name) (a name) × OthersStay name b a))
+
+  -- What a batch over a cabinet comes to. Where its count of faults did not rise, no fault is in the history.
+  abbrev pub ServesUnder : List ℕ → RunEnd → Option (List ℕ → Place D) → Option (List ℕ → Place D) → ℕ → ℕ
+      → Option (List ℕ) → Option (List ℕ) → Option (List ℕ) → Option (List ℕ) → Type 0
+  ServesUnder name (Served end) places_before places_after before now left_before left_after written_before written_after =
+      (pieces : List Record) × (after : History)
+      × IsServed (reopen usual pieces) after end left_before left_after written_before written_after
+      × (CarriesUnder name pieces after places_before places_after × ((fault_count after.events ≡ 0) ⊎ Rose before now))
+  ServesUnder name NotAJournal places_before places_after before now left_before left_after written_before written_after =
+      StaysWith name (IfKept (λ disk. IfSome (g.content disk) (λ bytes. ¬ HasHeader bytes)))
+      places_before places_after
+  ServesUnder name (Damaged at) places_before places_after before now left_before left_after written_before written_after =
+      StaysWith name (HasKept (λ disk. IfSome (g.content disk) (IsDamagedFor usual at)))
+      places_before places_after
+  ServesUnder name DiskFault places_before places_after before now left_before left_after written_before written_after =
+      StaysWith name (λ place. ⊤) places_before places_after × Rose before now
+  ServesUnder name NoMemory places_before places_after before now left_before left_after written_before written_after =
+      StaysWith name (λ place. ⊤) places_before places_after
+  ServesUnder name Made places_before places_after before now left_before left_after written_before written_after = ⊥
+  ServesUnder name Exists places_before places_after before now left_before left_after written_before written_after = ⊥

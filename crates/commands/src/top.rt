@@ -1,0 +1,187 @@
+//! The call that the program makes.
+
+ghost use Rattle.std.specs.Prelude.{◌≡◌, ◌⊎◌, ◌↔◌, ◌≤◌, ◌++◌, ◌∷◌, [], true, false, ℕ, List, decimal, map, string_bytes, IsSome, IsSomeAnd};
+ghost use Rattle.devices.specs.Faults.{Rose};
+ghost use Rattle.commands.specs.Commands.{asked_by};
+ghost use Rattle.commands.specs.Statuses as endings;
+ghost use Rattle.commands.specs.Statuses.{status_of, line_of, usage_line};
+ghost use Rattle.commands.specs.Making.{IsMakingEnd, Makes};
+ghost use Rattle.commands.specs.RunEnds.{IsEarly, RunCause};
+ghost use Rattle.devices.specs.Sinks.{AreWritten};
+ghost use Rattle.commands.specs.Serving.{ServesUnder};
+ghost use Rattle.commands.specs.Top.{IsReported, RunsInit, RunsBatch, IsWellFormed, HasSound, HasRoom};
+ghost use Rattle.commands.specs.Words.{Asked, Init, Batch, IsAsked};
+
+use crate::runs::{RunEnd, make_journal, serve_batch};
+use crate::words::{Command, read_words};
+use desk::SessionEnd;
+use devices::{Cabinet, Sink, Source, put_all};
+use std::alloc::Global;
+
+/// Runs the command that the words name: `init` makes a journal under a name of the cabinet, and `batch` reads requests
+/// to the input's end and writes the replies, with each edit in the journal before its reply.
+///
+/// The runtime is for commands that wait or start threads; these do neither. What is answered is the status of the
+/// program: 0 where the command is done, for `batch` at the input's end; 1 where the words are no command; 2 and 3 where
+/// the input or the output failed; 4 where the disk failed while the journal was made or opened; 5 where there is no
+/// journal, or a damaged one; 6 where there was no memory to begin; 8 where `init` finds a journal; 9 at what is no well
+/// framed request; 10 where the input has more than 2^36 bytes. A line on `faults` names every status but 0; a sink of
+/// faults that fails changes nothing. A disk that fails at an edit ends nothing: the reply says so, and the run goes on.
+///
+/// Each disk that the cabinet gave is under its name again, so its faults show in the cabinet's count.
+pub fn run_office<R, S: Source, K: Sink, E: Sink, C: Cabinet>(
+    _rt: &R,
+    alloc: Global,
+    words: &[String],
+    input: &mut S,
+    output: &mut K,
+    faults: &mut E,
+    cabinet: &mut C,
+) -> u8
+    ensures usage { (result ≡ 1) ↔ ((asked : Asked) → ¬ (IsAsked (map string_bytes words.now) asked)) }
+    ensures untouched { result ≡ 1 → (input.new ≡ input.old) × (output.new ≡ output.old) × (cabinet.new ≡ cabinet.old) }
+    ensures usage_line { result ≡ 1 → IsReported usage_line (E.written faults.old) (E.written faults.new) (E.faults faults.old) (E.faults faults.new) }
+
+    ensures init { (name : List ℕ) → IsAsked (map string_bytes words.now) (Init name)
+        → RunsInit C.Disk.Disk name result
+        (C.places cabinet.old) (C.places cabinet.new) (C.faults cabinet.old) (C.faults cabinet.new)
+        (E.written faults.old) (E.written faults.new) (E.faults faults.old) (E.faults faults.new) }
+    ensures init_alone { (name : List ℕ) → IsAsked (map string_bytes words.now) (Init name) → (input.new ≡ input.old) × (output.new ≡ output.old) }
+
+    // The headline: the bytes written are the office's replies to the bytes read, over the journal that was found, and
+    // what is left is the journal of the edits that were accepted. Until the sync that begins the opening was done a stop
+    // leaves what it might have left before; from then on the journal of those accepted up to some point, or of these and
+    // one more.
+    ensures batch { (name : List ℕ) → IsAsked (map string_bytes words.now) (Batch name)
+        → RunsBatch C.Disk.Disk name result
+        (C.places cabinet.old) (C.places cabinet.new) (C.faults cabinet.old) (C.faults cabinet.new)
+        (S.left input.old) (S.left input.new) (K.written output.old) (K.written output.new)
+        (E.written faults.old) (E.written faults.new) (E.faults faults.old) (E.faults faults.new) }
+
+    ensures input_fault { result ≡ 2 → Rose (S.faults input.old) (S.faults input.new) }
+    ensures output_fault { result ≡ 3 → Rose (K.faults output.old) (K.faults output.new) }
+    ensures disk_fault { result ≡ 4 → Rose (C.faults cabinet.old) (C.faults cabinet.new) }
+    ensures unserved { (result ≡ 4) ⊎ ((result ≡ 5) ⊎ ((result ≡ 6) ⊎ (result ≡ 8))) → (input.new ≡ input.old) × (output.new ≡ output.old) }
+    ensures complete_init { (name : List ℕ) → IsAsked (map string_bytes words.now) (Init name) → HasRoom C.Disk.Disk name (C.places cabinet.old)
+        → ¬ (Rose (C.faults cabinet.old) (C.faults cabinet.new)) → result ≡ 0 }
+    ensures complete { (name : List ℕ) → IsAsked (map string_bytes words.now) (Batch name) → HasSound C.Disk.Disk name (C.places cabinet.old)
+        → IsSomeAnd (S.left input.old) IsWellFormed → IsSome (K.written output.old)
+        → ¬ (Rose (S.faults input.old) (S.faults input.new)) → ¬ (Rose (K.faults output.old) (K.faults output.new))
+        → ¬ (Rose (C.faults cabinet.old) (C.faults cabinet.new)) → (result ≡ 0) ⊎ (result ≡ 6) }
+{
+    let Some(command) = read_words(words) else {
+        let _told = put_all(
+            faults,
+            b"streamoffice: usage: init, batch, serve, stations or trial\n",
+        );
+        return 1;
+    };
+    let end = run_command(alloc, command, input, output, cabinet);
+    report(end, faults);
+    status(end)
+}
+
+/// Runs a command.
+fn run_command<S: Source, K: Sink, C: Cabinet>(
+    alloc: Global,
+    command: Command<'_>,
+    input: &mut S,
+    output: &mut K,
+    cabinet: &mut C,
+) -> RunEnd
+    ensures makes { (name : List ℕ) → asked_by command.entry ≡ Init name
+        → Makes C.Disk.Disk result name (C.places cabinet.old) (C.places cabinet.new) }
+    ensures ends { (name : List ℕ) → asked_by command.entry ≡ Init name → IsMakingEnd result (C.faults cabinet.old) (C.faults cabinet.new) }
+    ensures init_alone { (name : List ℕ) → asked_by command.entry ≡ Init name → (input.new ≡ input.old) × (output.new ≡ output.old) }
+    ensures serves { (name : List ℕ) → asked_by command.entry ≡ Batch name
+        → ServesUnder C.Disk.Disk name result (C.places cabinet.old) (C.places cabinet.new)
+        (C.faults cabinet.old) (C.faults cabinet.new) (S.left input.old) (S.left input.new) (K.written output.old) (K.written output.new) }
+    ensures cause { RunCause result (S.faults input.old) (S.faults input.new) (K.faults output.old) (K.faults output.new) }
+    ensures disk_cause { result ≡ RunEnd.DiskFault → Rose (C.faults cabinet.old) (C.faults cabinet.new) }
+    ensures unserved { IsEarly result → (input.new ≡ input.old) × (output.new ≡ output.old) }
+{
+    match command {
+        Command::Init(name) => make_journal(cabinet, name),
+        Command::Batch(name) => serve_batch(alloc, cabinet, name, input, output),
+    }
+}
+
+fn status(end: RunEnd) -> u8
+    ensures { result ≡ status_of end }
+{
+    match end {
+        RunEnd::Made => 0,
+        RunEnd::Served(end) => session_status(end),
+        RunEnd::DiskFault => 4,
+        RunEnd::NotAJournal | RunEnd::Damaged(_) => 5,
+        RunEnd::NoMemory => 6,
+        RunEnd::Exists => 8,
+    }
+}
+
+fn session_status(end: SessionEnd) -> u8
+    ensures { result ≡ endings.session_status end }
+{
+    match end {
+        SessionEnd::End => 0,
+        SessionEnd::InputFault => 2,
+        SessionEnd::OutputFault => 3,
+        SessionEnd::NoMemory => 6,
+        SessionEnd::Malformed(_) => 9,
+        SessionEnd::Long => 10,
+    }
+}
+
+/// Puts the line for the end of a run; a failure changes nothing.
+fn report<E: Sink>(end: RunEnd, faults: &mut E)
+    ensures { IsReported (line_of end) (E.written faults.old) (E.written faults.new) (E.faults faults.old) (E.faults faults.new) }
+{
+    let _told = match end {
+        RunEnd::Made => true,
+        RunEnd::Served(end) => return report_session(end, faults),
+        RunEnd::DiskFault => put_all(faults, b"streamoffice: disk fault\n"),
+        RunEnd::NotAJournal => put_all(faults, b"streamoffice: not a journal\n"),
+        RunEnd::Damaged(at) => put_offset(faults, b"streamoffice: damaged at ", at),
+        RunEnd::NoMemory => put_all(faults, b"streamoffice: out of memory\n"),
+        RunEnd::Exists => put_all(faults, b"streamoffice: journal exists\n"),
+    };
+}
+
+/// Puts the line for the end of a session; a failure changes nothing.
+fn report_session<E: Sink>(end: SessionEnd, faults: &mut E)
+    ensures { IsReported (endings.session_line end) (E.written faults.old) (E.written faults.new) (E.faults faults.old) (E.faults faults.new) }
+{
+    let _told = match end {
+        SessionEnd::End => true,
+        SessionEnd::InputFault => put_all(faults, b"streamoffice: input fault\n"),
+        SessionEnd::OutputFault => put_all(faults, b"streamoffice: output fault\n"),
+        SessionEnd::NoMemory => put_all(faults, b"streamoffice: out of memory\n"),
+        SessionEnd::Malformed(at) => put_offset(faults, b"streamoffice: malformed at ", at),
+        SessionEnd::Long => put_all(faults, b"streamoffice: input too long\n"),
+    };
+}
+
+/// Puts words, an offset and the end of a line; whether the sink took them.
+fn put_offset<K: Sink>(sink: &mut K, words: &[u8], at: u64) -> bool
+    ensures written { AreWritten (K.written sink.old) (words.now ++ (decimal at ++ 10 ∷ [])) (K.written sink.new) result }
+    ensures counted { K.faults sink.old ≤ K.faults sink.new }
+    ensures cause { result ≡ false → Rose (K.faults sink.old) (K.faults sink.new) }
+{
+    let mut buffer = itoa::Buffer::new();
+    put_line(sink, words, buffer.format(at).as_bytes())
+}
+
+/// Puts words, digits and the end of a line; whether the sink took them.
+fn put_line<K: Sink>(sink: &mut K, words: &[u8], digits: &[u8]) -> bool
+    ensures written { AreWritten (K.written sink.old) (words.now ++ (digits.now ++ 10 ∷ [])) (K.written sink.new) result }
+    ensures counted { K.faults sink.old ≤ K.faults sink.new }
+    ensures cause { result ≡ false → Rose (K.faults sink.old) (K.faults sink.new) }
+{
+    if !put_all(sink, words) {
+        return false;
+    }
+    if !put_all(sink, digits) {
+        return false;
+    }
+    put_all(sink, b"\n")
+}

@@ -1,0 +1,77 @@
+-- How asks are answered.
+use Rattle.std.proofs.Common.{◌≡◌, ◌⊎◌, ℕ, ◌+◌, Bool, List, length, Result, Ok, Err, OnOk, OnErr, refl, sym, ◌∙◌, ap, inl, inr}
+use Rattle.desk.specs.Answering.{told_bytes}
+use Rattle.desk.specs.Answering as told_of
+use Rattle.desk.specs.Replies.{IsAnswered, IsLeftBy, edit_reply, fault_reply, history_after, history_by, memory_reply, reply_to}
+use Rattle.desk.specs.declared.answers.Told.{Told}
+use Rattle.desk.specs.declared.answers.Told.TheVariants as tells
+use Rattle.edits.specs.declared.content.Edit.{Edit}
+use Rattle.history.specs.Accepted.{accepted}
+use Rattle.history.specs.Events.{History}
+use Rattle.history.specs.Verdicts.{Verdict, Refuses, verdict}
+use Rattle.http_api.specs.Replies.{bytes_of}
+use Rattle.http_api.specs.declared.asks.Ask.{Ask}
+use Rattle.http_api.specs.declared.asks.Ask.TheVariants as asks
+use Rattle.http_api.specs.declared.replies.Reply.TheVariants as replies
+use Rattle.office.specs.Edits.{IsRefused, IsRefusedBy}
+use Rattle.office_inputs.specs.declared.refusals.Refusal.{Refusal}
+use Rattle.office_inputs.specs.declared.refusals.Refusal.TheVariants as refusals
+
+-- what follows from a fact about an answer that is Ok
+pub on_ok : {X E : Type 0} (r : Result X E) (A B : Type 0) → (A → B) → OnOk r A → OnOk r B
+on_ok (Ok x) A B f a = f a
+on_ok (Err e) A B f a = tt
+
+pub any_err : {X E : Type 0} (r : Result X E) (B : Type 0) → B → OnErr r B
+any_err (Ok x) B b = tt
+any_err (Err e) B b = b
+
+pub any_ok : {X E : Type 0} (r : Result X E) (B : Type 0) → B → OnOk r B
+any_ok (Ok x) B b = b
+any_ok (Err e) B b = tt
+
+-- an ask that is no edit was answered by the office's own reply, or there was no memory for it
+pub by_office : {X E : Type 0} (r : Result X E) (told : Told) (h : History) (ask : Ask) (reply : List ℕ) (next : History)
+    → OnOk r (reply ≡ reply_to h ask) → OnOk r (next ≡ history_after h ask) → OnErr r (IsLeftBy h ask next)
+    → OnOk r (told ≡ tells.Made) → OnErr r (told ≡ tells.NoMemory) → IsAnswered h ask (told_bytes told reply) next
+by_office (Ok x) told h ask reply next is after left made not =
+    inl (ap (λ (t : Told). told_bytes t reply) made ∙ is, after)
+by_office (Err e) told h ask reply next is after left made not =
+    inr (inr (ap (λ (t : Told). told_bytes t reply) not, left))
+
+-- a refusal for want of memory is told as want of memory
+no_memory : (reply : List ℕ) → told_of.IsRefusedBy refusals.NoMemory reply → reply ≡ memory_reply
+unfolding bytes_of
+no_memory reply (inl is) = is
+no_memory reply (inr is) = is
+
+module _ (h : History) (edit : Edit) (reply : List ℕ) (next : History) where
+  -- an edit of this verdict was answered by it
+  by_verdict : (v : Verdict) → verdict h edit ≡ v → reply ≡ edit_reply v (length (accepted h.events) + 1) → next ≡ history_by v h edit
+      → IsAnswered h (asks.Edit edit) reply next
+  by_verdict v is told after = inl (
+    told ∙ ap (λ (w : Verdict). edit_reply w (length (accepted h.events) + 1)) (sym is),
+    after ∙ ap (λ (w : Verdict). history_by w h edit) (sym is),
+  )
+
+  -- there was no memory for it
+  pub forgone : reply ≡ memory_reply → next ≡ h → IsAnswered h (asks.Edit edit) reply next
+  forgone is same = inr (inr (is, same))
+
+  refused : (refusal : Refusal) → IsRefused h edit next refusal
+      → (reply ≡ bytes_of (replies.Refused refusal)) ⊎ (reply ≡ memory_reply) → IsAnswered h (asks.Edit edit) reply next
+  refused refusal is (inl told) = by_verdict (Refuses refusal) is.0 told is.1
+  refused refusal is (inr none) = forgone none is.1
+
+  -- an edit that was refused
+  pub refused_by : (refusal : Refusal) → IsRefusedBy h edit next refusal → told_of.IsRefusedBy refusal reply
+      → ((in_doubt : Bool) → refusal ≡ refusals.JournalFault in_doubt → reply ≡ fault_reply in_doubt)
+      → IsAnswered h (asks.Edit edit) reply next
+  refused_by (refusals.RefReused n) is told fault = refused (refusals.RefReused n) is told
+  refused_by refusals.NoStation is told fault = refused refusals.NoStation is told
+  refused_by refusals.StationExists is told fault = refused refusals.StationExists is told
+  refused_by (refusals.Limit which) is told fault = refused (refusals.Limit which) is told
+  refused_by (refusals.HistoryFull full) is told fault = refused (refusals.HistoryFull full) is told
+  refused_by refusals.JournalFull is told fault = refused refusals.JournalFull is told
+  refused_by refusals.NoMemory is told fault = forgone (no_memory reply told) is
+  refused_by (refusals.JournalFault in_doubt) is told fault = inr (inl (in_doubt, fault in_doubt refl, is))

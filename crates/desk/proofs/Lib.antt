@@ -1,0 +1,7 @@
+pub mod AnswerLemmas
+pub mod EndLemmas
+pub mod PassingLemmas
+pub mod RepliesLemmas
+pub mod SessionLemmas
+pub mod StretchLemmas
+pub mod TurnLemmas

@@ -1,0 +1,28 @@
+use Rattle.std.proofs.Common.{Err, ap}
+use Rattle.desk.specs.Answering.{told_bytes}
+use Rattle.desk.proofs.AnswerLemmas.{refused_by}
+use Rattle.desk.proofs.PassingLemmas.{passes_published, passes_refused, passes_taken, publishes_none}
+use Rattle.desk.proofs.answers.take_edit_counted.Goals as goal
+
+-- there was no memory for the reply, and the office was not asked
+pub returns-then-is_err-clause-passed : goal.returns-then-is_err-clause-passed
+returns-then-is_err-clause-passed g c =
+    let only = (g.met.D.Disk g.world.𝓛 g.world.𝓜 g.world.𝓡 ((λ s x. x), (λ x. x), (λ x. x), λ x. x)).only_now in
+    let h = c.args.office.now.register.history in
+    passes_published g.D.Disk h h c.args.office.now.disk (only c.args.office.now.disk) c.an_office_stands_on_its_disk.ensures.images (publishes_none h)
+
+pub returns-in-Ok-clause-passed : goal.returns-in-Ok-clause-passed
+returns-in-Ok-clause-passed g c =
+    passes_taken g.D.Disk c.args.office.now.register.history c.edit.new.self.register.history c.args.edit c.in-Ok.told.number c.in-Ok.told.repeated
+    c.args.office.now.disk c.edit.new.self.disk c.in-Ok.ensures.edited c.in-Ok.ensures.counted c.in-Ok.ensures.any_moment c.in-Ok.ensures.told
+
+pub returns-clause-answered : goal.returns-clause-answered
+returns-clause-answered g c =
+    refused_by c.args.office.now.register.history c.args.edit (told_bytes c.refuse.result c.refuse.new.self.reply) c.edit.new.self.register.history
+    c.in-Err.refusal c.in-Err.ensures.edited c.refuse.ensures.refused c.refuse.ensures.fault
+
+pub returns-clause-passed : goal.returns-clause-passed
+returns-clause-passed g c =
+    passes_refused g.D.Disk c.args.office.now.register.history c.edit.new.self.register.history c.args.edit c.in-Err.refusal
+    c.args.office.now.disk c.edit.new.self.disk c.in-Err.ensures.edited c.in-Err.ensures.counted
+    (λ in_doubt is. c.in-Err.ensures.cause in_doubt (ap Err is)) c.in-Err.ensures.any_moment c.in-Err.ensures.told

@@ -1,0 +1,5 @@
+pub mod Answering
+pub mod Endings
+pub mod Passing
+pub mod Replies
+pub mod Sessions

@@ -1,0 +1,30 @@
+-- What passes in the office while messages are replied to.
+use Rattle.std.specs.Prelude.{◌≡◌, ℕ, ◌+◌, ◌-◌, ◌^◌, ◌≤◌, min, Bool, true, false, List, count_by, IsSome, is_some}
+use Rattle.devices.specs.declared.disks.Disk.{Ghosts}
+use Rattle.history.specs.After.{go_on}
+use Rattle.history.specs.Events.{Event, Accepted, Published, Faulted, History}
+use Rattle.journal.specs.Moments.{LeavesOnly}
+use Rattle.office.specs.Stops.{IsLeftBetween}
+
+-- a fault of the journal
+abbrev pub is_fault : Event → Bool
+is_fault (Accepted piece) = false
+is_fault (Published site day) = false
+is_fault (Faulted left) = true
+
+-- how many faults of the journal there were
+abbrev pub fault_count : List Event → ℕ
+fault_count events = count_by is_fault events
+
+-- the count of faults rose by so many, or stands at its type's end
+abbrev pub RoseBy : ℕ → ℕ → ℕ → Type 0
+RoseBy n before now = min (before + n) (2 ^ 64 - 1) ≤ now
+
+-- The history has gone on, and the faults that joined it have their causes. Where the disk tells what it has, a stop at any moment left
+-- the journal of the edits that were accepted up to some point on the way, or of these and one more.
+pub record Passes {D : Type 0} (g : Ghosts D) (h after : History) (old new : D) : Type 0 where
+  pub since : List Event
+  pub goes_on : after ≡ go_on h since
+  pub causes : RoseBy (fault_count since) (g.faults old) (g.faults new)
+  pub leaves : IsSome (g.content old) → LeavesOnly g old new (IsLeftBetween h after)
+  pub told : is_some (g.content new) ≡ is_some (g.content old)

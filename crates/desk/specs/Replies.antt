@@ -1,0 +1,140 @@
+-- What is replied to a message, and what has happened then.
+use Rattle.std.specs.Prelude.{◌≡◌, ◌⊎◌, ℕ, ◌+◌, ◌-◌, ◌≤◌, Bool, true, false, List, [], ◌∷◌, ◌++◌, length, take, Option, Some, None, Result, Ok, Err}
+use Rattle.edits.specs.declared.content.Edit.{Edit}
+use Rattle.history.specs.Accepted.{accepted, stations_at}
+use Rattle.history.specs.After.{after_edit, after_publications, after_settlement, after_turns}
+use Rattle.history.specs.Awaited.{DayAnswer, answer_at, pending_days}
+use Rattle.history.specs.Awaited as days
+use Rattle.history.specs.Events.{History}
+use Rattle.history.specs.Verdicts.{Verdict, Repeats, Refuses, Accepts, verdict}
+use Rattle.http_api.specs.Asks.{Question, ask_of, question}
+use Rattle.http_api.specs.Days.{answer_members, status_member, value_members}
+use Rattle.http_api.specs.Replies.{bytes_of, status_by}
+use Rattle.http_api.specs.Stations.{station_text}
+use Rattle.http_api.specs.declared.asks.Ask.{Ask}
+use Rattle.http_api.specs.declared.asks.Ask.TheVariants as asks
+use Rattle.http_api.specs.declared.asks.Denied.{Denied}
+use Rattle.http_api.specs.declared.days.DayAnswer.TheVariants as told
+use Rattle.http_api.specs.declared.days.Mark.TheVariants.{Working}
+use Rattle.http_api.specs.declared.replies.Reply.TheVariants as replies
+use Rattle.office.specs.Edits.{IsFaulted}
+use Rattle.office_inputs.specs.Stations.{StationRecord, station_of}
+use Rattle.office_inputs.specs.declared.refusals.Refusal.TheVariants.{JournalFault}
+use Rattle.wire.specs.ReplyHead.{reply_bytes}
+use Rattle.wire.specs.declared.messages.Message.{Message}
+use Rattle.wire.specs.declared.messages.Message.TheVariants as messages
+use Rattle.wire.specs.declared.replies.Kind.TheVariants.{Json}
+
+-- an answer of this body
+abbrev pub answer_bytes : List ℕ → List ℕ
+answer_bytes body = reply_bytes (status_by None) Json None body
+
+-- the reply to an edit by its verdict, where it would be accepted under this number
+abbrev pub edit_reply : Verdict → ℕ → List ℕ
+edit_reply (Repeats earlier) number = bytes_of (replies.Edit earlier true)
+edit_reply (Refuses refusal) number = bytes_of (replies.Refused refusal)
+edit_reply Accepts number = bytes_of (replies.Edit number false)
+
+-- what has happened once an edit was answered
+abbrev pub history_by : Verdict → History → Edit → History
+history_by (Repeats earlier) h edit = h
+history_by (Refuses refusal) h edit = h
+history_by Accepts h edit = after_edit h edit
+
+-- the reply for a station, and for a day
+abbrev pub station_reply : Option StationRecord → List ℕ
+station_reply None = bytes_of replies.NoStation
+station_reply (Some station) = answer_bytes (station_text station)
+
+abbrev pub day_reply : DayAnswer → List ℕ
+day_reply days.NoStation = bytes_of replies.NoStation
+day_reply (days.Pending edit) = answer_bytes (answer_members (told.Pending edit) ++ status_member Working)
+day_reply (days.Computed value) = answer_bytes (value_members value ++ status_member Working)
+
+-- the reply once days were published: how many are pending then, and how many fewer that is
+abbrev pub turned_reply : History → History → List ℕ
+turned_reply h after =
+    bytes_of (replies.Turned (length (pending_days after.events)) (length (pending_days h.events) - length (pending_days after.events)))
+
+-- what has happened once an ask was answered, where no disk failed and memory did not run out
+abbrev pub history_after : History → Ask → History
+history_after h (asks.Edit edit) = history_by (verdict h edit) h edit
+history_after h (asks.Station site) = h
+history_after h (asks.DayOf site day) = h
+history_after h (asks.Turns count) = after_turns count h
+history_after h asks.Settle = after_settlement h
+history_after h asks.Counts = h
+
+-- and the reply, whole
+abbrev pub reply_to : History → Ask → List ℕ
+reply_to h (asks.Edit edit) = edit_reply (verdict h edit) (length (accepted h.events) + 1)
+reply_to h (asks.Station site) = station_reply (station_of (stations_at h.events) site)
+reply_to h (asks.DayOf site day) = day_reply (answer_at h.events site day)
+reply_to h (asks.Turns count) = turned_reply h (after_turns count h)
+reply_to h asks.Settle = turned_reply h (after_settlement h)
+reply_to h asks.Counts = bytes_of (replies.Counts (length (accepted h.events)) (length (pending_days h.events)))
+
+-- the reply of a journal that failed at an edit, and of want of memory
+abbrev pub fault_reply : Bool → List ℕ
+fault_reply in_doubt = bytes_of (replies.Refused (JournalFault in_doubt))
+
+abbrev pub memory_reply : List ℕ
+memory_reply = bytes_of replies.NoMemory
+
+-- the journal failed at an edit that nothing else refused
+abbrev pub Fails : History → Ask → List ℕ → History → Type 0
+Fails h (asks.Edit edit) reply next = (in_doubt : Bool) × (reply ≡ fault_reply in_doubt) × IsFaulted h edit next in_doubt
+Fails h (asks.Station site) reply next = ⊥
+Fails h (asks.DayOf site day) reply next = ⊥
+Fails h (asks.Turns count) reply next = ⊥
+Fails h asks.Settle reply next = ⊥
+Fails h asks.Counts reply next = ⊥
+
+-- want of memory leaves the history, but that some of the days were published that were to be
+abbrev pub IsLeftBy : History → Ask → History → Type 0
+IsLeftBy h (asks.Edit edit) next = next ≡ h
+IsLeftBy h (asks.Station site) next = next ≡ h
+IsLeftBy h (asks.DayOf site day) next = next ≡ h
+IsLeftBy h (asks.Turns count) next = (turns : ℕ) × (turns ≤ count) × (next ≡ after_turns turns h)
+IsLeftBy h asks.Settle next = (count : ℕ) × (count ≤ length (pending_days h.events)) × (next ≡ after_publications h (take count (pending_days h.events)))
+IsLeftBy h asks.Counts next = next ≡ h
+
+-- The reply to an ask, and what has happened then: the office's, or that of a journal that failed, or that of want of memory.
+abbrev pub IsAnswered : History → Ask → List ℕ → History → Type 0
+IsAnswered h ask reply next =
+    ((reply ≡ reply_to h ask) × (next ≡ history_after h ask))
+    ⊎ (Fails h ask reply next ⊎ ((reply ≡ memory_reply) × IsLeftBy h ask next))
+
+-- the same, by what a request asks
+abbrev pub IsAnsweredBy : History → Result Question Denied → List ℕ → History → Type 0
+IsAnsweredBy h (Ok asked) reply next = (ask : Ask) × (question ask ≡ asked) × IsAnswered h ask reply next
+IsAnsweredBy h (Err denied) reply next = (reply ≡ bytes_of (replies.Denied denied)) × (next ≡ h)
+
+-- nothing has happened, and the reply is this one, or that of want of memory
+abbrev pub IsTold : History → List ℕ → List ℕ → History → Type 0
+IsTold h due reply next = ((reply ≡ due) ⊎ (reply ≡ memory_reply)) × (next ≡ h)
+
+-- The reply to a message, and what has happened then. Behind a message without a reply nothing is read.
+abbrev pub IsReplied : History → Message → List ℕ → History → Type 0
+IsReplied h (messages.Request verb target body) reply next =
+    IsAnsweredBy h (ask_of verb target body) reply next ⊎ ((reply ≡ memory_reply) × (next ≡ h))
+IsReplied h messages.NoLength reply next = IsTold h (bytes_of replies.NoLength) reply next
+IsReplied h messages.TooLarge reply next = IsTold h (bytes_of replies.TooLarge) reply next
+IsReplied h messages.NoMemory reply next = (reply ≡ memory_reply) × (next ≡ h)
+IsReplied h messages.End reply next = ⊥
+IsReplied h (messages.Malformed at) reply next = ⊥
+IsReplied h messages.Long reply next = ⊥
+IsReplied h messages.Failed reply next = ⊥
+
+-- The replies to messages, one to each in order, and what has happened behind them. `Passed` is what may pass in the office between
+-- two replies, by others.
+abbrev pub AreReplies : (History → History → Type 0) → History → List Message → List (List ℕ) → History → Type 0
+AreReplies Passed h [] [] after = Passed h after
+AreReplies Passed h [] (reply ∷ replies) after = ⊥
+AreReplies Passed h (message ∷ messages) [] after = ⊥
+AreReplies Passed h (message ∷ messages) (reply ∷ replies) after =
+    (from : History) × Passed h from × ((next : History) × IsReplied from message reply next × AreReplies Passed next messages replies after)
+
+-- nothing passes between two replies of an office that nobody else asks
+abbrev pub Alone : History → History → Type 0
+Alone before after = after ≡ before

@@ -1,0 +1,311 @@
+//! What is asked is answered by the office, in texts.
+
+ghost use Rattle.std.specs.Prelude.{◌≡◌, ◌≤◌, ◌<◌, ◌^◌, Bool, length, OnOk, OnErr, IfOk, true, false};
+ghost use Rattle.desk.specs.Answering.{IsMade, IsRefusedBy, told_bytes};
+ghost use Rattle.desk.specs.Passing.{Passes};
+ghost use Rattle.desk.specs.Replies.{IsAnswered, IsLeftBy, fault_reply, history_after, memory_reply, reply_to};
+ghost use Rattle.history.specs.Awaited.{pending_days};
+ghost use Rattle.http_api.specs.Replies.{bytes_of};
+ghost use Rattle.http_api.specs.declared.asks.Ask.TheVariants as asks;
+ghost use Rattle.register.specs.Registered.{NoneOut};
+
+use devices::Disk;
+use edits::Edit;
+use fixed_units::{Day, NoMemory, Site, Text};
+use http_api::replies::constants_are_replies;
+use http_api::{Ask, DayAnswer, DayReply, Mark, Reply, write_reply};
+use office::laws::an_office_stands_on_its_disk;
+use office::{Answer, Office};
+use office_inputs::{Refusal, Station};
+use std::alloc::Global;
+use std::marker::Brand;
+use std::sync::ledger::{Blank, Ledger};
+use steps::Steps;
+use wire::NO_MEMORY_REPLY;
+
+/// Which reply is told.
+#[derive(Clone, Copy, Debug, PartialEq, Eq)]
+pub(crate) enum Told {
+    /// The reply that was made.
+    Made,
+    /// That of a journal that failed, and whether that leaves it in doubt of a record.
+    JournalFault(bool),
+    /// That of want of memory.
+    NoMemory,
+}
+
+/// The texts that replies are made in, and the replies to a journal that fails, which stand ready before the office is asked.
+#[derive(Drop)]
+pub(crate) struct Texts {
+    body: Text,
+    reply: Text,
+    settled: Text,
+    doubtful: Text,
+    ghost settled_is: { settled ≡ fault_reply false },
+    ghost doubtful_is: { doubtful ≡ fault_reply true },
+}
+
+impl Texts {
+    /// The texts before the first message.
+    pub(crate) fn new(alloc: Global) -> Result<Texts, NoMemory> {
+        let mut body = Text::new(alloc);
+        let settled = fault_text(alloc, false, &mut body)?;
+        let doubtful = fault_text(alloc, true, &mut body)?;
+        Ok(Texts {
+            body,
+            reply: Text::new(alloc),
+            settled,
+            doubtful,
+        })
+    }
+
+    /// The bytes of a reply.
+    pub(crate) fn bytes(&self, told: Told) -> &[u8]
+        ensures { result.now ≡ told_bytes told self.now.reply }
+    {
+        match told {
+            Told::Made => self.reply.as_slice(),
+            Told::JournalFault(false) => self.settled.as_slice(),
+            Told::JournalFault(true) => self.doubtful.as_slice(),
+            Told::NoMemory => no_memory(),
+        }
+    }
+
+    /// Makes a reply.
+    fn make(&mut self, reply: &Reply<'_>) -> Result<(), NoMemory>
+        ensures { OnOk result (self.new.reply ≡ bytes_of reply.now) }
+    {
+        write_reply(reply, &mut self.body, &mut self.reply)
+    }
+
+    /// Which reply a refused edit gets.
+    fn refuse(&mut self, refusal: Refusal) -> Told
+        ensures refused { IsRefusedBy refusal (told_bytes result self.new.reply) }
+        ensures fault { (in_doubt : Bool) → refusal ≡ Refusal.JournalFault in_doubt → told_bytes result self.new.reply ≡ fault_reply in_doubt }
+    {
+        match refusal {
+            Refusal::NoMemory => Told::NoMemory,
+            Refusal::JournalFault(in_doubt) => Told::JournalFault(in_doubt),
+            other => told_by(write_refusal(other, &mut self.body, &mut self.reply)),
+        }
+    }
+
+    /// Makes a reply, or tells that there was no memory for it.
+    pub(crate) fn tell(&mut self, reply: &Reply<'_>) -> Told
+        ensures { IsMade reply.now (told_bytes result self.new.reply) }
+    {
+        match self.make(reply) {
+            Ok(()) => Told::Made,
+            Err(_) => Told::NoMemory,
+        }
+    }
+}
+
+/// Answers an ask, in the texts.
+pub(crate) fn answer<D: Disk>(office: &mut Office<D>, ask: Ask, texts: &mut Texts) -> Told
+    requires claims { NoneOut office.old.register }
+    ensures answered { IsAnswered office.old.register.history ask (told_bytes result texts.new.reply) office.new.register.history }
+    ensures passed { Passes D.Disk office.old.register.history office.new.register.history office.old.disk office.new.disk }
+    ensures claims { NoneOut office.new.register }
+    ensures counted { D.faults office.old.disk ≤ D.faults office.new.disk }
+{
+    an_office_stands_on_its_disk(office);
+    match ask {
+        Ask::Edit(edit) => take_edit(office, edit, texts),
+        Ask::Station(site) => told_by(tell_station(office, site, texts)),
+        Ask::DayOf(site, day) => told_by(tell_day(office, site, day, texts)),
+        Ask::Turns(count) => told_by(take_turns(office, count, texts)),
+        Ask::Settle => told_by(settle(office, texts)),
+        Ask::Counts => told_by(tell_counts(office, texts)),
+    }
+}
+
+/// Takes an edit.
+fn take_edit<D: Disk>(office: &mut Office<D>, edit: Edit, texts: &mut Texts) -> Told
+    requires claims { NoneOut office.old.register }
+    ensures answered { IsAnswered office.old.register.history (asks.Edit edit) (told_bytes result texts.new.reply) office.new.register.history }
+    ensures passed { Passes D.Disk office.old.register.history office.new.register.history office.old.disk office.new.disk }
+    ensures claims { NoneOut office.new.register }
+    ensures counted { D.faults office.old.disk ≤ D.faults office.new.disk }
+{
+    take_edit_counted::<D, Brand>(office, edit, texts, Blank::new(1))
+}
+
+/// The same, with a counter that nobody reads. The text of the acceptance is made first, so that want of memory leaves the office and
+/// its disk as they were.
+fn take_edit_counted<D: Disk, L: Ledger>(
+    office: &mut Office<D>,
+    edit: Edit,
+    texts: &mut Texts,
+    blank: Blank,
+) -> Told
+    requires name { blank.name ≡ L.name }
+    requires parts { blank.parts ≡ L.parts }
+    requires some { 0 < blank.parts }
+    requires claims { NoneOut office.old.register }
+    ensures answered { IsAnswered office.old.register.history (asks.Edit edit) (told_bytes result texts.new.reply) office.new.register.history }
+    ensures passed { Passes D.Disk office.old.register.history office.new.register.history office.old.disk office.new.disk }
+    ensures claims { NoneOut office.new.register }
+    ensures counted { D.faults office.old.disk ≤ D.faults office.new.disk }
+{
+    an_office_stands_on_its_disk(office);
+    let accepted = Reply::Edit {
+        number: office.edits().saturating_add(1),
+        repeated: false,
+    };
+    if texts.make(&accepted).is_err() {
+        return Told::NoMemory;
+    }
+    let mut steps = Steps::<L>::new(blank);
+    match office.edit(edit, &mut steps) {
+        Ok(told) if told.repeated => texts.tell(&Reply::Edit {
+            number: told.number,
+            repeated: true,
+        }),
+        Ok(told) => made_for(told.number),
+        Err(refusal) => texts.refuse(refusal),
+    }
+}
+
+/// Tells what is in force at a station.
+fn tell_station<D: Disk>(office: &Office<D>, site: Site, texts: &mut Texts) -> Result<(), NoMemory>
+    ensures { OnOk result (texts.new.reply ≡ reply_to office.now.register.history (asks.Station site)) }
+{
+    match office.station(site) {
+        Some(station) => texts.make(&Reply::Station(station)),
+        None => texts.make(&Reply::NoStation),
+    }
+}
+
+/// Tells what is known of a day.
+fn tell_day<D: Disk>(
+    office: &Office<D>,
+    site: Site,
+    day: Day,
+    texts: &mut Texts,
+) -> Result<(), NoMemory>
+    ensures { OnOk result (texts.new.reply ≡ reply_to office.now.register.history (asks.DayOf site day)) }
+{
+    let answer = match office.answer(site, day) {
+        Answer::NoStation => return texts.make(&Reply::NoStation),
+        Answer::Pending(edit) => DayAnswer::Pending(edit),
+        Answer::Computed(value) => DayAnswer::Computed(value),
+    };
+    texts.make(&Reply::Day(DayReply {
+        day,
+        answer,
+        mark: Mark::Working,
+    }))
+}
+
+/// Tells how many edits were accepted, and how many days are pending.
+fn tell_counts<D: Disk>(office: &Office<D>, texts: &mut Texts) -> Result<(), NoMemory>
+    ensures { OnOk result (texts.new.reply ≡ reply_to office.now.register.history asks.Counts) }
+{
+    texts.make(&Reply::Counts {
+        edits: office.edits(),
+        pending: office.pending(),
+    })
+}
+
+/// Publishes so many days, as far as days are pending.
+fn take_turns<D: Disk>(
+    office: &mut Office<D>,
+    count: u32,
+    texts: &mut Texts,
+) -> Result<(), NoMemory>
+    requires { NoneOut office.old.register }
+    ensures reply { OnOk result (texts.new.reply ≡ reply_to office.old.register.history (asks.Turns count)) }
+    ensures history { OnOk result (office.new.register.history ≡ history_after office.old.register.history (asks.Turns count)) }
+    ensures left { OnErr result (IsLeftBy office.old.register.history (asks.Turns count) office.new.register.history) }
+    ensures claims { NoneOut office.new.register }
+    ensures disk { office.new.disk ≡ office.old.disk }
+{
+    let before = office.pending();
+    turn_often(office, count)?;
+    let pending = office.pending();
+    texts.make(&Reply::Turned {
+        pending,
+        published: before - pending,
+    })
+}
+
+/// Makes so many turns, which end where no day is pending.
+fn turn_often<D: Disk>(office: &mut Office<D>, count: u32) -> Result<(), NoMemory>
+    requires { NoneOut office.old.register }
+    ensures history { OnOk result (office.new.register.history ≡ history_after office.old.register.history (asks.Turns count)) }
+    ensures left { OnErr result (IsLeftBy office.old.register.history (asks.Turns count) office.new.register.history) }
+    ensures fewer { length (pending_days office.new.register.history.events) ≤ length (pending_days office.old.register.history.events) }
+    ensures claims { NoneOut office.new.register }
+    ensures disk { office.new.disk ≡ office.old.disk }
+{
+    for _ in 0..count {
+        if office.turn()?.is_none() {
+            break;
+        }
+    }
+    Ok(())
+}
+
+/// Publishes every day that is pending.
+fn settle<D: Disk>(office: &mut Office<D>, texts: &mut Texts) -> Result<(), NoMemory>
+    requires { NoneOut office.old.register }
+    ensures reply { OnOk result (texts.new.reply ≡ reply_to office.old.register.history asks.Settle) }
+    ensures history { OnOk result (office.new.register.history ≡ history_after office.old.register.history asks.Settle) }
+    ensures left { OnErr result (IsLeftBy office.old.register.history asks.Settle office.new.register.history) }
+    ensures claims { NoneOut office.new.register }
+    ensures disk { office.new.disk ≡ office.old.disk }
+{
+    let published = office.settle()?;
+    texts.make(&Reply::Turned {
+        pending: office.pending(),
+        published,
+    })
+}
+
+/// Which reply is told, where one was made or was not for want of memory.
+fn told_by(made: Result<(), NoMemory>) -> Told
+    ensures made { OnOk made (result ≡ Told.Made) }
+    ensures not { OnErr made (result ≡ Told.NoMemory) }
+{
+    match made {
+        Ok(()) => Told::Made,
+        Err(_) => Told::NoMemory,
+    }
+}
+
+/// The reply to a journal that failed.
+fn fault_text(alloc: Global, in_doubt: bool, body: &mut Text) -> Result<Text, NoMemory>
+    ensures { IfOk result (λ text. text ≡ fault_reply in_doubt) }
+{
+    let mut text = Text::new(alloc);
+    write_refusal(Refusal::JournalFault(in_doubt), body, &mut text)?;
+    Ok(text)
+}
+
+/// The reply to want of memory, which stands ready.
+fn no_memory() -> &'static [u8]
+    ensures { result.now ≡ memory_reply }
+{
+    constants_are_replies();
+    NO_MEMORY_REPLY
+}
+
+/// Makes the reply to a refused edit.
+fn write_refusal(refusal: Refusal, body: &mut Text, out: &mut Text) -> Result<(), NoMemory>
+    ensures { OnOk result (out.new ≡ bytes_of (Reply.Refused refusal)) }
+{
+    // A proof finds what a reply may borrow among the types that its function names.
+    let _station: Option<&Station> = None;
+    let _day: Option<DayReply<'_>> = None;
+    write_reply(&Reply::Refused(refusal), body, out)
+}
+
+/// Which reply an edit gets that was accepted under a number: the one that was made before.
+fn made_for(number: u64) -> Told
+    ensures made { result ≡ Told.Made }
+    ensures number { number < 2 ^ 64 }
+{
+    let _ = number;
+    Told::Made
+}

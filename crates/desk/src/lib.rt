@@ -1,0 +1,7 @@
+//! A session over the office of one thread: messages are read from a source one after another, and each is replied to on a sink.
+#![tactic(auto)]
+
+mod answers;
+pub mod sessions;
+
+pub use sessions::{SessionEnd, session};

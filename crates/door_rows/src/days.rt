@@ -1,0 +1,165 @@
+//! Days that are computed, as they are asked for.
+
+use crate::fixtures::{ADDED, CONFLICT, Exchange, NOT_FOUND, OK, new_journal, pass, pass_anew};
+use std::test::Fail;
+
+const READING: &str =
+    r#"{"kind":"PutReadings","by":"AB","ref":"a2","site":"01646500","readings":[["2024-01-05T05:00:00Z","1.00"]]}"#;
+
+const FIRST_READING: Exchange = ("POST /edits", READING, OK, r#"{"edit":2,"repeated":false}"#);
+
+const SECOND_READING: Exchange = (
+    "POST /edits",
+    r#"{"kind":"PutReadings","by":"AB","ref":"a3","site":"01646500","readings":[["2024-01-05T17:00:00Z","2.00"]]}"#,
+    OK,
+    r#"{"edit":3,"repeated":false}"#,
+);
+
+const THIRD_READING: Exchange = (
+    "POST /edits",
+    r#"{"kind":"PutReadings","by":"AB","ref":"a4","site":"01646500","readings":[["2024-01-06T05:00:00Z","1.00"]]}"#,
+    OK,
+    r#"{"edit":4,"repeated":false}"#,
+);
+
+const SMALLER_GAP: Exchange = (
+    "POST /edits",
+    r#"{"kind":"SetStation","by":"AB","ref":"a5","site":"01646500","name":"POTOMAC","gap":60,"stage_array":"9999999992","discharge_array":"9999999992"}"#,
+    OK,
+    r#"{"edit":5,"repeated":false}"#,
+);
+
+const SETTLED: Exchange = ("POST /settle", "", OK, r#"{"pending":0,"published":2}"#);
+
+const FIFTH: &str = "GET /stations/01646500/days/2024-01-05";
+
+const SIXTH: &str = "GET /stations/01646500/days/2024-01-06";
+
+const WITH_STAGE: &str =
+    r#"{"answer":"computed","covered":0,"discharge":null,"estimated":false,"length":86400,"max":null,"min":null,"stage":"1.50","status":"working"}"#;
+
+const WITHOUT_STAGE: &str =
+    r#"{"answer":"computed","covered":0,"discharge":null,"estimated":false,"length":86400,"max":null,"min":null,"stage":null,"status":"working"}"#;
+
+const EMPTY: &str = r#"{"answer":"computed","empty":true,"status":"working"}"#;
+
+const AWAITS_4: &str = r#"{"answer":"pending","edit":4,"status":"working"}"#;
+
+const AWAITS_5: &str = r#"{"answer":"pending","edit":5,"status":"working"}"#;
+
+/// Both days have a stage until their readings are too far apart.
+const A_SMALLER_GAP: [Exchange; 15] = [
+    ADDED,
+    FIRST_READING,
+    SECOND_READING,
+    THIRD_READING,
+    SETTLED,
+    (FIFTH, "", OK, WITH_STAGE),
+    (SIXTH, "", OK, WITHOUT_STAGE),
+    SMALLER_GAP,
+    (FIFTH, "", OK, AWAITS_5),
+    (SIXTH, "", OK, AWAITS_5),
+    ("GET /status", "", OK, r#"{"edits":5,"pending":2}"#),
+    SETTLED,
+    (FIFTH, "", OK, WITHOUT_STAGE),
+    (SIXTH, "", OK, WITHOUT_STAGE),
+    ("GET /status", "", OK, r#"{"edits":5,"pending":0}"#),
+];
+
+#[test]
+fn a_smaller_gap_changes_both_days(rt: HostRuntime) -> Result<(), Fail> {
+    pass_anew(&rt, rt.alloc(), &A_SMALLER_GAP)
+}
+
+/// A turn publishes the first pending day, and many end where none is left.
+const TURNS: [Exchange; 13] = [
+    ADDED,
+    FIRST_READING,
+    SECOND_READING,
+    THIRD_READING,
+    (FIFTH, "", OK, AWAITS_4),
+    (SIXTH, "", OK, AWAITS_4),
+    ("POST /turns/1", "", OK, r#"{"pending":1,"published":1}"#),
+    (FIFTH, "", OK, WITH_STAGE),
+    (SIXTH, "", OK, AWAITS_4),
+    (
+        "POST /turns/1000",
+        "{",
+        OK,
+        r#"{"pending":0,"published":1}"#,
+    ),
+    (SIXTH, "", OK, WITHOUT_STAGE),
+    (
+        "POST /turns/000000001",
+        "",
+        OK,
+        r#"{"pending":0,"published":0}"#,
+    ),
+    ("POST /settle", "{", OK, r#"{"pending":0,"published":0}"#),
+];
+
+#[test]
+fn turns_publish_days_in_order(rt: HostRuntime) -> Result<(), Fail> {
+    pass_anew(&rt, rt.alloc(), &TURNS)
+}
+
+/// A day that no edit changed is computed and empty at any time.
+const EMPTY_DAYS: [Exchange; 8] = [
+    ADDED,
+    FIRST_READING,
+    ("GET /stations/01646500/days/2024-01-04", "", OK, EMPTY),
+    (SIXTH, "", OK, EMPTY),
+    ("GET /stations/01646500/days/1900-01-01", "", OK, EMPTY),
+    ("POST /settle", "", OK, r#"{"pending":0,"published":1}"#),
+    (SIXTH, "", OK, EMPTY),
+    ("GET /stations/01646500/days/2099-12-31", "", OK, EMPTY),
+];
+
+#[test]
+fn days_without_readings_are_empty(rt: HostRuntime) -> Result<(), Fail> {
+    pass_anew(&rt, rt.alloc(), &EMPTY_DAYS)
+}
+
+/// A station that is not kept is not found, and an edit on it is refused.
+const NO_STATION: [Exchange; 4] = [
+    (
+        "GET /stations/01646500",
+        "",
+        NOT_FOUND,
+        r#"{"code":"NoStation"}"#,
+    ),
+    (FIFTH, "", NOT_FOUND, r#"{"code":"NoStation"}"#),
+    ("POST /edits", READING, CONFLICT, r#"{"code":"NoStation"}"#),
+    ("GET /status", "", OK, r#"{"edits":0,"pending":0}"#),
+];
+
+#[test]
+fn there_is_no_station(rt: HostRuntime) -> Result<(), Fail> {
+    pass_anew(&rt, rt.alloc(), &NO_STATION)
+}
+
+/// What is known of both days once the journal is opened anew.
+const OPENED_ANEW: [Exchange; 6] = [
+    ("GET /status", "", OK, r#"{"edits":4,"pending":2}"#),
+    (FIFTH, "", OK, AWAITS_4),
+    (SIXTH, "", OK, AWAITS_4),
+    SETTLED,
+    (FIFTH, "", OK, WITH_STAGE),
+    (SIXTH, "", OK, WITHOUT_STAGE),
+];
+
+#[test]
+fn every_changed_day_is_pending_again(rt: HostRuntime) -> Result<(), Fail> {
+    let mut cabinet = new_journal(rt.alloc())?;
+    let before = [
+        ADDED,
+        FIRST_READING,
+        SECOND_READING,
+        THIRD_READING,
+        SETTLED,
+        ("GET /status", "", OK, r#"{"edits":4,"pending":0}"#),
+    ];
+    pass(&rt, rt.alloc(), &mut cabinet, &before)?;
+    pass(&rt, rt.alloc(), &mut cabinet, &OPENED_ANEW)?;
+    pass(&rt, rt.alloc(), &mut cabinet, &OPENED_ANEW)
+}

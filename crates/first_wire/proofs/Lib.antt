@@ -1,4 +1,0 @@
-pub mod FramingLemmas
-pub mod HeadLemmas
-pub mod IncomingLemmas
-pub mod ReplyLemmas

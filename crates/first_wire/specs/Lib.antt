@@ -1,6 +1,0 @@
-pub mod Found
-pub mod Framing
-pub mod Incoming
-pub mod Looking
-pub mod Messages
-pub mod ReplyHead

@@ -37,14 +37,12 @@ def mount(place, options):
 
 
 def full_file_system(program, place):
-    """Readings until the file system is full, then with room again."""
+    """A station and readings until the file system is full, then with room again."""
     mount(place, "size=300k")
     journal = f"{place}/journal"
     expect("init", (0, ""), run(program, ["init", "--journal", journal])[::2])
     count = 12_000
-    status, output, line = run(
-        program, ["batch", "--journal", journal], b"".join(journals.request(journals.FIRST + 60 * n) for n in range(count))
-    )
+    status, output, line = run(program, ["batch", "--journal", journal], journals.requests(range(1, count + 1)))
     expect("batch until the file system is full", (0, ""), (status, line))
     accepted, faults = output.count(b'{"edit":'), output.count(FAULT)
     in_doubt = output.count(FAULT + b"true")
@@ -55,7 +53,7 @@ def full_file_system(program, place):
         raise SystemExit(f"{accepted} accepted and {len(kept)} kept")
     print(f"    {accepted} accepted and kept, {faults} answered 503, none in doubt")
     subprocess.run(["mount", "-o", "remount,size=600k", place], check=True)
-    status, output, line = run(program, ["batch", "--journal", journal], journals.request(1))
+    status, output, line = run(program, ["batch", "--journal", journal], journals.request(count + 1))
     expect("batch with room again", (0, ""), (status, line))
     if b'{"edit":%d,' % (accepted + 1) not in output:
         raise SystemExit(f"the next edit was answered {output!r}")
@@ -81,14 +79,14 @@ def limit_on_the_size_of_files(program, place):
     """The system kills a program that writes past it; what was acknowledged is kept, and the next run goes on."""
     journal = f"{place}/journal"
     expect("init", (0, ""), run(program, ["init", "--journal", journal])[::2])
-    data = b"".join(journals.request(journals.FIRST + 60 * n) for n in range(200))
+    data = journals.requests(range(1, 201))
     status, output, line = run(program, ["batch", "--journal", journal], data, limit_files)
     expect("batch past the limit on the size of files", (-signal.SIGXFSZ, ""), (status, line))
     accepted = output.count(b'{"edit":')
     kept, _ = journals.read(pathlib.Path(journal).read_bytes())
     if accepted == 0 or len(kept) != accepted:
         raise SystemExit(f"{accepted} accepted and {len(kept)} kept")
-    status, output, line = run(program, ["batch", "--journal", journal], journals.request(1))
+    status, output, line = run(program, ["batch", "--journal", journal], journals.request(201))
     expect("batch without the limit", (0, ""), (status, line))
     if b'{"edit":%d,' % (accepted + 1) not in output:
         raise SystemExit(f"the next edit was answered {output!r}")
@@ -113,6 +111,10 @@ def read_only(program, place):
     subprocess.run(["umount", place], check=True)
 
 
+def damaged(at):
+    return f"streamoffice: damaged at {at}\n"
+
+
 def in_the_place_of_a_journal(program, place):
     """A directory, nothing, and files that are no journal: not one byte of them changes."""
     expect("init on a directory", (4, "streamoffice: disk fault\n"), run(program, ["init", "--journal", place])[::2])
@@ -121,15 +123,18 @@ def in_the_place_of_a_journal(program, place):
     expect("batch on nothing", (5, "streamoffice: not a journal\n"), run(program, ["batch", "--journal", name])[::2])
     if os.path.exists(name):
         raise SystemExit("batch made a file")
-    whole = journals.HEADER + journals.block(1, journals.FIRST, journals.STAGE)
+    whole = journals.journal([1])[:-1]
+    missing = damaged(len(whole))
     for what, data, command, wanted in [
         ("an empty file", b"", "batch", (5, "streamoffice: not a journal\n")),
         ("another file", b"twenty bytes of text", "batch", (5, "streamoffice: not a journal\n")),
         ("another file", b"twenty bytes of text", "init", (5, "streamoffice: not a journal\n")),
         ("a journal", whole + b"\0", "init", (8, "streamoffice: journal exists\n")),
-        ("an open gate with nothing behind", journals.HEADER + b"\1", "batch", (5, "streamoffice: damaged at 16\n")),
-        ("a journal without its last gate", whole, "batch", (5, "streamoffice: damaged at 58\n")),
-        ("a record cut short", whole + whole[16:40], "batch", (5, "streamoffice: damaged at 58\n")),
+        ("an open gate with nothing behind", journals.HEADER + b"\1", "batch", (5, damaged(16))),
+        ("a journal without its last gate", whole, "batch", (5, missing)),
+        ("a record cut short", whole + journals.block(2)[:-1], "batch", (5, missing)),
+        ("a reference that comes twice", journals.journal([1, 2, 2]), "batch", (5, damaged(len(journals.journal([1, 2])) - 1))),
+        ("a reading of no station", journals.journal([2]), "batch", (5, damaged(16))),
     ]:
         pathlib.Path(name).write_bytes(data)
         expect(f"{command} on {what}", wanted, run(program, [command, "--journal", name], journals.request(2))[::2])
@@ -163,7 +168,7 @@ def block_device_in_the_place_of_a_journal(program, place):
         print("a block device: can't run here, losetup is missing")
         return
     image = pathlib.Path(place, "image")
-    data = journals.HEADER + b"".join(journals.block(n, journals.FIRST + n, journals.STAGE) for n in range(1, 2000))
+    data = journals.journal(range(1, 2000))
     image.write_bytes(data[: 1 << 16])
     made = subprocess.run(["losetup", "--find", "--show", image], capture_output=True)
     if made.returncode != 0:
@@ -185,8 +190,7 @@ def link_to_a_journal(program, place):
     os.symlink(journal, link)
     expect("init on a link to a journal", (8, "streamoffice: journal exists\n"), run(program, ["init", "--journal", link])[::2])
     for number, name in enumerate([link, journal, link], 1):
-        request = journals.request(journals.FIRST + 60 * number)
-        status, output, line = run(program, ["batch", "--journal", name], request)
+        status, output, line = run(program, ["batch", "--journal", name], journals.request(number))
         expect(f"batch on {'a link to a journal' if name == link else 'the journal'}", (0, ""), (status, line))
         if b'{"edit":%d,"repeated":false}' % number not in output:
             raise SystemExit(f"edit {number} was answered {output!r}")

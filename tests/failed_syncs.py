@@ -24,11 +24,15 @@ import tempfile
 import time
 
 import journals
-from journals import FIRST, STAGE, request
+from journals import request
 
 LOOP_SET_STATUS64, LOOP_GET_STATUS64 = 0x4C04, 0x4C05
 SIZE_LIMIT = slice(32, 40)
 PAGE = 4096
+# A record of a reading, with its gate.
+RECORD = len(journals.block(2))
+# Edits whose records are not acknowledged.
+LOST, LATER = 100_000, 100_001
 # How long a sync is held back, for its blocks to be taken away meanwhile.
 HELD = "8s"
 
@@ -111,7 +115,7 @@ class Run:
         )
 
     def send(self, number):
-        self.process.stdin.write(request(FIRST + 60 * number))
+        self.process.stdin.write(request(number))
         self.process.stdin.flush()
 
     def reply(self):
@@ -165,27 +169,26 @@ class Case:
         print(f"    {what}: {str(got).strip()}")
 
     def accept(self, run, count):
-        """Edits that have to be accepted, with the numbers that come next."""
+        """Edits that have to be accepted, each the next that was not sent yet: first the station, then its readings."""
         for _ in range(count):
             self.sent += 1
             reply = run.edit(self.sent)
             if not reply or '"repeated":false' not in reply:
                 raise SystemExit(f"an edit was answered {reply}")
-            self.acknowledged.append((int(re.search(r'"edit":(\d+)', reply)[1]), FIRST + 60 * self.sent))
+            self.acknowledged.append((int(re.search(r'"edit":(\d+)', reply)[1]), self.sent))
 
     def begun(self):
         """A run that has made edits up to a gate at the end of a page, so that no later edit writes to that page."""
         self.want("init", (0, ""), self.status("init"))
         run = Run(self.program, self.journal)
         self.accept(run, 1)
-        while (os.path.getsize(self.journal) - 1) % PAGE < PAGE - 40:
+        while (os.path.getsize(self.journal) - 1) % PAGE < PAGE - RECORD:
             self.accept(run, 1)
         return run
 
     def gate_is_open(self):
         """Whether the gate behind the records that were acknowledged is open."""
-        blocks = (journals.block(number, at, STAGE) for number, at in self.acknowledged)
-        end = len(journals.HEADER) + sum(len(block) for block in blocks)
+        end = len(journals.journal(sent for _, sent in self.acknowledged)) - 1
         return pathlib.Path(self.journal).read_bytes()[end : end + 1] == b"\1"
 
     def served(self, count=200):
@@ -201,7 +204,7 @@ class Case:
             found, _ = journals.read(pathlib.Path(self.journal).read_bytes())
         except journals.Damaged as damage:
             return f"damaged at {damage}"
-        wanted = {number: journals.payload(number, at, STAGE) for number, at in self.acknowledged}
+        wanted = {number: journals.payload(sent) for number, sent in self.acknowledged}
         lost = [number for number in wanted if found[number - 1 : number] != [wanted[number]]]
         return f"{len(lost)} lost, the first {lost[0]}" if lost else "all kept"
 
@@ -215,7 +218,7 @@ def killed_while(case, held, what, is_so):
     """An edit is sent, and the run is killed at the sync of that number, once it is so. The blocks go before the kill,
     and so are gone when the system writes what the run left."""
     run = Run(case.program, case.journal, held)
-    run.send(100_000)
+    run.send(LOST)
     wait_until(what, is_so)
     with case.system.failing():
         run.kill()
@@ -233,8 +236,8 @@ def sync_of_init(case):
 def sync_of_a_record(case):
     run = case.begun()
     with case.system.failing():
-        case.want("the edit", '{"code":"JournalFault","in_doubt":false}', run.edit(100_000))
-    case.want("an edit after it in the same run", '{"code":"JournalFault","in_doubt":false}', run.edit(100_001))
+        case.want("the edit", '{"code":"JournalFault","in_doubt":false}', run.edit(LOST))
+    case.want("an edit after it in the same run", '{"code":"JournalFault","in_doubt":false}', run.edit(LATER))
     case.want("the end of the run", (0, b""), run.end())
     case.served()
 
@@ -242,11 +245,11 @@ def sync_of_a_record(case):
 def sync_of_a_gate(case):
     case.begun().end()
     run = Run(case.program, case.journal, case.held_gate)
-    run.send(100_000)
+    run.send(LOST)
     wait_until("the gate is written", case.gate_is_open)
     with case.system.failing():
         case.want("the edit", '{"code":"JournalFault","in_doubt":true}', run.reply())
-    case.want("an edit after it in the same run", '{"code":"JournalFault","in_doubt":true}', run.edit(100_001))
+    case.want("an edit after it in the same run", '{"code":"JournalFault","in_doubt":true}', run.edit(LATER))
     case.want("the end of the run", (0, b""), run.end())
     case.served()
 
@@ -267,7 +270,7 @@ def killed_before_the_sync_of_a_gate(case):
 def sync_of_an_opening(case):
     case.begun().end()
     run = Run(case.program, case.journal, case.held_gate)
-    run.send(100_000)
+    run.send(LOST)
     wait_until("the gate is written", case.gate_is_open)
     with case.system.failing():
         run.kill()
@@ -279,7 +282,7 @@ def sync_of_an_opening(case):
 def copy_whose_sync_failed(case):
     """Another program put the journal there, and was told that its sync failed. Nothing is acknowledged over it."""
     with open(case.journal, "wb") as file:
-        file.write(journals.HEADER + b"".join(journals.block(n, FIRST - n, STAGE) for n in range(1, 1001)) + b"\0")
+        file.write(journals.journal(range(1, 1001)))
         file.flush()
         with case.system.failing():
             try:

@@ -3,10 +3,10 @@
 
     python3 tests/killed_runs.py PROGRAM [--runs 200] [--folder .] [--seed 1]
 
-Each run begins from a new journal. A stream of readings is sent to `batch --journal`, and SIGKILL comes at a random
-moment while it answers. Then the journal must hold every edit whose reply was written, byte for byte and in order, and
-at most one more; and the program must open it again and give the next edit the next number. Prints a table of what was
-found, and ends with status 1 at the first run that is not so. 200 runs take about half a minute.
+Each run begins from a new journal. A station and a stream of its readings are sent to `batch --journal`, and SIGKILL
+comes at a random moment while it answers. Then the journal must hold every edit whose reply was written, byte for byte
+and in order, and at most one more; and the program must open it again and give the next edit the next number. Prints a
+table of what was found, and ends with status 1 at the first run that is not so. 200 runs take about half a minute.
 
 A kill stops the program and not the disk: what the disk keeps at a power cut is what the sync calls ask for, and is not
 tested here.
@@ -24,15 +24,9 @@ import time
 import journals
 
 REPLY = b'{"edit":'
-READINGS = 4000
-
-
-def readings(chance):
-    """Instants and stages, in order of time."""
-    at = journals.FIRST
-    for _ in range(READINGS):
-        at += chance.randrange(1, 900)
-        yield at, chance.randrange(0, 9_000_000)
+EDITS = 4000
+# A record of a reading, with its gate.
+RECORD = len(journals.block(2))
 
 
 def feed(stream, data):
@@ -44,13 +38,13 @@ def feed(stream, data):
 
 
 def killed_run(program, journal, chance):
-    """Kills one run; the readings that were sent, and how many were acknowledged."""
-    sent = list(readings(chance))
+    """Kills one run; the stages that were sent, one for each edit, and how many edits were acknowledged."""
+    sent = [chance.randrange(0, 9_000_000) for _ in range(EDITS)]
     subprocess.run([program, "init", "--journal", journal], check=True)
     process = subprocess.Popen(
         [program, "batch", "--journal", journal], stdin=subprocess.PIPE, stdout=subprocess.PIPE
     )
-    data = b"".join(journals.request(at, raw) for at, raw in sent)
+    data = b"".join(journals.request(number, raw) for number, raw in enumerate(sent, 1))
     feeder = threading.Thread(target=feed, args=(process.stdin, data))
     feeder.start()
     stopper = threading.Timer(chance.uniform(0.0, 0.25), process.kill)
@@ -66,15 +60,15 @@ def check(program, journal, sent, acknowledged):
     """What the journal holds beyond what was acknowledged, and the bytes behind its closed gate."""
     kept, behind = journals.read(pathlib.Path(journal).read_bytes())
     for number, found in enumerate(kept, 1):
-        wanted = journals.payload(number, *sent[number - 1])
+        wanted = journals.payload(number, sent[number - 1])
         if found != wanted:
             raise SystemExit(f"record {number} is {found.hex()}, not {wanted.hex()}")
     more = len(kept) - acknowledged
     if more not in (0, 1):
         raise SystemExit(f"{acknowledged} edits were acknowledged, and {len(kept)} are kept")
-    again = subprocess.run(
-        [program, "batch", "--journal", journal], input=journals.request(journals.FIRST), capture_output=True
-    )
+    # The next edit, under a reference that no other one has; the station, where nothing was kept.
+    following = journals.request(EDITS + 1 if kept else 1)
+    again = subprocess.run([program, "batch", "--journal", journal], input=following, capture_output=True)
     if again.returncode != 0 or REPLY + b"%d," % (len(kept) + 1) not in again.stdout:
         raise SystemExit(f"opened again: status {again.returncode}, {again.stdout!r}, {again.stderr!r}")
     return more, behind
@@ -90,14 +84,14 @@ def main():
     program = str(pathlib.Path(given.program).resolve())
     chance = random.Random(given.seed)
     table = collections.Counter()
-    most, least, total, ended = 0, READINGS, 0, 0
+    most, least, total, ended = 0, EDITS, 0, 0
     began = time.monotonic()
     with tempfile.TemporaryDirectory(dir=given.folder) as place:
         for number in range(given.runs):
             journal = str(pathlib.Path(place) / f"journal-{number}")
             sent, acknowledged, status = killed_run(program, journal, chance)
             more, behind = check(program, journal, sent, acknowledged)
-            table[more, "nothing" if behind == 0 else "a part of a record" if behind < 42 else "a record"] += 1
+            table[more, "nothing" if behind == 0 else "a part of a record" if behind < RECORD else "a record"] += 1
             most, least, total = max(most, acknowledged), min(least, acknowledged), total + acknowledged
             ended += status == 0
             pathlib.Path(journal).unlink()

@@ -3,11 +3,12 @@
 
     python3 tests/statuses.py PROGRAM [--long]
 
-Each case states the status, what is on standard output, and the line on standard error; the script ends with status 1 at
-the first that differs. Standard streams that are closed, that can't be read or written, and a journal that another run
-has open are among the cases. It takes seconds; with --long also the status that comes after 2^36 bytes of input, which
-takes a minute or two.
+Each case states the status, what is on standard output, and the line on standard error; the script ends with status 1
+at the first that differs. The statuses of replies are among them. Standard streams that are closed, that can't be read
+or written, and a journal that another run has open are among the cases. It takes seconds; with --long also the status
+that comes after 2^36 bytes of input, which takes a minute or two.
 """
+import json
 import os
 import pathlib
 import resource
@@ -16,22 +17,27 @@ import sys
 import tempfile
 
 import journals
-from journals import FIRST, STAGE, request
+from journals import request, requests
 
 USAGE = b"streamoffice: usage: init, batch, serve, stations or trial\n"
 INPUT_FAULT, OUTPUT_FAULT = b"streamoffice: input fault\n", b"streamoffice: output fault\n"
 DISK_FAULT = b"streamoffice: disk fault\n"
 NOT_A_JOURNAL, EXISTS = b"streamoffice: not a journal\n", b"streamoffice: journal exists\n"
-EMPTY = journals.HEADER + b"\0"
-ONE = journals.HEADER + journals.block(1, FIRST, STAGE) + b"\0"
+# Journals of no edits, of a station, and of a station with a reading.
+EMPTY, STATION, READING = (journals.journal(range(1, edits + 1)) for edits in range(3))
 
 
-def reply(number):
-    body = b'{"edit":%d,"repeated":false}' % number
-    return b"HTTP/1.1 200 OK\r\nContent-Type: application/json\r\nContent-Length: %d\r\n\r\n%s" % (len(body), body)
+def answer(status, body, allow=b""):
+    head = b"HTTP/1.1 %s\r\nContent-Type: application/json\r\n%sContent-Length: %d\r\n\r\n"
+    return head % (status, allow, len(body)) + body
 
 
-MALFORMED = b"HTTP/1.1 400 Bad Request\r\nContent-Type: application/json\r\nContent-Length: 20\r\n\r\n" b'{"code":"Malformed"}'
+def reply(number, repeated=b"false"):
+    return answer(b"200 OK", b'{"edit":%d,"repeated":%s}' % (number, repeated))
+
+
+MALFORMED = answer(b"400 Bad Request", b'{"code":"Malformed"}')
+NO_STATION = answer(b"409 Conflict", b'{"code":"NoStation"}')
 
 
 class Place:
@@ -81,36 +87,79 @@ def usage(place):
         ["--help"],
         [b"init", b"--journal", b"\xff"],
     ]:
-        expect(f"{words}", (1, b"", USAGE), place.run(words, request(FIRST)))
+        expect(f"{words}", (1, b"", USAGE), place.run(words, request(2)))
         expect("    no journal is made", None, place.content())
 
 
 def ends(place):
     """Each status of a command with its cause, and what the journal has then."""
-    replies = reply(1)
+    cut, both = READING[:-1], reply(1) + reply(2)
     for what, command, before, data, wanted, after in [
         ("init", "init", None, b"", (0, b"", b""), EMPTY),
         ("init over a journal that was begun", "init", EMPTY[:9], b"", (0, b"", b""), EMPTY),
         ("init over no edits", "init", EMPTY, b"", (8, b"", EXISTS), EMPTY),
-        ("init over an edit", "init", ONE, b"", (8, b"", EXISTS), ONE),
+        ("init over an edit", "init", STATION, b"", (8, b"", EXISTS), STATION),
         ("init over another file", "init", b"x" * 18, b"", (5, b"", NOT_A_JOURNAL), b"x" * 18),
         ("batch of nothing", "batch", EMPTY, b"", (0, b"", b""), EMPTY),
-        ("batch of a reading", "batch", EMPTY, request(FIRST), (0, replies, b""), ONE),
-        ("batch on nothing", "batch", None, request(FIRST), (5, b"", NOT_A_JOURNAL), None),
-        ("batch on another file", "batch", b"x" * 18, request(FIRST), (5, b"", NOT_A_JOURNAL), b"x" * 18),
-        ("batch on a damaged one", "batch", ONE[:-1], request(FIRST), (5, b"", b"streamoffice: damaged at 58\n"), ONE[:-1]),
+        ("batch of a station and a reading", "batch", EMPTY, requests([1, 2]), (0, both, b""), READING),
+        ("batch of a reading of no station", "batch", EMPTY, request(2), (0, NO_STATION, b""), EMPTY),
+        ("batch on nothing", "batch", None, request(2), (5, b"", NOT_A_JOURNAL), None),
+        ("batch on another file", "batch", b"x" * 18, request(2), (5, b"", NOT_A_JOURNAL), b"x" * 18),
+        ("batch on a damaged one", "batch", cut, request(2), (5, b"", b"streamoffice: damaged at %d\n" % len(cut)), cut),
         ("batch of no request", "batch", EMPTY, b"x", (9, MALFORMED, b"streamoffice: malformed at 0\n"), EMPTY),
         (
             "batch of a reading and no request",
             "batch",
-            EMPTY,
-            request(FIRST) + b"x",
-            (9, replies + MALFORMED, b"streamoffice: malformed at %d\n" % len(request(FIRST))),
-            ONE,
+            STATION,
+            request(2) + b"x",
+            (9, reply(2) + MALFORMED, b"streamoffice: malformed at %d\n" % len(request(2))),
+            READING,
         ),
     ]:
         expect(what, wanted, place.on_journal(command, before, data))
         expect("    what is left", after, place.content())
+
+
+def post(target, body=b""):
+    return b"POST %s HTTP/1.1\r\nContent-Length: %d\r\n\r\n%s" % (target, len(body), body)
+
+
+def get(target):
+    return b"GET %s HTTP/1.1\r\n\r\n" % target
+
+
+def other(number, **members):
+    """The edit of that number with other members."""
+    head, body = request(number).split(b"\r\n\r\n")
+    return post(b"/edits", json.dumps({**json.loads(body), **members}).encode())
+
+
+def replies(place):
+    """Each status of a reply with its cause, but those of a failing disk and of want of memory."""
+    conflict, bad, missing = b"409 Conflict", b"400 Bad Request", b"404 Not Found"
+    for what, data, wanted in [
+        ("an edit", request(3), reply(3)),
+        ("an edit again", request(2), reply(2, b"true")),
+        ("another edit under its reference", other(2, by="CD"), answer(conflict, b'{"code":"RefReused","edit":2}')),
+        ("a station that is there", other(1, ref="n"), answer(conflict, b'{"code":"StationExists"}')),
+        ("a reading of no station", other(3, site="00000001", ref="n"), NO_STATION),
+        ("an edit that is no JSON", post(b"/edits", b"{"), answer(bad, b'{"code":"Json"}')),
+        ("an edit of no known kind", other(3, kind="Unknown"), answer(bad, b'{"code":"Body","member":"kind"}')),
+        ("an ill formed member", other(3, site="1"), answer(bad, b'{"code":"Body","member":"site"}')),
+        ("a further member", other(3, more=1), answer(bad, b'{"code":"Body","member":"?"}')),
+        ("a question of no station", get(b"/stations/00000001"), answer(missing, b'{"code":"NoStation"}')),
+        ("no target", get(b"/nothing"), answer(missing, b'{"code":"NoRoute"}')),
+        ("no turns", post(b"/turns/0"), answer(missing, b'{"code":"NoRoute"}')),
+        ("a POST where GET is due", post(b"/status"), not_allowed(b"GET")),
+        ("a GET where POST is due", get(b"/settle"), not_allowed(b"POST")),
+        ("a POST without a length", b"POST /settle HTTP/1.1\r\n\r\n", answer(b"411 Length Required", b'{"code":"NoLength"}')),
+        ("a body that is too long", post(b"/edits", b" " * 4_194_305), answer(b"413 Payload Too Large", b'{"code":"TooLarge"}')),
+    ]:
+        expect(f"reply to {what}", (0, wanted, b""), place.on_journal("batch", READING, data))
+
+
+def not_allowed(method):
+    return answer(b"405 Method Not Allowed", b'{"code":"NotAllowed"}', b"Allow: %s\r\n" % method)
 
 
 def closed(*numbers):
@@ -123,11 +172,11 @@ def closed_streams(place):
         expect(f"init, stream {number} closed", (0, b"", b""), place.on_journal("init", None, before=closed(number)))
         expect("    what is left", EMPTY, place.content())
     for number, wanted, after in [
-        (0, (2, b"", INPUT_FAULT), EMPTY),
-        (1, (3, b"", OUTPUT_FAULT), ONE),
-        (2, (0, reply(1), b""), ONE),
+        (0, (2, b"", INPUT_FAULT), STATION),
+        (1, (3, b"", OUTPUT_FAULT), READING),
+        (2, (0, reply(2), b""), READING),
     ]:
-        got = place.on_journal("batch", EMPTY, request(FIRST), before=closed(number))
+        got = place.on_journal("batch", STATION, request(2), before=closed(number))
         expect(f"batch, stream {number} closed", wanted, got)
         expect("    what is left", after, place.content())
     expect("init, all closed", (0, b"", b""), place.on_journal("init", None, before=closed(0, 1, 2)))
@@ -146,10 +195,10 @@ def failing_streams(place):
     os.close(reader)
     got = place.on_journal("batch", EMPTY, stdin=folder)
     expect("batch, its input a folder", (2, b"", INPUT_FAULT), got)
-    got = place.on_journal("batch", EMPTY, request(FIRST), stdout=full)
+    got = place.on_journal("batch", STATION, request(2), stdout=full)
     expect("batch, its output full", (3, b"", OUTPUT_FAULT), got)
-    expect("    what is left", ONE, place.content())
-    got = place.on_journal("batch", EMPTY, request(FIRST), stdout=writer)
+    expect("    what is left", READING, place.content())
+    got = place.on_journal("batch", STATION, request(2), stdout=writer)
     expect("batch, its output without a reader", (3, b"", OUTPUT_FAULT), got)
     got = place.on_journal("batch", EMPTY, b"x", stderr=full)
     expect("batch of no request, its errors full", (9, MALFORMED, b""), got)
@@ -157,21 +206,21 @@ def failing_streams(place):
 
 def another_run(place):
     """A journal that another run has open is not touched."""
-    place.journal.write_bytes(EMPTY)
+    place.journal.write_bytes(STATION)
     words = [place.program, "batch", "--journal", str(place.journal)]
     with subprocess.Popen(words, stdin=subprocess.PIPE, stdout=subprocess.PIPE) as first:
-        first.stdin.write(request(FIRST))
+        first.stdin.write(request(2))
         first.stdin.flush()
-        first.stdout.read(len(reply(1)))
+        first.stdout.read(len(reply(2)))
         for command in ["init", "batch"]:
-            got = place.run([command, "--journal", str(place.journal)], request(FIRST))
+            got = place.run([command, "--journal", str(place.journal)], request(2))
             expect(f"{command} beside another run", (4, b"", DISK_FAULT), got)
-            expect("    what is left", ONE, place.content())
-        first.stdin.write(request(FIRST + 60))
+            expect("    what is left", READING, place.content())
+        first.stdin.write(request(3))
         first.stdin.close()
-        expect("the first run goes on", reply(2), first.stdout.read())
-    got = place.run(["batch", "--journal", str(place.journal)], request(FIRST + 120))
-    expect("batch behind it", (0, reply(3), b""), got)
+        expect("the first run goes on", reply(3), first.stdout.read())
+    got = place.run(["batch", "--journal", str(place.journal)], request(4))
+    expect("batch behind it", (0, reply(4), b""), got)
 
 
 def limit_memory():
@@ -180,8 +229,8 @@ def limit_memory():
 
 def little_memory(place):
     """A long journal where there is memory for few readings alone."""
-    records = b"".join(journals.block(number, FIRST + number, STAGE) for number in range(1, 400_001))
-    got = place.on_journal("batch", journals.HEADER + records + b"\0", request(FIRST), before=limit_memory)
+    content = journals.journal(range(1, 400_001))
+    got = place.on_journal("batch", content, request(2), before=limit_memory)
     expect("batch with little memory", (6, b"", b"streamoffice: out of memory\n"), got)
 
 
@@ -205,7 +254,7 @@ def main():
     if len(sys.argv) not in (2, 3):
         raise SystemExit(__doc__)
     program = str(pathlib.Path(sys.argv[1]).resolve())
-    cases = [usage, ends, closed_streams, failing_streams, another_run, little_memory]
+    cases = [usage, ends, replies, closed_streams, failing_streams, another_run, little_memory]
     for case in cases + [long_input] * ("--long" in sys.argv):
         with tempfile.TemporaryDirectory() as folder:
             case(Place(program, folder))

@@ -17,10 +17,8 @@ import sys
 import tempfile
 
 import journals
-from journals import FIRST, STAGE, request
 
 HEADER = len(journals.HEADER)
-RECORD = len(journals.block(1, FIRST, STAGE))
 FALSE, TRUE = '{"code":"JournalFault","in_doubt":false}', '{"code":"JournalFault","in_doubt":true}'
 DISK_FAULT = "streamoffice: disk fault\n"
 # What strace calls a call, and what it is called here. Reads of a file and questions about it are left out.
@@ -49,8 +47,8 @@ INIT = [*MAKING, f"write {HEADER + 1} at 0", "sync", "close"]
 
 def edit(number):
     """The calls of an edit: its record, with a closed gate behind it, and only then its gate; then its reply."""
-    gate = HEADER + (number - 1) * RECORD
-    return [f"write {RECORD} at {gate + 1}", "sync", f"write 1 at {gate}", "sync", "write output"]
+    gate = len(journals.journal(range(1, number))) - 1
+    return [f"write {len(journals.block(number))} at {gate + 1}", "sync", f"write 1 at {gate}", "sync", "write output"]
 
 
 class Calls:
@@ -61,13 +59,13 @@ class Calls:
         self.journal = f"{self.folder}/journal"
         pathlib.Path(self.folder).mkdir()
 
-    def run(self, command, count=0, *options, shell=(), journal=None):
-        """The program's status, its replies' bodies and its line, for so many readings on its input. It runs in the
-        journal's folder."""
-        readings = b"".join(request(FIRST + n) for n in range(count))
+    def run(self, command, edits=(), *options, shell=(), journal=None):
+        """The program's status, its replies' bodies and its line, for these edits on its input. It runs in the journal's
+        folder."""
+        requests = journals.requests(edits)
         program = [*shell, self.program, command, "--journal", journal or self.journal]
         words = ["strace", "-f", "-y", "-o", self.log, *options, *program]
-        done = subprocess.run(words, input=readings, capture_output=True, timeout=60, cwd=self.folder)
+        done = subprocess.run(words, input=requests, capture_output=True, timeout=60, cwd=self.folder)
         return done.returncode, re.findall(r"\{.*?\}", done.stdout.decode()), done.stderr.decode()
 
     def seen(self):
@@ -113,13 +111,13 @@ def order_of_calls(calls):
     told = ["write line"]
     expect("init over it writes nothing", [*MAKING, "close", *told], calls.seen())
     accepted = ['{"edit":1,"repeated":false}', '{"edit":2,"repeated":false}']
-    expect("batch ends", (0, accepted, ""), calls.run("batch", 2))
+    expect("batch ends", (0, accepted, ""), calls.run("batch", [1, 2]))
     session = [*OPENING, "sync", "read input", *edit(1), *edit(2), "read input", "close"]
     expect("batch: each edit is on the disk before its reply", session, calls.seen())
     expect("batch with nothing to read ends", (0, [], ""), calls.run("batch"))
     expect("batch with nothing to read writes nothing", [*OPENING, "sync", "read input", "close"], calls.seen())
     pathlib.Path(calls.journal).write_bytes(b"another file of some length")
-    expect("batch on another file ends", (5, [], "streamoffice: not a journal\n"), calls.run("batch", 2))
+    expect("batch on another file ends", (5, [], "streamoffice: not a journal\n"), calls.run("batch", [1, 2]))
     expect("batch on another file writes nothing", [*OPENING, "sync", "close", *told], calls.seen())
 
 
@@ -129,11 +127,11 @@ def journal_in_the_folder_of_the_run(calls):
     expect("init of a name alone ends", (0, [], ""), calls.run("init", journal=name))
     expect("init of a name alone syncs the folder too", INIT, calls.seen())
     accepted = ['{"edit":1,"repeated":false}']
-    expect("batch of a name alone ends", (0, accepted, ""), calls.run("batch", 1, journal=name))
+    expect("batch of a name alone ends", (0, accepted, ""), calls.run("batch", [1], journal=name))
     session = [*OPENING, "sync", "read input", *edit(1), "read input", "close"]
     expect("batch of a name alone: the same calls", session, calls.seen())
     pathlib.Path(calls.journal).unlink()
-    faulty = calls.run("init", 0, "-P", calls.folder, fault("fsync", 1), journal=name)
+    faulty = calls.run("init", [], "-P", calls.folder, fault("fsync", 1), journal=name)
     expect("init of a name alone where the folder's sync fails", (4, [], DISK_FAULT), faulty)
 
 
@@ -154,7 +152,7 @@ def faults_of_init(calls):
         ("fdatasync", 2),
     ]:
         pathlib.Path(calls.journal).unlink(missing_ok=True)
-        answer = calls.run("init", 0, *on(calls), fault(call, number))
+        answer = calls.run("init", [], *on(calls), fault(call, number))
         expect(f"init where {call} fails, time {number}", (4, [], DISK_FAULT), answer)
 
 
@@ -164,7 +162,7 @@ def on(calls):
 
 
 def faults_of_batch(calls):
-    accepted = ['{"edit":%d,"repeated":false}' % number for number in range(1, 5)]
+    accepted = ['{"edit":%d,"repeated":false}' % number for number in range(2, 6)]
     for call, number, wanted in [
         ("openat", 1, None),
         ("statx", 1, None),
@@ -177,32 +175,46 @@ def faults_of_batch(calls):
         # A write that failed stops nothing where the gate is closed for sure.
         ("pwrite64", 1, [FALSE, *accepted[:3]]),
         ("pwrite64", 3, [accepted[0], FALSE, *accepted[1:3]]),
-        ("pwrite64", 4, [accepted[0], TRUE, TRUE, TRUE]),
+        # One that failed at a gate is mended before the next edit, and the edit that was in doubt is not there.
+        ("pwrite64", 4, [accepted[0], TRUE, *accepted[1:3]]),
+        ("pwrite64", "4..5", [accepted[0], TRUE, TRUE, accepted[1]]),
         # After a sync that failed nothing is written any more in this run.
         ("fdatasync", 3, [FALSE] * 4),
         ("fdatasync", 5, [accepted[0], *[FALSE] * 3]),
         ("fdatasync", 6, [accepted[0], *[TRUE] * 3]),
     ]:
-        pathlib.Path(calls.journal).write_bytes(journals.HEADER + b"\0")
+        pathlib.Path(calls.journal).write_bytes(journals.journal([1]))
         ended = (4, [], DISK_FAULT) if wanted is None else (0, wanted, "")
-        expect(f"batch where {call} fails, time {number}", ended, calls.run("batch", 4, *on(calls), fault(call, number)))
+        expect(f"batch where {call} fails, time {number}", ended, calls.run("batch", range(2, 6), *on(calls), fault(call, number)))
         if call == "fdatasync" and wanted:
             writes = pathlib.Path(calls.log).read_text().count("pwrite64")
             expect("    and nothing is written after it", number - 2, writes)
         kept, _ = journals.read(pathlib.Path(calls.journal).read_bytes())
-        numbers = [reply for reply in wanted or [] if "edit" in reply]
-        if len(kept) < len(numbers) or len(kept) > len(numbers) + 1:
-            raise SystemExit(f"{len(numbers)} edits were acknowledged, and {len(kept)} are kept")
+        told = [number for number, reply in zip(range(2, 6), wanted or []) if "edit" in reply]
+        acknowledged = [journals.payload(number) for number in [1, *told]]
+        if kept[: len(acknowledged)] != acknowledged or len(kept) > len(acknowledged) + 1:
+            raise SystemExit(f"{len(acknowledged)} edits were acknowledged, and {len(kept)} are kept: {kept}")
+
+
+def mend_of_a_gate(calls):
+    """A gate whose write failed is closed and synced before anything else is written."""
+    pathlib.Path(calls.journal).write_bytes(journals.journal([1]))
+    ended = (0, [TRUE, '{"edit":2,"repeated":false}'], "")
+    expect("a gate in doubt", ended, calls.run("batch", [2, 3], *on(calls), fault("pwrite64", 2)))
+    # The fault is injected into calls on the journal alone, so no others are seen.
+    record, sync, gate, _, _ = edit(2)
+    mended = [record, sync, gate.replace("write 1", "write -1"), gate, sync, record, sync, gate, sync, "close"]
+    expect("a gate in doubt: mended before the next edit", [*OPENING, sync, *mended], calls.seen())
 
 
 def streams_that_are_not_taken_up(calls):
     """A journal is never a standard stream, not even where the root folder, which would stand in, can't be opened."""
     for redirection in ["<&-", ">&-", "2>&-"]:
         shell = ["sh", "-c", f'exec "$@" {redirection}', "sh"]
-        for command, content in [("init", b""), ("batch", journals.HEADER + b"\0")]:
+        for command, content in [("init", b""), ("batch", journals.journal([]))]:
             pathlib.Path(calls.journal).write_bytes(content)
             options = ["-P", "/", "--inject=openat:error=EACCES"]
-            status, replies, _ = calls.run(command, 2, *options, shell=shell)
+            status, replies, _ = calls.run(command, [1, 2], *options, shell=shell)
             expect(f"{command} {redirection}, which nothing stands in for", (4, []), (status, replies))
             expect("    what is left", content, pathlib.Path(calls.journal).read_bytes())
 
@@ -219,6 +231,7 @@ def main():
         journal_in_the_folder_of_the_run,
         faults_of_init,
         faults_of_batch,
+        mend_of_a_gate,
         streams_that_are_not_taken_up,
     ]
     for case in cases:

@@ -7,5 +7,5 @@ pub mod payloads;
 mod reading;
 pub mod writing;
 
-pub use payloads::{DecodeFault, Record, decode, encode, encode_and_close, same_edit};
+pub use payloads::{DecodeFault, Record, decode, encode, encode_and_close};
 pub use writing::edit_len;

@@ -1,8 +1,8 @@
 //! The bytes of a record in the journal, both ways.
 
-ghost use Rattle.std.specs.Prelude.{◌≡◌, ◌≢◌, bytes_eq, IfOk, IfSome, IfNone, Err};
+ghost use Rattle.std.specs.Prelude.{◌≡◌, ◌≢◌, IfOk, IfSome, IfNone, Err};
 ghost use Rattle.records.specs.Drafts.{parts, AreLawful};
-ghost use Rattle.records.specs.Payloads.{IsInGrammar, edit_bytes, payload, encoded, encoded_and_closed};
+ghost use Rattle.records.specs.Payloads.{IsInGrammar, payload, encoded, encoded_and_closed};
 ghost use Rattle.records.specs.declared.payloads.Record.{Record};
 
 use crate::drafts::{is_lawful, record_from};
@@ -52,22 +52,6 @@ pub fn encode_and_close(alloc: Global, piece: &Record) -> Result<Text, NoMemory>
     let mut bytes = encode(alloc, piece)?;
     bytes.push(CLOSED_GATE)?;
     Ok(bytes)
-}
-
-/// Whether two edits are equal in every value, as their bytes tell.
-pub fn same_edit(alloc: Global, edit: &Edit, other: &Edit) -> Result<bool, NoMemory>
-    ensures { IfOk result (λ same. same ≡ bytes_eq (edit_bytes edit.now) (edit_bytes other.now)) }
-{
-    Ok(bytes_of(alloc, edit)? == bytes_of(alloc, other)?)
-}
-
-/// The bytes of an edit.
-fn bytes_of(alloc: Global, edit: &Edit) -> Result<Vec<u8>, NoMemory>
-    ensures { IfOk result (λ bytes. bytes.items ≡ edit_bytes edit.now) }
-{
-    let mut out = Vec::with_capacity(alloc, edit_len(edit))?;
-    put_edit(&mut out, edit)?;
-    Ok(out)
 }
 
 /// The record whose payload this is.

@@ -1,14 +1,21 @@
--- A legal history stays legal with one event more, where that event may come.
-use Rattle.std.specs.Prelude.{◌≡◌, ℕ, suc, ◌+◌, true, List, [], ◌∷◌, ◌++◌, length, map, None, ◌⊎◌, ℤ}
-use Rattle.std.proofs.Common.{arith, refl, ap, sym, subst, ◌∙◌, inl, inr, length-append}
-use Rattle.std.proofs.lemmas.List.{append-nil, append_assoc}
+-- A legal history stays legal with one event more, where that event may come; so does that of an office that is opened again, with the
+-- record in doubt and without it.
+use Rattle.std.specs.Prelude.{◌≡◌, true, List, [], ◌∷◌, ◌++◌, length, map, reverse, Option, Some, None, ◌⊎◌, ℤ}
+use Rattle.std.proofs.Common.{refl, ap, sym, subst, ◌∙◌, inl, inr}
+use Rattle.std.proofs.lemmas.List.{append-nil, append_assoc, map-append, reverse-append, reverse-reverse}
+use Rattle.edits.specs.declared.content.Edit.{Edit}
 use Rattle.fixed_units.specs.Quantities.{SiteNumber}
-use Rattle.history.specs.Accepted.{edits_of, stations_at, named}
-use Rattle.history.specs.After.{reopen, go_on}
+use Rattle.history.specs.Accepted.{accepted, edit_of, named}
+use Rattle.history.specs.After.{MayLeaveInDoubt, doubt, doubt_back, go_on, reopen}
 use Rattle.history.specs.Awaited.{is_pending}
-use Rattle.history.specs.Events.{Event, Accepted, Published, History}
-use Rattle.history.specs.Legal.{IsLegal}
+use Rattle.history.specs.Events.{Event, Accepted, Published, Faulted, History}
+use Rattle.history.specs.Legal.{IsLegal, MayBeKept}
+use Rattle.history.specs.Verdicts.{Accepts, record_of, verdict}
+use Rattle.history.proofs.EventLemmas.{accepted_all, accepted_published, accepted_faulted}
+use Rattle.history.proofs.VerdictLemmas.{accepted_parts}
 use Rattle.office_inputs.specs.Refusals as inputs
+use Rattle.office_inputs.specs.Stations.{stations_of}
+use Rattle.office_inputs.specs.declared.limits.Limits.{Limits}
 use Rattle.records.specs.declared.payloads.Record.{Record}
 
 -- an event stands last, or among the others
@@ -40,11 +47,43 @@ split_last (y ∷ events) e (b ∷ before) x after h =
       | inr q ↦ inr (q.0, ap (λ z. z ∷ events) first ∙ ap (λ l. b ∷ l) q.1)
     ]
 
+-- whether a record may be kept hangs on the edits accepted before
+pub may_be_kept_by : (limits : Limits) (a b : List Event) (piece : Record) → accepted a ≡ accepted b → MayBeKept limits a piece → MayBeKept limits b piece
+may_be_kept_by limits a b piece e m = record {
+  reference = ap (λ (ps : List Record). named (map edit_of ps) piece.edit.reference) (sym e) ∙ m.reference;
+  edit = ap (λ (ps : List Record). inputs.refusal_of limits (stations_of (map edit_of ps)) piece.edit) (sym e) ∙ m.edit;
+}
+
 -- what the event has to keep to
 pub record MayCome (h : History) (e : Event) : Type 0 where
-  pub reference : (piece : Record) → Accepted piece ≡ e → named (edits_of h.events) piece.edit.reference ≡ None
-  pub edit : (piece : Record) → Accepted piece ≡ e → inputs.refusal_of h.limits (stations_at h.events) piece.edit ≡ None
+  pub accepted : (piece : Record) → Accepted piece ≡ e → MayBeKept h.limits h.events piece
+  pub in_doubt : (piece : Record) → Faulted (Some piece) ≡ e → MayBeKept h.limits h.events piece
   pub publication : (site : SiteNumber) (day : ℤ) → Published site day ≡ e → is_pending h.events site day ≡ true
+
+-- the events that may come: the acceptance of a record, a publication, a fault
+pub may_accept : (h : History) (piece : Record) → MayBeKept h.limits h.events piece → MayCome h (Accepted piece)
+may_accept h piece m = record {
+  accepted = λ other e. let same : other ≡ piece = cc in subst (MayBeKept h.limits h.events) (sym same) m;
+  in_doubt = λ other e. absurd (cc);
+  publication = λ site day e. absurd (cc);
+}
+
+pub may_publish : (h : History) (site : SiteNumber) (day : ℤ) → is_pending h.events site day ≡ true → MayCome h (Published site day)
+may_publish h site day pending = record {
+  accepted = λ piece e. absurd (cc);
+  in_doubt = λ piece e. absurd (cc);
+  publication = λ s d e.
+      let own : s ≡ site = cc in
+      let its : d ≡ day = cc in
+      rw (own, its) pending;
+}
+
+pub may_fault : (h : History) (left : Option Record) → ((piece : Record) → left ≡ Some piece → MayBeKept h.limits h.events piece) → MayCome h (Faulted left)
+may_fault h left m = record {
+  accepted = λ piece e. absurd (cc);
+  in_doubt = λ piece e. let same : left ≡ Some piece = cc in m piece same;
+  publication = λ site day e. absurd (cc);
+}
 
 goes_on : (h : History) (first : List Record) (since : List Event) (e : Event) → h ≡ go_on (reopen h.limits first) since
     → go_on h (e ∷ []) ≡ go_on (reopen h.limits first) (since ++ e ∷ [])
@@ -59,13 +98,13 @@ legal_more h e k m = record {
   first = k.first;
   since = k.since ++ e ∷ [];
   opened = goes_on h k.first k.since e k.opened;
-  references = λ before after piece s. elim (split_last h.events e before (Accepted piece) after s) [
-    | inl p ↦ ap (λ l. named (edits_of l) piece.edit.reference) p.0 ∙ m.reference piece p.1
-    | inr q ↦ k.references before q.0 piece q.1
+  accepted = λ before after piece s. elim (split_last h.events e before (Accepted piece) after s) [
+    | inl p ↦ subst (λ (l : List Event). MayBeKept h.limits l piece) (sym p.0) (m.accepted piece p.1)
+    | inr q ↦ k.accepted before q.0 piece q.1
   ];
-  edits = λ before after piece s. elim (split_last h.events e before (Accepted piece) after s) [
-    | inl p ↦ ap (λ l. inputs.refusal_of h.limits (stations_at l) piece.edit) p.0 ∙ m.edit piece p.1
-    | inr q ↦ k.edits before q.0 piece q.1
+  doubts = λ before after piece s. elim (split_last h.events e before (Faulted (Some piece)) after s) [
+    | inl p ↦ subst (λ (l : List Event). MayBeKept h.limits l piece) (sym p.0) (m.in_doubt piece p.1)
+    | inr q ↦ k.doubts before q.0 piece q.1
   ];
   publications = λ before after site day s. elim (split_last h.events e before (Published site day) after s) [
     | inl p ↦ ap (λ l. is_pending l site day) p.0 ∙ m.publication site day p.1
@@ -79,7 +118,146 @@ legal_reopened h pieces k e = record {
   first = pieces;
   since = [];
   opened = ap (λ (l : List Event). record { opened = length pieces; limits = h.limits; events = l }) (sym (append-nil (map Accepted pieces)));
-  references = λ before after piece s. k.references before after piece (e ∙ s);
-  edits = λ before after piece s. k.edits before after piece (e ∙ s);
+  accepted = λ before after piece s. k.accepted before after piece (e ∙ s);
+  doubts = λ before after piece s. k.doubts before after piece (e ∙ s);
   publications = λ before after site day s. k.publications before after site day (e ∙ s);
 }
+
+-- where a record was accepted that is accepted again
+record WasAccepted (events before : List Event) (piece : Record) : Type 0 where
+  older : List Event
+  newer : List Event
+  events_are : events ≡ older ++ Accepted piece ∷ newer
+  as_many : accepted older ≡ accepted before
+
+was_accepted : (events before after : List Event) (piece : Record) → map Accepted (accepted events) ≡ before ++ Accepted piece ∷ after → WasAccepted events before piece
+unfolding head_of tail_of
+was_accepted [] before after piece s = absurd (not_nil before (Accepted piece) after s)
+was_accepted (Accepted own ∷ events) [] after piece s =
+    let same : Accepted own ≡ Accepted piece = ap (head_of (Accepted own)) s in
+    record { older = []; newer = events; events_are = ap (λ (x : Event). x ∷ events) same; as_many = refl }
+was_accepted (Accepted own ∷ events) (x ∷ before) after piece s =
+    let same : Accepted own ≡ x = ap (head_of (Accepted own)) s in
+    let rest = was_accepted events before after piece (ap tail_of s) in
+    record {
+      older = Accepted own ∷ rest.older;
+      newer = rest.newer;
+      events_are = ap (λ (l : List Event). Accepted own ∷ l) rest.events_are;
+      as_many = ap (λ (l : List Record). own ∷ l) rest.as_many ∙ ap (λ (y : Event). accepted (y ∷ before)) same;
+    }
+was_accepted (Published site day ∷ events) before after piece s =
+    let rest = was_accepted events before after piece s in
+    record {
+      older = Published site day ∷ rest.older;
+      newer = rest.newer;
+      events_are = ap (λ (l : List Event). Published site day ∷ l) rest.events_are;
+      as_many = rest.as_many;
+    }
+was_accepted (Faulted left ∷ events) before after piece s =
+    let rest = was_accepted events before after piece s in
+    record {
+      older = Faulted left ∷ rest.older;
+      newer = rest.newer;
+      events_are = ap (λ (l : List Event). Faulted left ∷ l) rest.events_are;
+      as_many = rest.as_many;
+    }
+
+-- nothing else is among accepted records
+no_fault : (pieces : List Record) (before after : List Event) (left : Option Record) → map Accepted pieces ≡ before ++ Faulted left ∷ after → ⊥
+unfolding head_of tail_of
+no_fault [] before after left s = not_nil before (Faulted left) after s
+no_fault (own ∷ pieces) [] after left s = let same : Accepted own ≡ Faulted left = ap (head_of (Accepted own)) s in cc
+no_fault (own ∷ pieces) (x ∷ before) after left s = no_fault pieces before after left (ap tail_of s)
+
+no_publication : (pieces : List Record) (before after : List Event) (site : SiteNumber) (day : ℤ) → map Accepted pieces ≡ before ++ Published site day ∷ after → ⊥
+unfolding head_of tail_of
+no_publication [] before after site day s = not_nil before (Published site day) after s
+no_publication (own ∷ pieces) [] after site day s = let same : Accepted own ≡ Published site day = ap (head_of (Accepted own)) s in cc
+no_publication (own ∷ pieces) (x ∷ before) after site day s = no_publication pieces before after site day (ap tail_of s)
+
+-- an office that is opened on the edits that were accepted up to some point
+pub legal_front : (h : History) (events behind : List Event) → IsLegal h → h.events ≡ events ++ behind → IsLegal (reopen h.limits (accepted events))
+legal_front h events behind k e = record {
+  first = accepted events;
+  since = [];
+  opened = ap (λ (l : List Event). record { opened = length (accepted events); limits = h.limits; events = l }) (sym (append-nil (map Accepted (accepted events))));
+  accepted = λ before after piece s.
+      let was = was_accepted events before after piece s in
+      may_be_kept_by h.limits was.older before piece was.as_many
+      (k.accepted was.older (was.newer ++ behind) piece
+      (e ∙ ap (λ (l : List Event). l ++ behind) was.events_are ∙ append_assoc was.older (Accepted piece ∷ was.newer) behind));
+  doubts = λ before after piece s. absurd (no_fault (accepted events) before after (Some piece) s);
+  publications = λ before after site day s. absurd (no_publication (accepted events) before after site day s);
+}
+
+-- on these and one record more
+pub legal_with : (h : History) (events behind : List Event) (piece : Record) → IsLegal h → h.events ≡ events ++ behind → MayBeKept h.limits events piece
+    → IsLegal (reopen h.limits (accepted events ++ piece ∷ []))
+legal_with h events behind piece k e m =
+    let again = reopen h.limits (accepted events) in
+    let kept : MayBeKept h.limits again.events piece = may_be_kept_by h.limits events again.events piece (sym (accepted_all (accepted events))) m in
+    legal_reopened (go_on again (Accepted piece ∷ [])) (accepted events ++ piece ∷ [])
+    (legal_more again (Accepted piece) (legal_front h events behind k e) (may_accept again piece kept)) (sym (map-append Accepted (accepted events) (piece ∷ [])))
+
+-- where the fault came that left the record in doubt: no edit was accepted since
+record WasLeft (back : List Event) (piece : Record) : Type 0 where
+  older : List Event
+  newer : List Event
+  events_are : reverse back ≡ older ++ Faulted (Some piece) ∷ newer
+  as_many : accepted older ≡ accepted (reverse back)
+
+was_left : (back : List Event) (piece : Record) → doubt_back back ≡ Some piece → WasLeft back piece
+unfolding doubt_back
+was_left [] piece h = absurd (cc)
+was_left (Accepted own ∷ back) piece h = absurd (cc)
+was_left (Published site day ∷ back) piece h =
+    let rest = was_left back piece h in
+    let turned : reverse (Published site day ∷ back) ≡ reverse back ++ Published site day ∷ [] = reverse-append (Published site day ∷ []) back in
+    record {
+      older = rest.older;
+      newer = rest.newer ++ Published site day ∷ [];
+      events_are =
+          turned ∙ ap (λ (l : List Event). l ++ Published site day ∷ []) rest.events_are
+          ∙ append_assoc rest.older (Faulted (Some piece) ∷ rest.newer) (Published site day ∷ []);
+      as_many = rest.as_many ∙ sym (accepted_published (reverse back) site day) ∙ ap accepted (sym turned);
+    }
+was_left (Faulted left ∷ back) piece h =
+    let turned : reverse (Faulted left ∷ back) ≡ reverse back ++ Faulted left ∷ [] = reverse-append (Faulted left ∷ []) back in
+    record {
+      older = reverse back;
+      newer = [];
+      events_are = turned ∙ ap (λ (o : Option Record). reverse back ++ Faulted o ∷ []) h;
+      as_many = sym (accepted_faulted (reverse back) left) ∙ ap accepted (sym turned);
+    }
+
+-- the record that a history was in doubt of at some point could still be kept there
+pub front_may_be_kept : (h : History) (events behind : List Event) → IsLegal h → h.events ≡ events ++ behind
+    → (piece : Record) → doubt_back (reverse events) ≡ Some piece → MayBeKept h.limits events piece
+front_may_be_kept h events behind k e piece d =
+    let was = was_left (reverse events) piece d in
+    let same : reverse (reverse events) ≡ events = reverse-reverse events in
+    may_be_kept_by h.limits was.older events piece (was.as_many ∙ ap accepted same)
+    (k.doubts was.older (was.newer ++ behind) piece
+    (e ∙ ap (λ (l : List Event). l ++ behind) (sym same ∙ was.events_are) ∙ append_assoc was.older (Faulted (Some piece) ∷ was.newer) behind))
+
+pub doubt_may_be_kept : (h : History) (piece : Record) → doubt h ≡ Some piece → IsLegal h → MayBeKept h.limits h.events piece
+doubt_may_be_kept h piece d k = front_may_be_kept h h.events [] k (sym (append-nil h.events)) piece d
+
+-- the record of an edit that is accepted
+pub accepted_may_be_kept : (h : History) (edit : Edit) → verdict h edit ≡ Accepts → MayBeKept h.limits h.events (record_of h edit)
+accepted_may_be_kept h edit v =
+    let parts = accepted_parts h edit v in
+    record { reference = parts.new; edit = parts.stations }
+
+-- what a fault leaves the journal in doubt of
+pub left_may_be_kept : (h : History) (edit : Edit) (left : Option Record) → verdict h edit ≡ Accepts → IsLegal h → MayLeaveInDoubt h edit left
+    → (piece : Record) → left ≡ Some piece → MayBeKept h.limits h.events piece
+left_may_be_kept h edit left v k m piece e = elim m [
+  | inl before ↦ doubt_may_be_kept h piece (sym before ∙ e) k
+  | inr other ↦ elim other [
+    | inl none ↦ absurd (let apart : None ≡ Some piece = sym none ∙ e in cc)
+    | inr own ↦
+        let same : record_of h edit ≡ piece = cc in
+        subst (MayBeKept h.limits h.events) same (accepted_may_be_kept h edit v)
+  ]
+]

@@ -5,6 +5,7 @@ pub mod LegalLemmas
 pub mod MergeLemmas
 pub mod NamedLemmas
 pub mod PendingLemmas
+pub mod RepeatLemmas
 pub mod SpanLemmas
 pub mod StationLemmas
 pub mod VerdictLemmas

@@ -80,7 +80,7 @@ cells_by edits a b e =
 abbrev pub pending_at : List Event → SiteNumber → ℕ
 pending_at events site = length (filter (is_pending events site) calendar)
 
-pending_by : (events : List Event) (a b : SiteNumber) → site_place a ≡ site_place b → pending_at events a ≡ pending_at events b
+pub pending_by : (events : List Event) (a b : SiteNumber) → site_place a ≡ site_place b → pending_at events a ≡ pending_at events b
 pending_by events a b e =
     ap (λ (days : List ℤ). length days) (filter_agree (is_pending events a) (is_pending events b) (λ d. ap (λ (o : Option ℕ). is_some o) (awaited_back_by (reverse events) a b d e)) calendar)
 
@@ -193,7 +193,7 @@ pending_sum events =
     ∙ sums_same (λ (s : StationRecord). pending_at events s.site) (λ (s : StationRecord). length (pending_of events s)) (stations_at events)
     (λ k d l. length-map (filter (is_pending events (get_or (stations_at events) k d).site) calendar) (λ day. record { site = (get_or (stations_at events) k d).site; day = day }))
 
-own_site : (site : SiteNumber) → same_site site site ≡ true
+pub own_site : (site : SiteNumber) → same_site site site ≡ true
 own_site site = (Decides-int_eq (site_place site) (site_place site)).1 refl
 
 module _ (events : List Event) (piece : Record) (rising : IsRising place_of (stations_at events)) where

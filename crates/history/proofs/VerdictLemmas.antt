@@ -2,11 +2,12 @@
 use Rattle.std.specs.Prelude.{◌≡◌, ℕ, ◌+◌, ◌≤◌, nat_lt, Bool, true, false, cond, length, Option, Some, None}
 use Rattle.std.proofs.Common.{arith, refl, ap, sym, ◌∙◌}
 use Rattle.std.proofs.lemmas.Bool.{ltb-false}
+use Rattle.edits.specs.Same.{is_same}
 use Rattle.edits.specs.declared.content.Edit.{Edit}
 use Rattle.history.specs.Accepted.{Numbered, accepted, edits_of, named, cell_count, journal_size}
 use Rattle.history.specs.Awaited.{pending_days}
 use Rattle.history.specs.Events.{History}
-use Rattle.history.specs.Verdicts.{Verdict, Repeats, Refuses, Accepts, with_edit, same_edit, or_else, refused_by_stations, is_full_of_events, is_full_of_cells, is_journal_full, refused_where, refusal_of, verdict_of_refusal, verdict_by, verdict}
+use Rattle.history.specs.Verdicts.{Verdict, Repeats, Refuses, Accepts, with_edit, or_else, refused_by_stations, is_full_of_events, is_full_of_cells, is_journal_full, refused_where, refusal_of, verdict_of_refusal, verdict_by, verdict}
 use Rattle.office_inputs.specs.declared.refusals.Refusal.{Refusal}
 use Rattle.office_inputs.specs.declared.refusals.Refusal.TheVariants.{RefReused, HistoryFull, JournalFull}
 use Rattle.office_inputs.specs.declared.refusals.Full.TheVariants as fulls
@@ -25,7 +26,7 @@ again_refused false number h = cc h
 
 not_again : (o : Option Numbered) (edit : Edit) (r : Option Refusal) → verdict_by o edit r ≡ Accepts → o ≡ None
 not_again None edit r h = refl
-not_again (Some other) edit r h = absurd (again_refused (same_edit other.edit edit) other.number h)
+not_again (Some other) edit r h = absurd (again_refused (is_same other.edit edit) other.number h)
 
 not_refused : (r : Option Refusal) → verdict_of_refusal r ≡ Accepts → r ≡ None
 not_refused None h = refl

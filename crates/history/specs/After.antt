@@ -1,9 +1,9 @@
 -- How a history goes on.
-use Rattle.std.specs.Prelude.{ℕ, zero, suc, Bool, List, [], ◌∷◌, ◌++◌, length, map, reverse, slice_get, Option, Some, None, is_some}
+use Rattle.std.specs.Prelude.{◌≡◌, ◌⊎◌, ℕ, zero, suc, Bool, List, [], ◌∷◌, ◌++◌, length, map, reverse, slice_get, Option, Some, None, is_some}
 use Rattle.history.specs.Accepted.{accepted}
 use Rattle.history.specs.Awaited.{SiteDay, pending_days}
 use Rattle.history.specs.Events.{Event, Accepted, Published, Faulted, History}
-use Rattle.history.specs.Verdicts.{with_edit}
+use Rattle.history.specs.Verdicts.{record_of, with_edit}
 use Rattle.edits.specs.declared.content.Edit.{Edit}
 use Rattle.office_inputs.specs.declared.limits.Limits.{Limits}
 use Rattle.records.specs.declared.payloads.Record.{Record}
@@ -62,3 +62,8 @@ doubt_back (Faulted doubt ∷ older) = doubt
 -- the record that the journal is in doubt of, if of any
 abbrev pub doubt : History → Option Record
 doubt h = doubt_back (reverse h.events)
+
+-- what a fault that refuses this edit may leave the journal in doubt of: the record that it was in doubt of before, none, or that of the
+-- edit
+abbrev pub MayLeaveInDoubt : History → Edit → Option Record → Type 0
+MayLeaveInDoubt h edit left = (left ≡ doubt h) ⊎ ((left ≡ None) ⊎ (left ≡ Some (record_of h edit)))

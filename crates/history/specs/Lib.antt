@@ -4,4 +4,5 @@ pub mod Awaited
 pub mod Events
 pub mod Legal
 pub mod Recording
+pub mod Statuses
 pub mod Verdicts

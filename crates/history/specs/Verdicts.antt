@@ -1,5 +1,6 @@
 -- What is said to an edit: that it comes again, why it is refused, or that it is accepted.
-use Rattle.std.specs.Prelude.{ℕ, ◌+◌, nat_lt, Bool, if◌then◌else◌, List, [], ◌∷◌, ◌++◌, length, bytes_eq, Option, Some, None}
+use Rattle.std.specs.Prelude.{ℕ, ◌+◌, nat_lt, Bool, if◌then◌else◌, List, [], ◌∷◌, ◌++◌, length, Option, Some, None}
+use Rattle.edits.specs.Same.{is_same}
 use Rattle.edits.specs.declared.content.Edit.{Edit}
 use Rattle.history.specs.Accepted.{Numbered, accepted, edits_of, stations_at, named, cell_count, journal_size}
 use Rattle.history.specs.Awaited.{pending_days}
@@ -9,7 +10,6 @@ use Rattle.office_inputs.specs.declared.refusals.Refusal.{Refusal}
 use Rattle.office_inputs.specs.declared.refusals.Refusal.TheVariants.{RefReused, HistoryFull, JournalFull}
 use Rattle.office_inputs.specs.declared.refusals.Full.TheVariants as fulls
 use Rattle.office_inputs.specs.declared.limits.Limits.{Limits}
-use Rattle.records.specs.Payloads.{edit_bytes}
 use Rattle.records.specs.declared.payloads.Record.{Record}
 
 -- the record of an edit, as it is accepted now
@@ -19,10 +19,6 @@ record_of h edit = record { edit = edit }
 -- the events with that edit accepted
 abbrev pub with_edit : History → Edit → List Event
 with_edit h edit = h.events ++ Accepted (record_of h edit) ∷ []
-
--- two edits are equal in every value, as their bytes tell
-abbrev pub same_edit : Edit → Edit → Bool
-same_edit a b = bytes_eq (edit_bytes a) (edit_bytes b)
 
 -- the first of two refusals, asked in this order
 abbrev pub or_else : Option Refusal → Option Refusal → Option Refusal
@@ -70,7 +66,7 @@ verdict_of_refusal (Some refusal) = Refuses refusal
 abbrev pub verdict_by : Option Numbered → Edit → Option Refusal → Verdict
 verdict_by None edit refusal = verdict_of_refusal refusal
 verdict_by (Some other) edit refusal =
-    if same_edit other.edit edit then Repeats other.number else Refuses (RefReused other.number)
+    if is_same other.edit edit then Repeats other.number else Refuses (RefReused other.number)
 
 abbrev pub verdict : History → Edit → Verdict
 verdict h edit = verdict_by (named (edits_of h.events) edit.reference) edit (refusal_of h edit)

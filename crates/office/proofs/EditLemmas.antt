@@ -1,12 +1,12 @@
 -- An edit's record is kept, or a fault refuses it: what the journal then is to the history.
-use Rattle.std.specs.Prelude.{◌≡◌, ◌⊎◌, ℕ, ◌+◌, ◌≤◌, Bool, false, List, [], ◌∷◌, ◌++◌, length, reverse, Option, Some, None, is_some, IsSome}
+use Rattle.std.specs.Prelude.{◌≡◌, ◌⊎◌, ℕ, ◌+◌, ◌≤◌, Bool, true, false, List, [], ◌∷◌, ◌++◌, length, reverse, Option, Some, None, is_some, IsSome}
 use Rattle.std.specs.Int.{w32, to_le_bytes}
 use Rattle.std.proofs.Common.{arith, refl, ap, sym, subst, inl, inr, ◌∙◌, length-append}
 use Rattle.std.proofs.lemmas.List.{append-nil, reverse-append}
 use Rattle.devices.specs.declared.disks.Disk.{Ghosts}
 use Rattle.edits.specs.declared.content.Edit.{Edit}
 use Rattle.history.specs.Accepted.{accepted, journal_size}
-use Rattle.history.specs.After.{after_edit, after_fault, doubt, doubt_back}
+use Rattle.history.specs.After.{MayLeaveInDoubt, after_edit, after_fault, doubt, doubt_back}
 use Rattle.history.specs.Events.{Event, Accepted, Faulted, History}
 use Rattle.history.specs.Verdicts.{Accepts, verdict, record_of}
 use Rattle.history.proofs.EventLemmas.{accepted_accepted, accepted_faulted}
@@ -95,6 +95,10 @@ is_taken h edit new number lawful is counted =
     ap length (accepted_accepted h.events (record_of h edit)) ∙ length-append (accepted h.events) (record_of h edit ∷ []) in
     (lawful, counted ∙ ap (λ (n : History). length (accepted n.events)) is ∙ one, is)
 
+of_doubt : (in_doubt : Bool) (piece : Record) (left : Option Record) → left ≡ doubt_of in_doubt piece → (left ≡ None) ⊎ (left ≡ Some piece)
+of_doubt true piece left e = inr e
+of_doubt false piece left e = inl e
+
 module _ {D : Type 0} {g : Ghosts D} (h : History) (left : Option Record) (old : Journal D g) (stands : Stands h left old) where
   pub holds_left : IsSome (g.content old.disk) → Holds (accepted h.events) left old
   holds_left told = subst (λ (o : Option Record). Holds (accepted h.events) o old) (sym stands.left_is) (stands.holds told)
@@ -142,13 +146,21 @@ module _ {D : Type 0} {g : Ghosts D} (h : History) (left : Option Record) (old :
         holds = λ told. rw (same, last) (keeps (accepted h.events) (holds_left (was_told (g.content old.disk) (g.content new.disk) untold told)));
       }
 
+  pub may_leave : (edit : Edit) (after : Option Record) (failed : NotKept)
+      → (is_some after ≡ failed.in_doubt) × ((after ≡ left) ⊎ (after ≡ doubt_of failed.in_doubt (record_of h edit)))
+      → MayLeaveInDoubt h edit after
+  may_leave edit after failed leaves = elim leaves.1 [
+    | inl e ↦ inl (e ∙ stands.left_is)
+    | inr e ↦ inr (of_doubt failed.in_doubt (record_of h edit) after e)
+  ]
+
   pub is_faulted : (edit : Edit) (after : Option Record) (failed : NotKept) → verdict h edit ≡ Accepts
       → (is_some after ≡ failed.in_doubt) × ((after ≡ left) ⊎ (after ≡ doubt_of failed.in_doubt (record_of h edit)))
       → IsFaulted h edit (after_fault h after) failed.in_doubt
   is_faulted edit after failed lawful leaves = record {
     left = after;
     lawful = lawful;
-    doubt_is = record { told = leaves.0; which = elim leaves.1 [ inl e ↦ inl (e ∙ stands.left_is) | inr e ↦ inr e ] };
+    doubt_is = record { told = leaves.0; which = may_leave edit after failed leaves };
     faulted = refl;
   }
 

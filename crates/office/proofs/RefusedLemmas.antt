@@ -1,10 +1,11 @@
 -- A history refuses no edit for a fault of the journal.
 use Rattle.std.specs.Prelude.{◌≡◌, ℕ, Bool, true, false, not, ◌&&◌, cond, List, [], Option, Some, None, IfSome}
 use Rattle.std.proofs.Common.{refl, ap, sym, subst, inl, append-nil}
+use Rattle.edits.specs.Same.{is_same}
 use Rattle.edits.specs.declared.content.Edit.{Edit}
 use Rattle.history.specs.Accepted.{Numbered, edits_of, named, stations_at}
 use Rattle.history.specs.Events.{History}
-use Rattle.history.specs.Verdicts.{Repeats, Refuses, or_else, refused_by_stations, is_full_of_events, is_full_of_cells, is_journal_full, refused_where, refusal_of, same_edit, verdict_of_refusal, verdict_by, verdict}
+use Rattle.history.specs.Verdicts.{Repeats, Refuses, or_else, refused_by_stations, is_full_of_events, is_full_of_cells, is_journal_full, refused_where, refusal_of, verdict_of_refusal, verdict_by, verdict}
 use Rattle.journal.specs.Writing.{Lists}
 use Rattle.office.specs.Edits.{IsRefusedBy, RefusalCalls, is_fault}
 use Rattle.office_inputs.specs.Refusals as inputs
@@ -62,7 +63,7 @@ of_again false number refusal v = let same : RefReused number ≡ refusal = cc i
 of_verdict : (o : Option Numbered) (edit : Edit) (r : Option Refusal) (refusal : Refusal) → NoFault r → verdict_by o edit r ≡ Refuses refusal
     → is_fault refusal ≡ false
 of_verdict None edit r refusal p v = of_refusal r refusal p v
-of_verdict (Some other) edit r refusal p v = of_again (same_edit other.edit edit) other.number refusal v
+of_verdict (Some other) edit r refusal p v = of_again (is_same other.edit edit) other.number refusal v
 
 pub refused_no_fault : (h : History) (edit : Edit) (refusal : Refusal) → verdict h edit ≡ Refuses refusal → is_fault refusal ≡ false
 refused_no_fault h edit refusal v = of_verdict (named (edits_of h.events) edit.reference) edit (refusal_of h edit) refusal (by_history h edit) v

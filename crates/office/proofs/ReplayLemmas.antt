@@ -4,7 +4,6 @@ use Rattle.std.specs.Int.{w32, to_le_bytes}
 use Rattle.std.proofs.Common.{arith, refl, ap, sym, subst, inr, ◌∙◌, length-append}
 use Rattle.std.proofs.lemmas.List.{map-append, reverse-append}
 use Rattle.std.proofs.lemmas.List.Concat.{flat_map-cons}
-use Rattle.std.proofs.lemmas.List.Elements.{All-head, All-tail}
 use Rattle.std.proofs.lemmas.List.Sums.{sum_by-cons}
 use Rattle.devices.specs.declared.disks.Disk.{Ghosts}
 use Rattle.devices.specs.Disks.{IsDurable, NothingNew}
@@ -119,12 +118,8 @@ gate_moves pieces piece before after h k =
     let to = k.gate in
     omega (arith, push, from, to)
 
-last_grammar : (pieces : List Record) (piece : Record) → All InGrammar (pieces ++ piece ∷ []) → InGrammar piece
-last_grammar [] piece h = All-head InGrammar piece [] h
-last_grammar (first ∷ pieces) piece h = last_grammar pieces piece (All-tail InGrammar first (pieces ++ piece ∷ []) h)
-
 -- a record that is not accepted
-refused_here : (content : Option (List ℕ)) (limits : Limits) (pieces : List Record) (piece : Record) (at : ℕ) → InGrammar piece
+refused_here : (content : Option (List ℕ)) (limits : Limits) (pieces : List Record) (piece : Record) (at : ℕ) → All InGrammar (pieces ++ piece ∷ [])
     → IsLegal (reopen limits pieces) → at ≡ length (front pieces) → IsSome (readmission_refusal (reopen limits pieces) piece.edit)
     → IfSome content (λ bytes. (rest : List ℕ) × (bytes ≡ front (pieces ++ piece ∷ []) ++ rest)) → IfSome content (IsDamagedFor limits at)
 refused_here None limits pieces piece at grammar legal place refused bytes = tt
@@ -144,7 +139,7 @@ pub refused_at : {D : Type 0} {g : Ghosts D} (h : History) (pieces : List Record
     → h ≡ reopen h.limits pieces → IsLegal h → HasRead pieces before → HasRead (pieces ++ piece ∷ []) after → at ≡ before.gate
     → IsSome (readmission_refusal h piece.edit) → IfSome (g.content after.ahead.disk) (IsDamagedFor h.limits at)
 refused_at {g = g} h pieces piece before after at reopened legal was read place refused =
-    refused_here (g.content after.ahead.disk) h.limits pieces piece at (last_grammar pieces piece read.grammar) (subst IsLegal reopened legal) (place ∙ was.gate)
+    refused_here (g.content after.ahead.disk) h.limits pieces piece at read.grammar (subst IsLegal reopened legal) (place ∙ was.gate)
     (subst (λ (x : History). IsSome (readmission_refusal x piece.edit)) reopened refused) read.bytes
 
 -- reading on and on writes nothing

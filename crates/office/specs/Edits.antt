@@ -2,10 +2,10 @@
 use Rattle.std.specs.Prelude.{◌≡◌, ◌⊎◌, ℕ, ◌+◌, Bool, true, false, not, List, [], ◌∷◌, ◌++◌, length, Option, is_some, Result, Ok, Err}
 use Rattle.edits.specs.declared.content.Edit.{Edit}
 use Rattle.history.specs.Accepted.{accepted}
-use Rattle.history.specs.After.{after_edit, after_fault, doubt}
+use Rattle.history.specs.After.{MayLeaveInDoubt, after_edit, after_fault}
 use Rattle.history.specs.Events.{History}
-use Rattle.history.specs.Verdicts.{Repeats, Refuses, Accepts, verdict, record_of}
-use Rattle.journal.specs.Keeping.{AppendCalls, doubt_of}
+use Rattle.history.specs.Verdicts.{Repeats, Refuses, Accepts, verdict}
+use Rattle.journal.specs.Keeping.{AppendCalls}
 use Rattle.journal.specs.declared.keeping.AppendFault.TheVariants as append
 use Rattle.office.specs.declared.offices.Accepted.{Accepted}
 use Rattle.office_inputs.specs.declared.refusals.Refusal.{Refusal}
@@ -27,7 +27,7 @@ IsRefused old edit new refusal = (verdict old edit ≡ Refuses refusal) × (new 
 -- this edit, where it may stand there. Whether it is in doubt of a record at all is told.
 pub record IsLeftInDoubt (old : History) (edit : Edit) (in_doubt : Bool) (left : Option Record) : Type 0 where
   pub told : is_some left ≡ in_doubt
-  pub which : (left ≡ doubt old) ⊎ (left ≡ doubt_of in_doubt (record_of old edit))
+  pub which : MayLeaveInDoubt old edit left
 
 -- a fault of the journal refused an edit that nothing else refused
 pub record IsFaulted (old : History) (edit : Edit) (new : History) (in_doubt : Bool) : Type 0 where

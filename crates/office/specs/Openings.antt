@@ -1,5 +1,5 @@
 -- What the opening of an office answers.
-use Rattle.std.specs.Prelude.{◌≡◌, ◌⊎◌, ℕ, List, ◌++◌, length, Option, IsSome, IfSome, ⊤}
+use Rattle.std.specs.Prelude.{◌≡◌, ◌⊎◌, ℕ, ◌≤◌, List, [], ◌∷◌, ◌++◌, length, All, Option, IsSome, IfSome, ⊤}
 use Rattle.devices.specs.Faults.{Rose}
 use Rattle.history.specs.After.{reopen}
 use Rattle.history.specs.Legal.{IsLegal}
@@ -25,7 +25,7 @@ pub record IsRefusedAt (limits : Limits) (at : ℕ) (bytes : List ℕ) : Type 0 
   pub pieces : List Record
   pub piece : Record
   pub rest : List ℕ
-  pub grammar : InGrammar piece
+  pub grammar : All InGrammar (pieces ++ piece ∷ [])
   pub legal : IsLegal (reopen limits pieces)
   pub bytes_are : bytes ≡ front pieces ++ (block piece ++ rest)
   pub place : at ≡ length (front pieces)
@@ -34,6 +34,14 @@ pub record IsRefusedAt (limits : Limits) (at : ℕ) (bytes : List ℕ) : Type 0 
 -- a journal is damaged for an office: at a gate without a record, or with one that is not accepted
 abbrev pub IsDamagedFor : Limits → ℕ → List ℕ → Type 0
 IsDamagedFor limits at bytes = IsDamagedAt at bytes ⊎ IsRefusedAt limits at bytes
+
+-- An office may open on these bytes: they are the journal of the records that were known, or of these and one more, and each of them is
+-- accepted again.
+pub record MayOpen (limits : Limits) (known : List Record) (bytes : List ℕ) : Type 0 where
+  pub more : List Record
+  pub few : length more ≤ 1
+  pub found : IsJournalOf (known ++ more) bytes
+  pub legal : IsLegal (reopen limits (known ++ more))
 
 -- why an office is not opened, over a disk with this content and counts of faults
 abbrev pub IsNotOpened : Option (List ℕ) → Limits → OpenFault → ℕ → ℕ → Type 0

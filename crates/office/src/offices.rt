@@ -3,11 +3,13 @@
 ghost use Rattle.std.specs.Prelude.{◌≡◌, ℕ, List, length, option_map, IsSome, IfSome};
 ghost use Rattle.history.specs.Accepted.{accepted, stations_at};
 ghost use Rattle.history.specs.Awaited.{answer_at, pending_days};
+ghost use Rattle.history.specs.Statuses.{status_at};
 ghost use Rattle.office.specs.Stops.{IsLeft};
 ghost use Rattle.office_inputs.specs.Kept.{in_force};
 ghost use Rattle.office_inputs.specs.Stations.{station_of};
 ghost use Rattle.register.specs.Asked.{answer_told, numbered};
 
+use approval::Status;
 use devices::Disk;
 use fixed_units::{Day, Site};
 use history::Doubt;
@@ -107,6 +109,13 @@ impl<D: Disk> Office<D> {
         ensures { answer_told result ≡ answer_at self.now.register.history.events site day }
     {
         self.register.answer(site, day)
+    }
+
+    /// How far the record of a day is approved, also where its site is not kept. It takes no memory.
+    pub fn status(&self, site: Site, day: Day) -> Status
+        ensures { result ≡ status_at self.now.register.history.events site day }
+    {
+        self.register.status(site, day)
     }
 
     /// The disk. Where it tells what it has, that is the journal of the accepted edits, or of these and the one that is in doubt, and

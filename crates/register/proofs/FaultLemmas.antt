@@ -6,18 +6,20 @@ use Rattle.edits.specs.declared.content.Edit.{Edit}
 use Rattle.fixed_units.specs.Calendar.{calendar}
 use Rattle.fixed_units.specs.Quantities.{SiteNumber}
 use Rattle.history.specs.Accepted.{edit_of, stations_at}
+use Rattle.history.specs.After.{MayLeaveInDoubt, after_fault}
 use Rattle.history.specs.Awaited.{is_pending, pending_days}
 use Rattle.history.specs.Events.{Event, Faulted, History}
 use Rattle.history.specs.Verdicts.{Accepts, record_of, verdict}
 use Rattle.history.proofs.CountLemmas.{filter_same, sums_same}
 use Rattle.history.proofs.EventLemmas.{accepted_faulted, awaited_faulted}
+use Rattle.history.proofs.LegalLemmas.{left_may_be_kept}
 use Rattle.history.proofs.PendingLemmas.{pending_at, pending_sum, pending_more}
 use Rattle.history.proofs.VerdictLemmas.{accepted_parts}
 use Rattle.office_inputs.specs.Kept.{InForce, AreStations}
 use Rattle.office_inputs.specs.Stations.{StationRecord, place_of, stations_of}
 use Rattle.records.specs.declared.payloads.Record.{Record}
 use Rattle.office_inputs.specs.declared.limits.Limits.{Limits}
-use Rattle.register.specs.Keeping.{Keeps}
+use Rattle.register.specs.Keeping.{Keeps, KeepsToTheLimit}
 use Rattle.register.specs.References.{Placed}
 use Rattle.register.specs.Registered.{Registered, registered, IsReady}
 use Rattle.register.proofs.KeepsLemmas.{keeps_faulted}
@@ -42,20 +44,27 @@ module _ (events : List Event) (doubt : Option Record) where
       (λ k d l. pending_there (get_or (stations_at events) k d).site)
       ∙ sym (pending_sum events)
 
-pub fault_fits : (h : History) (edit : Edit) (doubt : Option Record) → IsRising place_of (stations_at h.events) → verdict h edit ≡ Accepts → h.limits.events < 2 ^ 64
-    → length (h.events ++ Faulted doubt ∷ []) + length (pending_days (h.events ++ Faulted doubt ∷ [])) < 2 ^ 64
-fault_fits h edit doubt rising v small =
+pub fault_keeps_to : (h : History) (edit : Edit) (doubt : Option Record) → IsRising place_of (stations_at h.events) → verdict h edit ≡ Accepts
+    → KeepsToTheLimit (after_fault h doubt)
+fault_keeps_to h edit doubt rising v =
     let room = (accepted_parts h edit v).events in
     let more = pending_more h.events (record_of h edit) rising in
     let same = pending_faulted h.events doubt in
     let one = length-append h.events (Faulted doubt ∷ []) in
     omega (arith, room, more, same, one)
 
+pub fault_fits : (h : History) (edit : Edit) (doubt : Option Record) → IsRising place_of (stations_at h.events) → verdict h edit ≡ Accepts → h.limits.events < 2 ^ 64
+    → length (h.events ++ Faulted doubt ∷ []) + length (pending_days (h.events ++ Faulted doubt ∷ [])) < 2 ^ 64
+fault_fits h edit doubt rising v small =
+    let room = fault_keeps_to h edit doubt rising v in
+    omega (arith, room, small)
+
 -- what is kept in memory after a fault
 module _ (opened : ℕ) (inputs : InForce) (cells : List KeptDays) (places : List Placed) (spare : ℕ) (events : List Event)
     (pieces : List Record) (count bytes : ℕ) (kept : Keeps (registered opened inputs cells places spare events) pieces count bytes)
     (now : Registered) (view : registered opened inputs cells places spare events ≡ now) (edit : Edit) (accepts : verdict now.history edit ≡ Accepts)
-    (stations : AreStations inputs.kept) (limits : Limits) (same : limits ≡ inputs.limits) (small : limits.events < 2 ^ 64) (doubt : Option Record) where
+    (stations : AreStations inputs.kept) (limits : Limits) (same : limits ≡ inputs.limits) (small : limits.events < 2 ^ 64) (doubt : Option Record)
+    (may : MayLeaveInDoubt now.history edit doubt) where
   fits_here : length (events ++ Faulted doubt ∷ []) + length (pending_days (events ++ Faulted doubt ∷ [])) < 2 ^ 64
   fits_here =
       fault_fits (record { opened = opened; limits = inputs.limits; events = events }) edit doubt
@@ -73,7 +82,10 @@ module _ (opened : ℕ) (inputs : InForce) (cells : List KeptDays) (places : Lis
   pub keeps_fault : (since : List Event) → since ≡ events ++ Faulted doubt ∷ [] → Keeps (registered opened inputs cells places spare since) pieces (count + 1) bytes
   keeps_fault since e =
       subst (λ (x : List Event). Keeps (registered opened inputs cells places spare x) pieces (count + 1) bytes) (sym e)
-      (keeps_faulted opened inputs cells places spare events pieces count bytes kept doubt (count + 1) refl fits_here)
+      (keeps_faulted opened inputs cells places spare events pieces count bytes kept doubt (count + 1)
+      (left_may_be_kept (record { opened = opened; limits = inputs.limits; events = events }) edit doubt
+      (subst (λ (r : Registered). verdict r.history edit ≡ Accepts) (sym view) accepts) kept.legal
+      (subst (λ (r : Registered). MayLeaveInDoubt r.history edit doubt) (sym view) may)) refl fits_here)
 
   pub ready_after_fault : (since : List Event) → since ≡ events ++ Faulted doubt ∷ [] → (other : Edit) → IsReady now other
       → IsReady (registered opened inputs cells places spare since) other

@@ -10,9 +10,9 @@ use Rattle.fixed_units.specs.Quantities.{SiteNumber}
 use Rattle.history.specs.Accepted.{Numbered, numbered_from, accepted, edit_of, edits_of, stations_at, named, journal_size}
 use Rattle.history.specs.Awaited.{is_pending, pending_days, value_at}
 use Rattle.history.specs.Events.{Event, Accepted, Published, Faulted, History}
-use Rattle.history.specs.Legal.{IsLegal}
+use Rattle.history.specs.Legal.{IsLegal, MayBeKept}
 use Rattle.history.proofs.EventLemmas.{accepted_accepted, accepted_published, accepted_faulted, edits_accepted, stations_accepted}
-use Rattle.history.proofs.LegalLemmas.{MayCome, legal_more, not_nil}
+use Rattle.history.proofs.LegalLemmas.{MayCome, legal_more, may_accept, may_publish, may_fault, not_nil}
 use Rattle.history.proofs.NamedLemmas.{named_kept, named_new}
 use Rattle.office_inputs.specs.Changes.{changed_days}
 use Rattle.office_inputs.specs.Kept.{InForce, in_force}
@@ -35,8 +35,8 @@ keeps_none inputs spare h = record {
     first = [];
     since = [];
     opened = refl;
-    references = λ before after piece s. absurd (not_nil before (Accepted piece) after s);
-    edits = λ before after piece s. absurd (not_nil before (Accepted piece) after s);
+    accepted = λ before after piece s. absurd (not_nil before (Accepted piece) after s);
+    doubts = λ before after piece s. absurd (not_nil before (Faulted (Some piece)) after s);
     publications = λ before after site day s. absurd (not_nil before (Published site day) after s);
   };
   stations = h;
@@ -116,11 +116,8 @@ module _ (opened : ℕ) (inputs : InForce) (cells : List KeptDays) (places : Lis
       → length (events ++ Accepted piece ∷ []) + length (pending_days (events ++ Accepted piece ∷ [])) < 2 ^ 64
       → Keeps (registered opened new more places room (events ++ Accepted piece ∷ [])) (pieces ++ piece ∷ []) counted size
   keeps_accepted piece new more room number counted size unnamed lawful s l n m p c z f w = record {
-    legal = limits_same new.limits (events ++ Accepted piece ∷ []) l (legal_more now (Accepted piece) kept.legal (record {
-      reference = λ other e. let same : other ≡ piece = cc in subst (λ (x : Record). named (edits_of events) x.edit.reference ≡ None) (sym same) unnamed;
-      edit = λ other e. let same : other ≡ piece = cc in subst (λ (x : Record). refusals.refusal_of inputs.limits (stations_at events) x.edit ≡ None) (sym same) lawful;
-      publication = λ site day e. absurd (cc);
-    }));
+    legal = limits_same new.limits (events ++ Accepted piece ∷ []) l (legal_more now (Accepted piece) kept.legal
+        (may_accept now piece (record { reference = unnamed; edit = lawful })));
     stations = s ∙ ap (λ (x : List StationRecord). stations_after x piece.edit) kept.stations ∙ sym (stations_accepted events piece);
     pieces_are = ap (λ (ps : List Record). ps ++ piece ∷ []) kept.pieces_are ∙ sym (accepted_accepted events piece);
     events_are = c ∙ ap (λ k. k + 1) kept.events_are ∙ sym (length-append events (Accepted piece ∷ []));
@@ -170,19 +167,13 @@ module _ (opened : ℕ) (inputs : InForce) (cells : List KeptDays) (places : Lis
       → Keeps (registered opened inputs more places spare (events ++ Published site day ∷ [])) pieces counted bytes
   keeps_published site day value more counted pending v p c w =
       other_event (Published site day) more counted (accepted_published events site day)
-      (record {
-        reference = λ piece e. absurd (cc);
-        edit = λ piece e. absurd (cc);
-        publication = λ s d e.
-            let own : s ≡ site = cc in
-            let its : d ≡ day = cc in
-            rw (own, its) pending;
-      }) c (tells_published events cells more kept.cells_tell site day value v p) w
+      (may_publish now site day pending) c (tells_published events cells more kept.cells_tell site day value v p) w
 
-  pub keeps_faulted : (doubt : Option Record) (counted : ℕ) → counted ≡ count + 1
+  pub keeps_faulted : (doubt : Option Record) (counted : ℕ) → ((piece : Record) → doubt ≡ Some piece → MayBeKept inputs.limits events piece)
+      → counted ≡ count + 1
       → length (events ++ Faulted doubt ∷ []) + length (pending_days (events ++ Faulted doubt ∷ [])) < 2 ^ 64
       → Keeps (registered opened inputs cells places spare (events ++ Faulted doubt ∷ [])) pieces counted bytes
-  keeps_faulted doubt counted c w =
+  keeps_faulted doubt counted may c w =
       other_event (Faulted doubt) cells counted (accepted_faulted events doubt)
-      (record { reference = λ piece e. absurd (cc); edit = λ piece e. absurd (cc); publication = λ s d e. absurd (cc) }) c
+      (may_fault now doubt may) c
       (tells_faulted events cells cells kept.cells_tell doubt) w

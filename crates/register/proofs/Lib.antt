@@ -1,6 +1,7 @@
 pub mod FaultLemmas
 pub mod FoundLemmas
 pub mod KeepsLemmas
+pub mod LimitLemmas
 pub mod NamedPlaceLemmas
 pub mod OpenedLemmas
 pub mod PlaceLemmas

@@ -34,7 +34,7 @@ module _ (events : List Event) (own : SiteNumber) (its : ℤ) where
   abbrev more : List Event
   more = events ++ Published own its ∷ []
 
-  still_pending : (site : SiteNumber) (day : ℤ) → is_pending more site day ≡ (is_pending events site day && not (is_day_of own its site day))
+  pub still_pending : (site : SiteNumber) (day : ℤ) → is_pending more site day ≡ (is_pending events site day && not (is_day_of own its site day))
   still_pending site day = ap (λ (o : Option ℕ). is_some o) (awaited_published events own its site day) ∙ none_by (is_day_of own its site day) (awaited events site day)
 
   left_step : (site : SiteNumber) (day : ℤ) (ys zs : List ℤ) (a b : Bool) → is_day_of own its site day ≡ b
@@ -90,7 +90,7 @@ is_itself d =
     ∙ ap not ((Decides-int_eq d.day d.day).1 refl)
 
 -- the rest is pending behind the publication of the first pending day
-rest_left : (events : List Event) (first : SiteDay) (rest : List SiteDay) → pending_days events ≡ first ∷ rest
+pub rest_left : (events : List Event) (first : SiteDay) (rest : List SiteDay) → pending_days events ≡ first ∷ rest
     → length (pending_days (events ++ publication first ∷ [])) + 1 ≡ length (pending_days events)
     → pending_days (events ++ publication first ∷ []) ≡ rest
 rest_left events first rest e h =

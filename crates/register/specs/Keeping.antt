@@ -1,12 +1,12 @@
 -- What is kept in memory tells what is read off the history.
-use Rattle.std.specs.Prelude.{◌≡◌, ℕ, ◌+◌, ◌<◌, ◌^◌, List, length, Some, None, IfSome, ℤ}
+use Rattle.std.specs.Prelude.{◌≡◌, ℕ, ◌+◌, ◌<◌, ◌≤◌, ◌^◌, List, length, Some, None, IfSome, ℤ}
 use Rattle.day_cells.specs.KeptDays.{KeptDays}
 use Rattle.day_cells.specs.Spans.{with_days}
 use Rattle.edits.specs.declared.content.Edit.{Edit}
 use Rattle.fixed_units.specs.Quantities.{SiteNumber, IsDay}
 use Rattle.history.specs.Accepted.{Numbered, accepted, edits_of, stations_at, named, days_ever_changed, journal_size}
 use Rattle.history.specs.Awaited.{awaited, value_at, pending_days}
-use Rattle.history.specs.Events.{Event}
+use Rattle.history.specs.Events.{Event, History}
 use Rattle.history.specs.Legal.{IsLegal}
 use Rattle.office_inputs.specs.Kept.{in_force}
 use Rattle.recompute.specs.Cells.{awaited_in, value_in, span_in}
@@ -25,6 +25,10 @@ pub record Tells (events : List Event) (cells : List KeptDays) : Type 0 where
 abbrev pub PlacesAll : List Edit → List Placed → Type 0
 PlacesAll edits kept = (reference : List ℕ)
     → IfSome (named edits reference) (λ (n : Numbered). (place : ℕ) × (place_for kept reference ≡ Some place) × (n.number ≡ place + 1))
+
+-- the events, and a publication of each pending day, keep to the limit
+abbrev pub KeepsToTheLimit : History → Type 0
+KeepsToTheLimit h = length h.events + length (pending_days h.events) ≤ h.limits.events
 
 -- the history is legal, and all that is kept beside it is what is read off it; its events and a publication of each pending day can be
 -- counted

@@ -4,7 +4,7 @@ ghost use Rattle.std.specs.Prelude.{◌≡◌, ◌<◌, ◌+◌, ◌^◌, ◌∷
 ghost use Rattle.day_cells.specs.Days.{contains_day};
 ghost use Rattle.fixed_units.specs.Quantities.{SiteNumber, same_site};
 ghost use Rattle.history.specs.Accepted.{accepted, edits_of, stations_at, named, journal_size};
-ghost use Rattle.history.specs.After.{after_edit, after_fault, reopen};
+ghost use Rattle.history.specs.After.{MayLeaveInDoubt, after_edit, after_fault, reopen};
 ghost use Rattle.history.specs.Awaited.{pending_days};
 ghost use Rattle.history.specs.Verdicts.{Accepts, refused_by_stations, verdict, with_edit};
 ghost use Rattle.office_inputs.specs.Changes.{changed_days};
@@ -78,9 +78,11 @@ impl Register {
         self.pieces.push_reserved(piece);
     }
 
-    /// A fault of the journal refused an edit that nothing else refused, and left this doubt. It takes no memory.
+    /// A fault of the journal refused an edit that nothing else refused, and left this doubt: that of before, none, or that of the
+    /// edit's record. It takes no memory.
     pub fn fault(&mut self, edit: &Edit, doubt: &Doubt)
-        requires { verdict self.old.history edit.now ≡ Accepts }
+        requires verdict { verdict self.old.history edit.now ≡ Accepts }
+        requires doubt { MayLeaveInDoubt self.old.history edit.now doubt.now }
         ensures history { self.new.history ≡ after_fault self.old.history doubt.now }
         ensures claims { KeepsClaims self.old self.new }
         ensures room { (other : Edit) → IsReady self.old other → IsReady self.new other }

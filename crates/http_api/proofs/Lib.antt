@@ -1,4 +1,7 @@
+mod ApartLemmas
 mod AskLemmas
+mod FindingLemmas
+mod FittingLemmas
 mod NumberLemmas
 mod ReplyLemmas
 mod RouteLemmas

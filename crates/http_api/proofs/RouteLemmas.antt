@@ -1,5 +1,5 @@
--- The row of a target is one of the rows, and the texts that its parameters have are ASCII.
-use Rattle.std.proofs.Common.{◌≡◌, refl, ℕ, zero, suc, ◌-◌, ◌<◌, Bool, true, false, cond, List, [], ◌∷◌, All, length, take, drop, Option, Some, None, IfSome, ◌==◌, ltb, subst}
+-- The row of a target is that of the route that it fits, and the texts that its parameters have are ASCII.
+use Rattle.std.proofs.Common.{◌≡◌, refl, ap, ℕ, ◌-◌, ◌<◌, inl, inr, Bool, true, false, cond, List, [], ◌∷◌, All, take, drop, Option, Some, None, IfSome, IsSome, option_map, subst}
 use Rattle.std.specs.List.{list_all}
 use Rattle.std.specs.Char.{is_ascii}
 use Rattle.std.specs.Str.{IsAscii, IsUtf8}
@@ -7,80 +7,68 @@ use Rattle.std.proofs.lemmas.Str.{IsUtf8-from_ascii, IsAscii-take, IsAscii-drop}
 use Rattle.std.proofs.lemmas.Bool.{ltb-true}
 use Rattle.std.proofs.lemmas.List.Sums.{AllPass-from_list_all}
 use Rattle.std.proofs.lemmas.Str.Ascii.{IsAscii-nil, IsAscii-from_all}
-use Rattle.matchit.specs.Rows.{RowsOf, param_token, catch_all_token}
 use Rattle.matchit.specs.Route.{scan}
 use Rattle.matchit.specs.Router.{RouteOf}
-use Rattle.matchit.specs.Seek.{own, step, or_else, with_suffix, longest_suffix, segment, same_text, has_slash, param_step, seek, first}
+use Rattle.matchit.specs.Seek.{first}
 use Rattle.matchit.specs.Params.{walk, part_of, AllText}
-use Rattle.http_api.specs.Routes.{with_route, route_rows}
+use Rattle.http_api.proofs.ApartLemmas.{are_apart}
+use Rattle.http_api.proofs.FindingLemmas.{AllEnded, HasSpelled, seek_found}
+use Rattle.http_api.proofs.FittingLemmas.{AllSpelled, seek_spelled}
+use Rattle.http_api.specs.Routes.{with_route, route_rows, tokens_of, Fits, RowsAreThoseThatFit}
 use Rattle.http_api.specs.declared.routes.Route.{Route}
-
--- ---- a row that is found is one of the rows
-
-module _ {K : Type 0} (P : K → Type 0) where
-  abbrev pub AllRows : RowsOf K → Type 0
-  AllRows [] = Unit {0}
-  AllRows ((tokens, key) ∷ rest) = P key × AllRows rest
-
-  own_all : (rows : RowsOf K) → AllRows rows → IfSome (own rows) P
-  own_all [] h = tt
-  own_all (([], key) ∷ rest) h = h.0
-  own_all ((x ∷ tokens, key) ∷ rest) h = own_all rest h.1
-
-  cond_all : (b : Bool) (one other : RowsOf K) → AllRows one → AllRows other → AllRows (cond b one other)
-  cond_all true one other h k = h
-  cond_all false one other h k = k
-
-  step_all : (b : ℕ) (rows : RowsOf K) → AllRows rows → AllRows (step b rows)
-  step_all b [] h = tt
-  step_all b (([], key) ∷ rest) h = step_all b rest h.1
-  step_all b ((x ∷ tokens, key) ∷ rest) h =
-      cond_all (x == b) ((tokens, key) ∷ step b rest) (step b rest) (h.0, step_all b rest h.1) (step_all b rest h.1)
-
-  suffix_all : (suffix : List ℕ) (rows : RowsOf K) → AllRows rows → AllRows (with_suffix suffix rows)
-  suffix_all suffix [] h = tt
-  suffix_all suffix ((tokens, key) ∷ rest) h =
-      cond_all (same_text (segment tokens) suffix) ((tokens, key) ∷ with_suffix suffix rest) (with_suffix suffix rest)
-      (h.0, suffix_all suffix rest h.1) (suffix_all suffix rest h.1)
-
-  pair_all : (b : Bool) (one other : ℕ × RowsOf K) → AllRows one.1 → AllRows other.1 → AllRows (cond b one other).1
-  pair_all true one other h k = h
-  pair_all false one other h k = k
-
-  param_all : (rows : RowsOf K) (path : List ℕ) → AllRows rows → AllRows (param_step rows path).1
-  unfolding param_step
-  param_all rows path h =
-      pair_all (ltb 0 (length (longest_suffix (segment path) rows)))
-      (length (segment path) - length (longest_suffix (segment path) rows), with_suffix (longest_suffix (segment path) rows) rows)
-      (cond (has_slash path) (0, []) (length path, rows)) (suffix_all (longest_suffix (segment path) rows) rows h)
-      (pair_all (has_slash path) (0, []) (length path, rows) tt h)
-
-  else_all : (one other : Option K) → IfSome one P → IfSome other P → IfSome (or_else one other) P
-  else_all None other h k = k
-  else_all (Some key) other h k = h
-
-  pub seek_all : (skip : ℕ) (rows : RowsOf K) (path : List ℕ) → AllRows rows → IfSome (seek skip rows path) P
-  unfolding seek
-  seek_all skip rows [] h = own_all rows h
-  seek_all (suc skip) rows (b ∷ path) h = seek_all skip rows path h
-  seek_all zero rows (b ∷ path) h =
-      else_all _ _ (seek_all 0 (step b rows) path (step_all b rows h))
-      (else_all _ _
-      (seek_all ((param_step (step param_token rows) (b ∷ path)).0 - 1) (param_step (step param_token rows) (b ∷ path)).1 path
-      (param_all (step param_token rows) (b ∷ path) (step_all param_token rows h)))
-      (own_all (step catch_all_token rows) (step_all catch_all_token rows h)))
+use Rattle.http_api.specs.declared.routes.Route.TheVariants.{Edits, Turns, Settle, Status, Station, DayOf}
 
 -- ---- the rows of the routes
 
-abbrev IsPlain : RouteOf Route → Type 0
-IsPlain row = list_all is_ascii row.text ≡ true
+rows_spelled : (target : List ℕ) → AllSpelled (λ (row : RouteOf Route). Fits row.value target) route_rows target
+unfolding route_rows with_route tokens_of scan
+rows_spelled target =
+    (refl, λ h. h, (refl, λ h. h, (refl, λ h. h, (refl, λ h. h, (refl, λ h. h, (refl, λ h. h, tt))))))
 
-rows_plain : AllRows IsPlain route_rows
+row_fits : (target : List ℕ) → IfSome (first route_rows target) (λ row. Fits row.value target)
+row_fits target = seek_spelled (λ (row : RouteOf Route). Fits row.value target) 0 route_rows target (rows_spelled target)
+
+rows_ended : AllEnded route_rows
 unfolding route_rows with_route scan
-rows_plain = (refl, (refl, (refl, (refl, (refl, (refl, tt))))))
+rows_ended = (refl, (refl, (refl, (refl, (refl, (refl, tt))))))
+
+has_spelled : (route : Route) (target : List ℕ) → Fits route target → HasSpelled route_rows target
+unfolding route_rows with_route tokens_of scan
+has_spelled Edits target h = inl h
+has_spelled Settle target h = inr (inl h)
+has_spelled DayOf target h = inr (inr (inl h))
+has_spelled Station target h = inr (inr (inr (inl h)))
+has_spelled Status target h = inr (inr (inr (inr (inl h))))
+has_spelled Turns target h = inr (inr (inr (inr (inr (inl h)))))
+
+row_there : (route : Route) (target : List ℕ) → Fits route target → IsSome (first route_rows target)
+row_there route target h = seek_found 0 route_rows target rows_ended (has_spelled route target h)
+
+pub rows_fit : RowsAreThoseThatFit
+rows_fit target route =
+    (named_fits (first route_rows target) (row_fits target), λ h. named (first route_rows target) (row_fits target) h (row_there route target h))
+  where
+    named_fits : (found : Option (RouteOf Route)) → IfSome found (λ row. Fits row.value target)
+        → option_map (λ (row : RouteOf Route). row.value) found ≡ Some route → Fits route target
+    named_fits None h e = absurd (cc)
+    named_fits (Some row) h e = let same : row.value ≡ route = cc in subst (λ (r : Route). Fits r target) same h
+
+    named : (found : Option (RouteOf Route)) → IfSome found (λ row. Fits row.value target) → Fits route target → IsSome found
+        → option_map (λ (row : RouteOf Route). row.value) found ≡ Some route
+    named None h fits some = absurd (cc)
+    named (Some row) h fits some = ap Some (are_apart row.value route target h fits)
+
+-- ---- the texts of the rows
+
+texts_plain : (path : List ℕ) → AllSpelled (λ (row : RouteOf Route). list_all is_ascii row.text ≡ true) route_rows path
+unfolding route_rows with_route scan
+texts_plain path =
+    (refl, λ _. refl, (refl, λ _. refl, (refl, λ _. refl, (refl, λ _. refl, (refl, λ _. refl, (refl, λ _. refl, tt))))))
 
 pub row_plain : (path : List ℕ) (row : RouteOf Route) → first route_rows path ≡ Some row → list_all is_ascii row.text ≡ true
-row_plain path row e = subst (λ (found : Option (RouteOf Route)). IfSome found IsPlain) e (seek_all IsPlain 0 route_rows path rows_plain)
+row_plain path row e =
+    subst (λ (found : Option (RouteOf Route)). IfSome found (λ r. list_all is_ascii r.text ≡ true)) e
+    (seek_spelled (λ (r : RouteOf Route). list_all is_ascii r.text ≡ true) 0 route_rows path (texts_plain path))
 
 -- ---- the texts of parameters
 

@@ -1,5 +1,7 @@
 -- The bodies for days: compact JSON, members in rising order of their names.
 use Rattle.std.specs.Prelude.{ℕ, List, ◌++◌, codes, decimal, Option, Some, None}
+use Rattle.approval.specs.Statuses.{status_name}
+use Rattle.approval.specs.declared.Status.{Status}
 use Rattle.fixed_units.specs.PublishedText.{published_text}
 use Rattle.fixed_units.specs.declared.published.Published.{Published}
 use Rattle.daily_values.specs.Figures.{DayFigures, mean_stage}
@@ -8,18 +10,10 @@ use Rattle.daily_values.specs.declared.day_values.DayValue.TheVariants as values
 use Rattle.http_api.specs.declared.days.DayAnswer.{DayAnswer}
 use Rattle.http_api.specs.declared.days.DayAnswer.TheVariants.{Pending, Computed}
 use Rattle.http_api.specs.declared.days.DayReply.{DayReply}
-use Rattle.http_api.specs.declared.days.Mark.{Mark}
-use Rattle.http_api.specs.declared.days.Mark.TheVariants.{Working, Review, Approved}
-
--- how far a day is approved
-abbrev pub mark_text : Mark → List ℕ
-mark_text Working = codes "working"
-mark_text Review = codes "review"
-mark_text Approved = codes "approved"
 
 -- the last member, and the end of the body
-abbrev pub status_member : Mark → List ℕ
-status_member mark = codes ",\"status\":\"" ++ mark_text mark ++ codes "\"}"
+abbrev pub status_member : Status → List ℕ
+status_member status = codes ",\"status\":\"" ++ status_name status ++ codes "\"}"
 
 -- a published value in quotes, or null
 abbrev pub published_or_null : Option Published → List ℕ
@@ -50,4 +44,4 @@ answer_members (Computed value) = value_members value.now
 
 -- the body for a day
 abbrev pub day_text : DayReply → List ℕ
-day_text day = answer_members day.answer ++ status_member day.mark
+day_text day = answer_members day.answer ++ status_member day.status

@@ -1,13 +1,13 @@
 -- The routes: which targets there are, and what a target of each names.
-use Rattle.std.specs.Prelude.{ℕ, List, [], ◌∷◌, fold, codes, Option, Some, None, option_map, option_and_then, Result, Ok, Err, if◌then◌else◌}
+use Rattle.std.specs.Prelude.{◌≡◌, ◌↔◌, ◌<◌, ℕ, Bool, true, false, ◌==◌, List, [], ◌∷◌, ◌++◌, length, fold, codes, Option, Some, None, option_map, option_and_then, Result, Ok, Err, if◌then◌else◌}
 use Rattle.std.specs.List.{list_all}
 use Rattle.std.specs.Char.{is_ascii}
-use Rattle.matchit.specs.Rows.{RowsOf}
+use Rattle.matchit.specs.Rows.{RowsOf, param_token}
 use Rattle.matchit.specs.Route.{Scan, parse_route}
 use Rattle.matchit.specs.Router.{RouteOf, route_from}
 use Rattle.matchit.specs.Order.{placed}
 use Rattle.matchit.specs.Params.{walk}
-use Rattle.matchit.specs.Seek.{first}
+use Rattle.matchit.specs.Seek.{first, has_slash}
 use Rattle.matchit.specs.declared.error.InsertError.{InsertError}
 use Rattle.http_api.specs.Parameters.{Parameters, count_in, site_in, day_in}
 use Rattle.wire.specs.declared.messages.Verb.{Verb}
@@ -41,6 +41,43 @@ with_route rows route = placed_by (parse_route (spelling route)) route rows
 -- the rows of all routes
 unfoldable pub route_rows : RowsOf (RouteOf Route)
 route_rows = fold with_route [] all_routes
+
+-- what a parameter may take of a target: one byte at least, and no slash
+pub record IsPart (part : List ℕ) : Type 0 where
+  pub some : 0 < length part
+  pub one : has_slash part ≡ false
+
+-- the target begins with what a token stands for, itself or a part, and what is behind it goes on so
+abbrev pub Begins : Bool → ℕ → (List ℕ → Type 0) → List ℕ → Type 0
+Begins true token GoesOn target = (part : List ℕ) × (rest : List ℕ) × (target ≡ part ++ rest) × IsPart part × GoesOn rest
+Begins false token GoesOn target = (rest : List ℕ) × (target ≡ token ∷ rest) × GoesOn rest
+
+-- the target is spelled by these tokens, which are bytes and parameters
+abbrev pub IsSpelled : List ℕ → List ℕ → Type 0
+IsSpelled [] target = target ≡ []
+IsSpelled (token ∷ tokens) target = Begins (token == param_token) token (IsSpelled tokens) target
+
+-- the tokens of a spelling, where it reads as one
+abbrev pub tokens_by : Result Scan InsertError → List ℕ
+tokens_by (Ok scan) = scan.pattern
+tokens_by (Err fault) = []
+
+unfoldable pub tokens_of : Route → List ℕ
+tokens_of route = tokens_by (parse_route (spelling route))
+
+-- the target is spelled as those of the route
+abbrev pub Fits : Route → List ℕ → Type 0
+Fits route target = IsSpelled (tokens_of route) target
+
+-- a target fits one route at most
+abbrev pub RoutesAreApart : Type 0
+RoutesAreApart = (one other : Route) (target : List ℕ) → Fits one target → Fits other target → one ≡ other
+
+-- a target has the row of the route that it fits
+abbrev pub RowsAreThoseThatFit : Type 0
+RowsAreThoseThatFit =
+    (target : List ℕ) (route : Route)
+    → option_map (λ (row : RouteOf Route). row.value) (first route_rows target) ≡ Some route ↔ Fits route target
 
 -- what a target of a route names, if each of its parameters is of its grammar
 abbrev pub target_by : Route → Parameters → Option Target

@@ -1,21 +1,11 @@
 //! What is replied of a day.
 
 ghost use Rattle.std.specs.Prelude.{◌≡◌, ◌++◌, take, length, OnOk, OnErr};
-ghost use Rattle.http_api.specs.Days.{day_text, answer_members, figures_members, length_members, stage_members, published_or_null, status_member, mark_text};
+ghost use Rattle.http_api.specs.Days.{day_text, answer_members, figures_members, length_members, stage_members, published_or_null, status_member};
 
+use approval::Status;
 use daily_values::{DayValue, Figures};
 use fixed_units::{Day, NoMemory, Published, Text, write_published};
-
-/// How far a day is approved, as a reply tells it.
-#[derive(Clone, Copy, Debug, PartialEq, Eq)]
-pub enum Mark {
-    /// Its record is being worked.
-    Working,
-    /// It is in review.
-    Review,
-    /// It is approved.
-    Approved,
-}
 
 /// What is known of a day.
 #[derive(Clone, Copy, Debug, Drop)]
@@ -34,7 +24,7 @@ pub struct DayReply<'a> {
     /// What is known of it.
     pub answer: DayAnswer<'a>,
     /// How far it is approved.
-    pub mark: Mark,
+    pub status: Status,
 }
 
 /// Adds the body for a day, of which a part may be added where memory runs out.
@@ -43,7 +33,7 @@ pub(crate) fn write_day_reply(day: &DayReply<'_>, out: &mut Text) -> Result<(), 
     ensures err { OnErr result (take (length out.old) out.new ≡ out.old) }
 {
     write_answer(&day.answer, out)?;
-    write_status(day.mark, out)
+    write_status(day.status, out)
 }
 
 /// Adds the members before the status, of which a part may be added where memory runs out.
@@ -64,23 +54,13 @@ fn write_answer(answer: &DayAnswer<'_>, out: &mut Text) -> Result<(), NoMemory>
 }
 
 /// Adds the last member and the end of the body, of which a part may be added where memory runs out.
-fn write_status(mark: Mark, out: &mut Text) -> Result<(), NoMemory>
-    ensures ok { OnOk result (out.new ≡ out.old ++ status_member mark) }
+fn write_status(status: Status, out: &mut Text) -> Result<(), NoMemory>
+    ensures ok { OnOk result (out.new ≡ out.old ++ status_member status) }
     ensures err { OnErr result (take (length out.old) out.new ≡ out.old) }
 {
     out.push_slice(b",\"status\":\"")?;
-    out.push_slice(mark_name(mark))?;
+    out.push_slice(status.name())?;
     out.push_slice(b"\"}")
-}
-
-fn mark_name(mark: Mark) -> &'static [u8]
-    ensures { result.now ≡ mark_text mark }
-{
-    match mark {
-        Mark::Working => b"working",
-        Mark::Review => b"review",
-        Mark::Approved => b"approved",
-    }
 }
 
 /// Adds the members of a day with figures, of which a part may be added where memory runs out.

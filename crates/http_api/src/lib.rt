@@ -11,6 +11,6 @@ pub mod routes;
 mod stations;
 
 pub use asks::{Ask, Denied};
-pub use days::{DayAnswer, DayReply, Mark};
+pub use days::{DayAnswer, DayReply};
 pub use replies::{Reply, reply_text, write_reply};
 pub use routes::Router;

@@ -4,7 +4,7 @@ ghost use Rattle.std.specs.Prelude.{◌≡◌, true, false, OnOk, IfOk, MatchOpt
 ghost use Rattle.std.specs.List.{list_all};
 ghost use Rattle.std.specs.Char.{is_ascii};
 ghost use Rattle.matchit.specs.Params.{walk, AllText};
-ghost use Rattle.http_api.specs.Routes.{spelling, verb_of, with_route, route_rows, target_by, target_of};
+ghost use Rattle.http_api.specs.Routes.{spelling, verb_of, with_route, route_rows, target_by, target_of, RoutesAreApart, RowsAreThoseThatFit};
 
 use crate::parameters::{count_in, day_in, site_in};
 use fixed_units::{Day, NoMemory, Site};
@@ -178,3 +178,9 @@ fn target_by(route: Route, params: &Params<'_, '_>) -> Option<Target>
         }
     }
 }
+
+/// A target fits one route at most, and has the row of the route that it fits, and no other: a law, which does nothing.
+pub fn targets_have_one_row()
+    ensures one { RoutesAreApart }
+    ensures row { RowsAreThoseThatFit }
+{}

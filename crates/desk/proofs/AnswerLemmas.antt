@@ -1,5 +1,5 @@
 -- How asks are answered.
-use Rattle.std.proofs.Common.{◌≡◌, ◌⊎◌, ℕ, ◌+◌, Bool, List, length, Result, Ok, Err, OnOk, OnErr, refl, sym, ◌∙◌, ap, inl, inr}
+use Rattle.std.proofs.Common.{◌≡◌, ◌⊎◌, ℕ, ◌+◌, Bool, false, List, length, Result, Ok, Err, OnOk, OnErr, refl, sym, ◌∙◌, ap, inl, inr}
 use Rattle.desk.specs.Answering.{told_bytes}
 use Rattle.desk.specs.Answering as told_of
 use Rattle.desk.specs.Replies.{IsAnswered, IsLeftBy, edit_reply, fault_reply, history_after, history_by, memory_reply, reply_to}
@@ -13,7 +13,7 @@ use Rattle.http_api.specs.Replies.{bytes_of}
 use Rattle.http_api.specs.declared.asks.Ask.{Ask}
 use Rattle.http_api.specs.declared.asks.Ask.TheVariants as asks
 use Rattle.http_api.specs.declared.replies.Reply.TheVariants as replies
-use Rattle.office.specs.Edits.{IsRefused, IsRefusedBy}
+use Rattle.office.specs.Edits.{IsRefused, IsRefusedBy, is_fault}
 use Rattle.office_inputs.specs.declared.refusals.Refusal.{Refusal}
 use Rattle.office_inputs.specs.declared.refusals.Refusal.TheVariants as refusals
 
@@ -75,3 +75,18 @@ module _ (h : History) (edit : Edit) (reply : List ℕ) (next : History) where
   refused_by refusals.JournalFull is told fault = refused refusals.JournalFull is told
   refused_by refusals.NoMemory is told fault = forgone (no_memory reply told) is
   refused_by (refusals.JournalFault in_doubt) is told fault = inr (inl (in_doubt, fault in_doubt refl, is))
+
+-- want of memory is told of a refused edit only where the disk was not asked
+pub unwritten : {D : Type 0} (refusal : Refusal) (told : Told) (old new : D)
+    → ((in_doubt : Bool) → refusal ≡ refusals.JournalFault in_doubt → told ≡ tells.JournalFault in_doubt) → (is_fault refusal ≡ false → new ≡ old)
+    → told ≡ tells.NoMemory → new ≡ old
+unwritten (refusals.RefReused n) told old new fault stays none = stays refl
+unwritten refusals.NoStation told old new fault stays none = stays refl
+unwritten refusals.StationExists told old new fault stays none = stays refl
+unwritten (refusals.Limit which) told old new fault stays none = stays refl
+unwritten (refusals.HistoryFull full) told old new fault stays none = stays refl
+unwritten refusals.JournalFull told old new fault stays none = stays refl
+unwritten refusals.NoMemory told old new fault stays none = stays refl
+unwritten (refusals.JournalFault in_doubt) told old new fault stays none =
+    let is : told ≡ tells.JournalFault in_doubt = fault in_doubt refl in
+    absurd (cc)

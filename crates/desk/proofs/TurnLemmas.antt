@@ -1,12 +1,15 @@
 -- How turns follow one another.
-use Rattle.std.proofs.Common.{◌≡◌, ℕ, zero, suc, ◌+◌, ◌-◌, ◌≤◌, true, not, List, [], ◌∷◌, length, take, find, slice_get, Option, Some, None, IfSome, is_none, option_map, ℤ, Result, Ok, Err, OnOk, OnErr, refl, sym, ◌∙◌, ap, subst, arith}
-use Rattle.desk.specs.Replies.{IsLeftBy}
+use Rattle.std.proofs.Common.{◌≡◌, ℕ, zero, suc, ◌+◌, ◌-◌, ◌≤◌, true, false, not, List, [], ◌∷◌, length, map, take, find, slice_get, Option, Some, None, is_some, is_none, option_map, ℤ, Result, Ok, Err, OnOk, OnErr, refl, sym, ◌∙◌, ap, subst, length-append, arith}
+use Rattle.std.proofs.lemmas.List.{length-map}
+use Rattle.desk.specs.Replies.{IsLeftBy, turned_reply}
 use Rattle.fixed_units.specs.Quantities.{SiteNumber}
 use Rattle.desk.proofs.PassingLemmas.{Publishes, publishes_none, publishes_more}
-use Rattle.history.specs.After.{after_publication, after_settlement, after_turn, after_turns, next_day}
+use Rattle.history.specs.After.{after_publication, after_settlement, after_turn, after_turns, next_day, publication}
 use Rattle.history.specs.Awaited.{SiteDay, pending_days}
 use Rattle.history.specs.Events.{History}
+use Rattle.http_api.specs.Replies.{bytes_of}
 use Rattle.http_api.specs.declared.asks.Ask.TheVariants as asks
+use Rattle.http_api.specs.declared.replies.Reply.TheVariants as replies
 use Rattle.register.specs.Asked.{as_pair}
 use Rattle.register.specs.Registered.{Registered, NoneOut, first_unclaimed, is_out}
 
@@ -56,16 +59,20 @@ no_turn r none is = sym (first_is_next r none) ∙ no_day (first_unclaimed r) is
 pub turn_is : (r : Registered) → NoneOut r → after_publication r.history (first_unclaimed r) ≡ after_turn r.history
 turn_is r none = ap (after_publication r.history) (first_is_next r none)
 
--- after a turn no more days are pending
-pub turn_fewer : (r : Registered) (after : History) (o : Option (SiteNumber × ℤ)) → o ≡ option_map as_pair (first_unclaimed r)
-    → after ≡ after_publication r.history (first_unclaimed r)
-    → IfSome o (λ d. length (pending_days after.events) + 1 ≡ length (pending_days r.history.events))
-    → length (pending_days after.events) ≤ length (pending_days r.history.events)
-turn_fewer r after None day is fewer =
-    let same : after ≡ r.history = is ∙ ap (after_publication r.history) (no_day (first_unclaimed r) (sym day)) in
-    let equal : length (pending_days after.events) ≡ length (pending_days r.history.events) = ap (λ (h : History). length (pending_days h.events)) same in
-    omega arith
-turn_fewer r after (Some d) day is fewer = omega (arith, fewer)
+-- a turn that told a day is one event more
+pub turn_adds : (h after : History) (next : Option SiteDay) (o : Option (SiteNumber × ℤ)) → o ≡ option_map as_pair next → is_some o ≡ true
+    → after ≡ after_publication h next → length after.events ≡ length h.events + 1
+turn_adds h after None None day some is = absurd (cc)
+turn_adds h after None (Some d) day some is = absurd (cc)
+turn_adds h after (Some next) o day some is =
+    ap (λ (x : History). length x.events) is ∙ length-append h.events (publication next ∷ [])
+
+-- and one that told none is no event
+pub turn_stays : (h after : History) (next : Option SiteDay) (o : Option (SiteNumber × ℤ)) → o ≡ option_map as_pair next → is_some o ≡ false
+    → after ≡ after_publication h next → length after.events ≡ length h.events
+turn_stays h after None o day none is = ap (λ (x : History). length x.events) is
+turn_stays h after (Some next) None day none is = absurd (cc)
+turn_stays h after (Some next) (Some d) day none is = absurd (cc)
 
 -- a turn that counts
 pub turn_counts : (r : Registered) (h after : History) (n : ℕ) → NoneOut r → r.history ≡ after_turns n h
@@ -82,6 +89,21 @@ turn_ends r h after n count None none made le day ended is =
     let last : next_day r.history ≡ None = no_turn r none (sym day) in
     is ∙ ap (after_publication r.history) (no_day (first_unclaimed r) (sym day)) ∙ made
     ∙ sym (turns_all n count h le (ap next_day (sym made) ∙ last))
+
+-- a settlement is as many events more as days were pending
+settlement_adds : (h : History) → length (pending_days h.events) ≡ length (after_settlement h).events - length h.events
+settlement_adds h =
+    let days = pending_days h.events in
+    let e : length (after_settlement h).events ≡ length h.events + length days =
+    length-append h.events (map publication days) ∙ ap (λ (n : ℕ). length h.events + n) (length-map days publication) in
+    omega arith
+
+-- the reply to a settlement
+pub settled_reply : (h after : History) (pending published : ℕ) → after ≡ after_settlement h → pending ≡ length (pending_days after.events)
+    → published ≡ length (pending_days h.events) → bytes_of (replies.Turned pending published) ≡ turned_reply h (after_settlement h)
+settled_reply h after pending published is left told =
+    ap (λ (n : ℕ). bytes_of (replies.Turned n published)) (left ∙ ap (λ (x : History). length (pending_days x.events)) is)
+    ∙ ap (λ (n : ℕ). bytes_of (replies.Turned (length (pending_days (after_settlement h).events)) n)) (told ∙ settlement_adds h)
 
 -- turns publish days
 publishes_one : (h : History) (o : Option SiteDay) → Publishes h (after_publication h o)

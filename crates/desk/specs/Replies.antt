@@ -1,11 +1,13 @@
 -- What is replied to a message, and what has happened then.
 use Rattle.std.specs.Prelude.{◌≡◌, ◌⊎◌, ℕ, ◌+◌, ◌-◌, ◌≤◌, Bool, true, false, List, [], ◌∷◌, ◌++◌, length, take, Option, Some, None, Result, Ok, Err}
+use Rattle.approval.specs.declared.Status.{Status}
 use Rattle.edits.specs.declared.content.Edit.{Edit}
 use Rattle.history.specs.Accepted.{accepted, stations_at}
 use Rattle.history.specs.After.{after_edit, after_publications, after_settlement, after_turns}
 use Rattle.history.specs.Awaited.{DayAnswer, answer_at, pending_days}
 use Rattle.history.specs.Awaited as days
 use Rattle.history.specs.Events.{History}
+use Rattle.history.specs.Statuses.{status_at}
 use Rattle.history.specs.Verdicts.{Verdict, Repeats, Refuses, Accepts, verdict}
 use Rattle.http_api.specs.Asks.{Question, ask_of, question}
 use Rattle.http_api.specs.Days.{answer_members, status_member, value_members}
@@ -15,7 +17,6 @@ use Rattle.http_api.specs.declared.asks.Ask.{Ask}
 use Rattle.http_api.specs.declared.asks.Ask.TheVariants as asks
 use Rattle.http_api.specs.declared.asks.Denied.{Denied}
 use Rattle.http_api.specs.declared.days.DayAnswer.TheVariants as told
-use Rattle.http_api.specs.declared.days.Mark.TheVariants.{Working}
 use Rattle.http_api.specs.declared.replies.Reply.TheVariants as replies
 use Rattle.office.specs.Edits.{IsFaulted}
 use Rattle.office_inputs.specs.Stations.{StationRecord, station_of}
@@ -41,20 +42,20 @@ history_by (Repeats earlier) h edit = h
 history_by (Refuses refusal) h edit = h
 history_by Accepts h edit = after_edit h edit
 
--- the reply for a station, and for a day
+-- the reply for a station, and for a day of this status
 abbrev pub station_reply : Option StationRecord → List ℕ
 station_reply None = bytes_of replies.NoStation
 station_reply (Some station) = answer_bytes (station_text station)
 
-abbrev pub day_reply : DayAnswer → List ℕ
-day_reply days.NoStation = bytes_of replies.NoStation
-day_reply (days.Pending edit) = answer_bytes (answer_members (told.Pending edit) ++ status_member Working)
-day_reply (days.Computed value) = answer_bytes (value_members value ++ status_member Working)
+abbrev pub day_reply : Status → DayAnswer → List ℕ
+day_reply status days.NoStation = bytes_of replies.NoStation
+day_reply status (days.Pending edit) = answer_bytes (answer_members (told.Pending edit) ++ status_member status)
+day_reply status (days.Computed value) = answer_bytes (value_members value ++ status_member status)
 
--- the reply once days were published: how many are pending then, and how many fewer that is
+-- the reply once days were published: how many are pending then, and how many publications there were, which is how many events more
+-- the history has
 abbrev pub turned_reply : History → History → List ℕ
-turned_reply h after =
-    bytes_of (replies.Turned (length (pending_days after.events)) (length (pending_days h.events) - length (pending_days after.events)))
+turned_reply h after = bytes_of (replies.Turned (length (pending_days after.events)) (length after.events - length h.events))
 
 -- what has happened once an ask was answered, where no disk failed and memory did not run out
 abbrev pub history_after : History → Ask → History
@@ -69,7 +70,7 @@ history_after h asks.Counts = h
 abbrev pub reply_to : History → Ask → List ℕ
 reply_to h (asks.Edit edit) = edit_reply (verdict h edit) (length (accepted h.events) + 1)
 reply_to h (asks.Station site) = station_reply (station_of (stations_at h.events) site)
-reply_to h (asks.DayOf site day) = day_reply (answer_at h.events site day)
+reply_to h (asks.DayOf site day) = day_reply (status_at h.events site day) (answer_at h.events site day)
 reply_to h (asks.Turns count) = turned_reply h (after_turns count h)
 reply_to h asks.Settle = turned_reply h (after_settlement h)
 reply_to h asks.Counts = bytes_of (replies.Counts (length (accepted h.events)) (length (pending_days h.events)))

@@ -1,10 +1,9 @@
 //! What is asked is answered by the office, in texts.
 
-ghost use Rattle.std.specs.Prelude.{◌≡◌, ◌≤◌, ◌<◌, ◌^◌, Bool, length, OnOk, OnErr, IfOk, true, false};
+ghost use Rattle.std.specs.Prelude.{◌≡◌, ◌≤◌, ◌<◌, ◌-◌, ◌^◌, Bool, length, OnOk, OnErr, IfOk, true, false};
 ghost use Rattle.desk.specs.Answering.{IsMade, IsRefusedBy, told_bytes};
 ghost use Rattle.desk.specs.Passing.{Passes};
 ghost use Rattle.desk.specs.Replies.{IsAnswered, IsLeftBy, fault_reply, history_after, memory_reply, reply_to};
-ghost use Rattle.history.specs.Awaited.{pending_days};
 ghost use Rattle.http_api.specs.Replies.{bytes_of};
 ghost use Rattle.http_api.specs.declared.asks.Ask.TheVariants as asks;
 ghost use Rattle.register.specs.Registered.{NoneOut};
@@ -13,7 +12,7 @@ use devices::Disk;
 use edits::Edit;
 use fixed_units::{Day, NoMemory, Site, Text};
 use http_api::replies::constants_are_replies;
-use http_api::{Ask, DayAnswer, DayReply, Mark, Reply, write_reply};
+use http_api::{Ask, DayAnswer, DayReply, Reply, write_reply};
 use office::laws::an_office_stands_on_its_disk;
 use office::{Answer, Office};
 use office_inputs::{Refusal, Station};
@@ -81,7 +80,7 @@ impl Texts {
     /// Which reply a refused edit gets.
     fn refuse(&mut self, refusal: Refusal) -> Told
         ensures refused { IsRefusedBy refusal (told_bytes result self.new.reply) }
-        ensures fault { (in_doubt : Bool) → refusal ≡ Refusal.JournalFault in_doubt → told_bytes result self.new.reply ≡ fault_reply in_doubt }
+        ensures fault { (in_doubt : Bool) → refusal ≡ Refusal.JournalFault in_doubt → result ≡ Told.JournalFault in_doubt }
     {
         match refusal {
             Refusal::NoMemory => Told::NoMemory,
@@ -101,14 +100,16 @@ impl Texts {
     }
 }
 
-/// Answers an ask, in the texts.
+/// Answers an ask, in the texts. Where the reply is that of want of memory, the disk is as it was.
 pub(crate) fn answer<D: Disk>(office: &mut Office<D>, ask: Ask, texts: &mut Texts) -> Told
     requires claims { NoneOut office.old.register }
     ensures answered { IsAnswered office.old.register.history ask (told_bytes result texts.new.reply) office.new.register.history }
     ensures passed { Passes D.Disk office.old.register.history office.new.register.history office.old.disk office.new.disk }
     ensures claims { NoneOut office.new.register }
+    ensures unwritten { result ≡ Told.NoMemory → office.new.disk ≡ office.old.disk }
     ensures counted { D.faults office.old.disk ≤ D.faults office.new.disk }
 {
+    // this runs nothing: it tells the proof what a stop leaves of the disk that is asked nothing
     an_office_stands_on_its_disk(office);
     match ask {
         Ask::Edit(edit) => take_edit(office, edit, texts),
@@ -126,6 +127,7 @@ fn take_edit<D: Disk>(office: &mut Office<D>, edit: Edit, texts: &mut Texts) -> 
     ensures answered { IsAnswered office.old.register.history (asks.Edit edit) (told_bytes result texts.new.reply) office.new.register.history }
     ensures passed { Passes D.Disk office.old.register.history office.new.register.history office.old.disk office.new.disk }
     ensures claims { NoneOut office.new.register }
+    ensures unwritten { result ≡ Told.NoMemory → office.new.disk ≡ office.old.disk }
     ensures counted { D.faults office.old.disk ≤ D.faults office.new.disk }
 {
     take_edit_counted::<D, Brand>(office, edit, texts, Blank::new(1))
@@ -146,8 +148,10 @@ fn take_edit_counted<D: Disk, L: Ledger>(
     ensures answered { IsAnswered office.old.register.history (asks.Edit edit) (told_bytes result texts.new.reply) office.new.register.history }
     ensures passed { Passes D.Disk office.old.register.history office.new.register.history office.old.disk office.new.disk }
     ensures claims { NoneOut office.new.register }
+    ensures unwritten { result ≡ Told.NoMemory → office.new.disk ≡ office.old.disk }
     ensures counted { D.faults office.old.disk ≤ D.faults office.new.disk }
 {
+    // this runs nothing: it tells the proof what a stop leaves where there is no memory for the acceptance's text
     an_office_stands_on_its_disk(office);
     let accepted = Reply::Edit {
         number: office.edits().saturating_add(1),
@@ -194,7 +198,7 @@ fn tell_day<D: Disk>(
     texts.make(&Reply::Day(DayReply {
         day,
         answer,
-        mark: Mark::Working,
+        status: office.status(site, day),
     }))
 }
 
@@ -221,30 +225,28 @@ fn take_turns<D: Disk>(
     ensures claims { NoneOut office.new.register }
     ensures disk { office.new.disk ≡ office.old.disk }
 {
-    let before = office.pending();
-    turn_often(office, count)?;
-    let pending = office.pending();
+    let published = turn_often(office, count)?;
     texts.make(&Reply::Turned {
-        pending,
-        published: before - pending,
+        pending: office.pending(),
+        published: u64::from(published),
     })
 }
 
-/// Makes so many turns, which end where no day is pending.
-fn turn_often<D: Disk>(office: &mut Office<D>, count: u32) -> Result<(), NoMemory>
+/// Makes so many turns, which end where no day is pending; how many days were published.
+fn turn_often<D: Disk>(office: &mut Office<D>, count: u32) -> Result<u32, NoMemory>
     requires { NoneOut office.old.register }
     ensures history { OnOk result (office.new.register.history ≡ history_after office.old.register.history (asks.Turns count)) }
     ensures left { OnErr result (IsLeftBy office.old.register.history (asks.Turns count) office.new.register.history) }
-    ensures fewer { length (pending_days office.new.register.history.events) ≤ length (pending_days office.old.register.history.events) }
+    ensures published { IfOk result (λ published. published ≡ length office.new.register.history.events - length office.old.register.history.events) }
     ensures claims { NoneOut office.new.register }
     ensures disk { office.new.disk ≡ office.old.disk }
 {
-    for _ in 0..count {
+    for published in 0..count {
         if office.turn()?.is_none() {
-            break;
+            return Ok(published);
         }
     }
-    Ok(())
+    Ok(count)
 }
 
 /// Publishes every day that is pending.
@@ -287,6 +289,7 @@ fn fault_text(alloc: Global, in_doubt: bool, body: &mut Text) -> Result<Text, No
 fn no_memory() -> &'static [u8]
     ensures { result.now ≡ memory_reply }
 {
+    // this runs nothing: it tells the proof that the constant is the reply of the table
     constants_are_replies();
     NO_MEMORY_REPLY
 }
@@ -295,17 +298,19 @@ fn no_memory() -> &'static [u8]
 fn write_refusal(refusal: Refusal, body: &mut Text, out: &mut Text) -> Result<(), NoMemory>
     ensures { OnOk result (out.new ≡ bytes_of (Reply.Refused refusal)) }
 {
-    // A proof finds what a reply may borrow among the types that its function names.
+    // these run nothing: the proof finds what a reply may borrow among the types that its function names
     let _station: Option<&Station> = None;
     let _day: Option<DayReply<'_>> = None;
     write_reply(&Reply::Refused(refusal), body, out)
 }
 
-/// Which reply an edit gets that was accepted under a number: the one that was made before.
+/// Which reply an edit gets that was accepted under a number: the one that was made before. The number is taken for the proof alone:
+/// that it is one of 64 bits shows that the number in that reply, one more than before, was not cut.
 fn made_for(number: u64) -> Told
     ensures made { result ≡ Told.Made }
     ensures number { number < 2 ^ 64 }
 {
+    // this runs nothing: a clause has the range of a number that the body names
     let _ = number;
     Told::Made
 }

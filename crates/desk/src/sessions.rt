@@ -58,6 +58,7 @@ pub fn session<D: Disk, S: Source, K: Sink>(
     ensures cause { HasCause result (S.faults source.old) (S.faults source.new) (K.faults sink.old) (K.faults sink.new) }
     ensures unserved { result ≡ SessionEnd.NoMemory → (source.new ≡ source.old) × (sink.new ≡ sink.old) × (office.new ≡ office.old) }
 {
+    // this runs nothing: it tells the proof what passes until the first message
     stands_still(office);
     let Ok(router) = Router::new(alloc) else {
         return SessionEnd::NoMemory;
@@ -170,6 +171,7 @@ fn reply_on<D: Disk>(
     ensures claims { NoneOut office.new.register }
     ensures counted { D.faults office.old.disk ≤ D.faults office.new.disk }
 {
+    // this runs nothing: it tells the proof what passes where the office is not asked
     stands_still(office);
     match message {
         Message::Request { verb, target, body } => {
@@ -210,6 +212,7 @@ fn reply_to<D: Disk>(
     ensures claims { NoneOut office.new.register }
     ensures counted { D.faults office.old.disk ≤ D.faults office.new.disk }
 {
+    // this runs nothing: it tells the proof what passes where the office is not asked
     stands_still(office);
     match router.read(alloc, verb, target, body) {
         Ok(ask) => answer(office, ask, texts),

@@ -1,6 +1,7 @@
 use Rattle.std.proofs.Common.{Err, ap}
 use Rattle.desk.specs.Answering.{told_bytes}
-use Rattle.desk.proofs.AnswerLemmas.{refused_by}
+use Rattle.desk.specs.declared.answers.Told.{Told}
+use Rattle.desk.proofs.AnswerLemmas.{refused_by, unwritten}
 use Rattle.desk.proofs.PassingLemmas.{passes_published, passes_refused, passes_taken, publishes_none}
 use Rattle.desk.proofs.answers.take_edit_counted.Goals as goal
 
@@ -19,7 +20,12 @@ returns-in-Ok-clause-passed g c =
 pub returns-clause-answered : goal.returns-clause-answered
 returns-clause-answered g c =
     refused_by c.args.office.now.register.history c.args.edit (told_bytes c.refuse.result c.refuse.new.self.reply) c.edit.new.self.register.history
-    c.in-Err.refusal c.in-Err.ensures.edited c.refuse.ensures.refused c.refuse.ensures.fault
+    c.in-Err.refusal c.in-Err.ensures.edited c.refuse.ensures.refused
+    (λ in_doubt is. ap (λ (told : Told). told_bytes told c.refuse.new.self.reply) (c.refuse.ensures.fault in_doubt is))
+
+pub returns-clause-unwritten : goal.returns-clause-unwritten
+returns-clause-unwritten g c =
+    unwritten c.in-Err.refusal c.refuse.result c.args.office.now.disk c.edit.new.self.disk c.refuse.ensures.fault c.in-Err.ensures.disk
 
 pub returns-clause-passed : goal.returns-clause-passed
 returns-clause-passed g c =

@@ -4,4 +4,8 @@
 #[cfg(test)]
 mod fixtures;
 #[cfg(test)]
+mod kept_rows;
+#[cfg(test)]
 mod reach_rows;
+#[cfg(test)]
+mod refusal_rows;

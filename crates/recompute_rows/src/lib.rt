@@ -7,3 +7,5 @@ mod fixtures;
 mod jobs;
 #[cfg(test)]
 mod kept_cells;
+#[cfg(test)]
+mod sent;

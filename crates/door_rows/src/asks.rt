@@ -1,10 +1,10 @@
 //! Which targets there are, and their methods.
 
-use crate::fixtures::{
+use std::test::Fail;
+use whole_runs::{
     ADDED, BATCH, Due, Exchange, GET_ALONE, LENGTH_REQUIRED, NOT_FOUND, OK, POST_ALONE, expect,
     new_journal, pass_anew, replies, run,
 };
-use std::test::Fail;
 
 const NO_ROUTE: &str = r#"{"code":"NoRoute"}"#;
 
@@ -38,7 +38,7 @@ const METHODS: [Exchange; 12] = [
 
 #[test]
 fn other_methods_are_not_allowed(rt: HostRuntime) -> Result<(), Fail> {
-    pass_anew(&rt, rt.alloc(), &METHODS)
+    pass_anew(rt.alloc(), &METHODS)
 }
 
 /// Targets that there are not, whatever the method.
@@ -81,7 +81,7 @@ const TARGETS: [&str; 33] = [
 #[test]
 fn there_is_no_route(rt: HostRuntime) -> Result<(), Fail> {
     for target in TARGETS {
-        pass_anew(&rt, rt.alloc(), &[(target, "", NOT_FOUND, NO_ROUTE)])?;
+        pass_anew(rt.alloc(), &[(target, "", NOT_FOUND, NO_ROUTE)])?;
     }
     Ok(())
 }
@@ -110,10 +110,9 @@ const LENGTH_DUES: [Due; 7] = [
 #[test]
 fn a_length_is_asked_for_first(rt: HostRuntime) -> Result<(), Fail> {
     let mut cabinet = new_journal(rt.alloc())?;
-    let ran = run(&rt, rt.alloc(), &mut cabinet, BATCH, WITHOUT_LENGTH)?;
+    let ran = run(rt.alloc(), &mut cabinet, BATCH, WITHOUT_LENGTH)?;
     let due = replies(rt.alloc(), &LENGTH_DUES)?;
-    expect(&rt, &ran, 0, due.as_slice(), b"");
-    Ok(())
+    expect(&ran, 0, due.as_slice(), b"")
 }
 
 /// A station whose site has 8 digits, one of 15, and no other.
@@ -142,5 +141,5 @@ const SITES: [Exchange; 5] = [
 
 #[test]
 fn sites_have_8_to_15_digits(rt: HostRuntime) -> Result<(), Fail> {
-    pass_anew(&rt, rt.alloc(), &SITES)
+    pass_anew(rt.alloc(), &SITES)
 }

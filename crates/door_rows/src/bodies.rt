@@ -1,12 +1,11 @@
 //! Bodies of edits that are refused: no JSON, or a member that is missing, ill formed or further.
 
-use crate::fixtures::{
-    BAD_REQUEST, BATCH, OK, expect, new_journal, pass_anew, push_message, replies, run,
-};
 use fixed_units::{NoMemory, Text};
 use std::alloc::Global;
-use std::process::Abort;
 use std::test::Fail;
+use whole_runs::{
+    BAD_REQUEST, BATCH, OK, expect, new_journal, pass_anew, push_message, replies, run,
+};
 
 /// Bodies that are no JSON.
 const NO_JSON: [&str; 9] = [
@@ -22,23 +21,18 @@ const NO_JSON: [&str; 9] = [
 ];
 
 /// Every body gets this reply to an edit, and leaves the office without one.
-fn refused(
-    rt: &impl Abort,
-    alloc: Global,
-    body: &'static str,
-    reply: &'static str,
-) -> Result<(), Fail> {
+fn refused(alloc: Global, body: &'static str, reply: &'static str) -> Result<(), Fail> {
     let exchanges = [
         ("POST /edits", body, BAD_REQUEST, reply),
         ("GET /status", "", OK, r#"{"edits":0,"pending":0}"#),
     ];
-    pass_anew(rt, alloc, &exchanges)
+    pass_anew(alloc, &exchanges)
 }
 
 #[test]
 fn bodies_that_are_no_json(rt: HostRuntime) -> Result<(), Fail> {
     for body in NO_JSON {
-        refused(&rt, rt.alloc(), body, r#"{"code":"Json"}"#)?;
+        refused(rt.alloc(), body, r#"{"code":"Json"}"#)?;
     }
     Ok(())
 }
@@ -69,8 +63,8 @@ fn bodies_that_are_too_deep(rt: HostRuntime) -> Result<(), Fail> {
         let input = nested(alloc, depth)?;
         let due = replies(alloc, &[(BAD_REQUEST, reply)])?;
         let mut cabinet = new_journal(alloc)?;
-        let ran = run(&rt, alloc, &mut cabinet, BATCH, input.as_slice())?;
-        expect(&rt, &ran, 0, due.as_slice(), b"");
+        let ran = run(alloc, &mut cabinet, BATCH, input.as_slice())?;
+        expect(&ran, 0, due.as_slice(), b"")?;
     }
     Ok(())
 }
@@ -93,7 +87,7 @@ const NO_KIND: [&str; 11] = [
 #[test]
 fn bodies_without_a_kind(rt: HostRuntime) -> Result<(), Fail> {
     for body in NO_KIND {
-        refused(&rt, rt.alloc(), body, r#"{"code":"Body","member":"kind"}"#)?;
+        refused(rt.alloc(), body, r#"{"code":"Body","member":"kind"}"#)?;
     }
     Ok(())
 }
@@ -149,7 +143,7 @@ const HEADS: [(&str, &str); 17] = [
 #[test]
 fn members_of_every_edit(rt: HostRuntime) -> Result<(), Fail> {
     for (body, reply) in HEADS {
-        refused(&rt, rt.alloc(), body, reply)?;
+        refused(rt.alloc(), body, reply)?;
     }
     Ok(())
 }
@@ -235,7 +229,7 @@ const ADDITIONS: [(&str, &str); 16] = [
 #[test]
 fn members_of_stations(rt: HostRuntime) -> Result<(), Fail> {
     for (body, reply) in ADDITIONS {
-        refused(&rt, rt.alloc(), body, reply)?;
+        refused(rt.alloc(), body, reply)?;
     }
     Ok(())
 }
@@ -305,7 +299,7 @@ const PUTS: [(&str, &str); 14] = [
 #[test]
 fn members_of_puts(rt: HostRuntime) -> Result<(), Fail> {
     for (body, reply) in PUTS {
-        refused(&rt, rt.alloc(), body, reply)?;
+        refused(rt.alloc(), body, reply)?;
     }
     Ok(())
 }

@@ -1,13 +1,13 @@
 //! The words of a run, and how it ends.
 
-use crate::fixtures::{
-    ADDITION, BATCH, EMPTY_JOURNAL, INIT, Ways, cabinet, expect, left, new_journal, push_message,
-    run, run_by, same,
-};
 use devices::MemoryCabinet;
 use fixed_units::{NoMemory, Text};
 use std::alloc::Global;
 use std::test::Fail;
+use whole_runs::{
+    ADDITION, BATCH, EMPTY_JOURNAL, INIT, Ways, cabinet, expect, left, new_journal, push_message,
+    run, run_by, same,
+};
 
 const WORDS: [(&[&str], u8); 17] = [
     (BATCH, 0),
@@ -42,9 +42,9 @@ fn told_of(status: u8) -> &'static [u8] {
 fn words(rt: HostRuntime) -> Result<(), Fail> {
     for (words, status) in WORDS {
         let mut cabinet = new_journal(rt.alloc())?;
-        let ran = run(&rt, rt.alloc(), &mut cabinet, words, b"")?;
-        expect(&rt, &ran, status, b"", told_of(status));
-        same(&rt, status, &left(&cabinet), &Some(EMPTY_JOURNAL));
+        let ran = run(rt.alloc(), &mut cabinet, words, b"")?;
+        expect(&ran, status, b"", told_of(status))?;
+        same(status, &left(&cabinet), &Some(EMPTY_JOURNAL))?;
     }
     Ok(())
 }
@@ -60,11 +60,10 @@ fn a_journal_is_made_and_served(rt: HostRuntime) -> Result<(), Fail> {
         (BATCH, 0, b""),
     ];
     for (words, status, told) in runs {
-        let ran = run(&rt, rt.alloc(), &mut cabinet, words, b"")?;
-        expect(&rt, &ran, status, b"", told);
+        let ran = run(rt.alloc(), &mut cabinet, words, b"")?;
+        expect(&ran, status, b"", told)?;
     }
-    same(&rt, "left", &left(&cabinet), &Some(EMPTY_JOURNAL));
-    Ok(())
+    same("left", &left(&cabinet), &Some(EMPTY_JOURNAL))
 }
 
 #[test]
@@ -72,15 +71,9 @@ fn a_cabinet_fails(rt: HostRuntime) -> Result<(), Fail> {
     let alloc = rt.alloc();
     let mut failing = MemoryCabinet::new(alloc, vec![in alloc; 1, 2]?);
     for words in [INIT, BATCH] {
-        let ran = run(
-            &rt,
-            rt.alloc(),
-            &mut failing,
-            words,
-            b"GET / HTTP/1.1\r\n\r\n",
-        )?;
-        expect(&rt, &ran, 4, b"", b"streamoffice: disk fault\n");
-        same(&rt, "reads", &ran.reads, &0);
+        let ran = run(rt.alloc(), &mut failing, words, b"GET / HTTP/1.1\r\n\r\n")?;
+        expect(&ran, 4, b"", b"streamoffice: disk fault\n")?;
+        same("reads", &ran.reads, &0)?;
     }
     Ok(())
 }
@@ -99,16 +92,10 @@ const DISK_FAULTS: [(&[&str], &[u8], u64); 6] = [
 fn a_disk_fails_before_the_input_is_read(rt: HostRuntime) -> Result<(), Fail> {
     for (words, bytes, call) in DISK_FAULTS {
         let mut cabinet = cabinet(rt.alloc(), bytes, &[call])?;
-        let ran = run(
-            &rt,
-            rt.alloc(),
-            &mut cabinet,
-            words,
-            b"GET / HTTP/1.1\r\n\r\n",
-        )?;
-        expect(&rt, &ran, 4, b"", b"streamoffice: disk fault\n");
-        same(&rt, "reads", &ran.reads, &0);
-        same(&rt, "faults", &cabinet.fault_count(), &1);
+        let ran = run(rt.alloc(), &mut cabinet, words, b"GET / HTTP/1.1\r\n\r\n")?;
+        expect(&ran, 4, b"", b"streamoffice: disk fault\n")?;
+        same("reads", &ran.reads, &0)?;
+        same("faults", &cabinet.fault_count(), &1)?;
     }
     Ok(())
 }
@@ -158,22 +145,14 @@ fn pieces_and_faults(rt: HostRuntime) -> Result<(), Fail> {
             piece,
         };
         let mut cabinet = new_journal(rt.alloc())?;
-        let ran = run_by(
-            &rt,
-            rt.alloc(),
-            &mut cabinet,
-            BATCH,
-            message.as_slice(),
-            &ways,
-        )?;
-        expect(&rt, &ran, status, written, told);
+        let ran = run_by(rt.alloc(), &mut cabinet, BATCH, message.as_slice(), &ways)?;
+        expect(&ran, status, written, told)?;
         let length = if status == 2 { 17 } else { 77 };
         same(
-            &rt,
             status,
             &left(&cabinet).map(|bytes| bytes.len()),
             &Some(length),
-        );
+        )?;
     }
     Ok(())
 }

@@ -1,12 +1,12 @@
 //! How the input is cut into messages, and bytes that are none.
 
-use crate::fixtures::{
-    BAD_REQUEST, BATCH, Due, OK, TOO_LARGE, expect, left, new_journal, push_reply, replies, run,
-    same,
-};
 use fixed_units::{NoMemory, Text};
 use std::alloc::Global;
 use std::test::Fail;
+use whole_runs::{
+    BAD_REQUEST, BATCH, Due, OK, TOO_LARGE, expect, left, new_journal, push_reply, replies, run,
+    same,
+};
 
 const STATUS: &[u8] = b"GET /status HTTP/1.1\r\n\r\n";
 
@@ -46,14 +46,8 @@ fn bytes_that_are_no_message(rt: HostRuntime) -> Result<(), Fail> {
         let mut input = STATUS.to_vec(rt.alloc())?;
         input.extend_from_slice(bytes)?;
         let mut cabinet = new_journal(rt.alloc())?;
-        let ran = run(&rt, rt.alloc(), &mut cabinet, BATCH, &input)?;
-        expect(
-            &rt,
-            &ran,
-            9,
-            due.as_slice(),
-            b"streamoffice: malformed at 24\n",
-        );
+        let ran = run(rt.alloc(), &mut cabinet, BATCH, &input)?;
+        expect(&ran, 9, due.as_slice(), b"streamoffice: malformed at 24\n")?;
     }
     Ok(())
 }
@@ -63,11 +57,10 @@ fn bytes_that_are_no_message(rt: HostRuntime) -> Result<(), Fail> {
 fn a_malformed_message_ends_the_session(rt: HostRuntime) -> Result<(), Fail> {
     let input = b"GET / HTTP/1.1\r\nContent-Length: x\r\n\r\nGET /status HTTP/1.1\r\n\r\n";
     let mut cabinet = new_journal(rt.alloc())?;
-    let ran = run(&rt, rt.alloc(), &mut cabinet, BATCH, input)?;
+    let ran = run(rt.alloc(), &mut cabinet, BATCH, input)?;
     let due =
         b"HTTP/1.1 400 Bad Request\r\nContent-Type: application/json\r\nContent-Length: 20\r\n\r\n{\"code\":\"Malformed\"}";
-    expect(&rt, &ran, 9, due, b"streamoffice: malformed at 0\n");
-    Ok(())
+    expect(&ran, 9, due, b"streamoffice: malformed at 0\n")
 }
 
 /// Messages whose lengths are told in other spellings, and bodies that are not looked at.
@@ -89,8 +82,8 @@ fn messages_are_spelled_in_many_ways(rt: HostRuntime) -> Result<(), Fail> {
     let due = replies(rt.alloc(), &[COUNTS])?;
     for input in SPELLINGS {
         let mut cabinet = new_journal(rt.alloc())?;
-        let ran = run(&rt, rt.alloc(), &mut cabinet, BATCH, input)?;
-        expect(&rt, &ran, 0, due.as_slice(), b"");
+        let ran = run(rt.alloc(), &mut cabinet, BATCH, input)?;
+        expect(&ran, 0, due.as_slice(), b"")?;
     }
     Ok(())
 }
@@ -102,14 +95,9 @@ const NOTHING: [&[u8]; 4] = [b"", b"\r\n", b"\n\n", b"\r\n\r\n\n"];
 fn an_input_without_messages(rt: HostRuntime) -> Result<(), Fail> {
     for input in NOTHING {
         let mut cabinet = new_journal(rt.alloc())?;
-        let ran = run(&rt, rt.alloc(), &mut cabinet, BATCH, input)?;
-        expect(&rt, &ran, 0, b"", b"");
-        same(
-            &rt,
-            "left",
-            &left(&cabinet).map(|bytes| bytes.len()),
-            &Some(17),
-        );
+        let ran = run(rt.alloc(), &mut cabinet, BATCH, input)?;
+        expect(&ran, 0, b"", b"")?;
+        same("left", &left(&cabinet).map(|bytes| bytes.len()), &Some(17))?;
     }
     Ok(())
 }
@@ -171,9 +159,9 @@ fn large_bodies_are_skipped(rt: HostRuntime) -> Result<(), Fail> {
     for (head, one_more, due) in LARGE {
         let input = large(rt.alloc(), head, one_more)?;
         let mut cabinet = new_journal(rt.alloc())?;
-        let ran = run(&rt, rt.alloc(), &mut cabinet, BATCH, input.as_slice())?;
+        let ran = run(rt.alloc(), &mut cabinet, BATCH, input.as_slice())?;
         let due = replies(rt.alloc(), &[due, COUNTS])?;
-        expect(&rt, &ran, 0, due.as_slice(), b"");
+        expect(&ran, 0, due.as_slice(), b"")?;
     }
     Ok(())
 }
@@ -194,25 +182,12 @@ fn head_of(alloc: Global, filling: u32) -> Result<Text, NoMemory> {
 fn a_long_head(rt: HostRuntime) -> Result<(), Fail> {
     let mut cabinet = new_journal(rt.alloc())?;
     let good = head_of(rt.alloc(), 8_164)?;
-    same(&rt, "length", &good.len(), &8_192);
-    let ran = run(&rt, rt.alloc(), &mut cabinet, BATCH, good.as_slice())?;
-    expect(
-        &rt,
-        &ran,
-        0,
-        replies(rt.alloc(), &[COUNTS])?.as_slice(),
-        b"",
-    );
+    same("length", &good.len(), &8_192)?;
+    let ran = run(rt.alloc(), &mut cabinet, BATCH, good.as_slice())?;
+    expect(&ran, 0, replies(rt.alloc(), &[COUNTS])?.as_slice(), b"")?;
     let bad = head_of(rt.alloc(), 8_165)?;
-    let ran = run(&rt, rt.alloc(), &mut cabinet, BATCH, bad.as_slice())?;
+    let ran = run(rt.alloc(), &mut cabinet, BATCH, bad.as_slice())?;
     let mut due = Text::new(rt.alloc());
     push_reply(MALFORMED.0, MALFORMED.1.as_bytes(), &mut due)?;
-    expect(
-        &rt,
-        &ran,
-        9,
-        due.as_slice(),
-        b"streamoffice: malformed at 0\n",
-    );
-    Ok(())
+    expect(&ran, 9, due.as_slice(), b"streamoffice: malformed at 0\n")
 }

@@ -1,7 +1,7 @@
 //! Edits that are sent again, and references that are used for another.
 
-use crate::fixtures::{ADDED, ADDITION, CONFLICT, Exchange, OK, pass_anew};
 use std::test::Fail;
+use whole_runs::{ADDED, ADDITION, CONFLICT, Exchange, OK, pass_anew};
 
 const REPEATED_1: &str = r#"{"edit":1,"repeated":true}"#;
 
@@ -44,7 +44,7 @@ const ADDITIONS: [Exchange; 7] = [
 
 #[test]
 fn an_addition_is_sent_again(rt: HostRuntime) -> Result<(), Fail> {
-    pass_anew(&rt, rt.alloc(), &ADDITIONS)
+    pass_anew(rt.alloc(), &ADDITIONS)
 }
 
 /// An edit is the same where its values are, however its body is spelled.
@@ -85,7 +85,7 @@ const READINGS: [Exchange; 7] = [
 
 #[test]
 fn a_reading_is_sent_again(rt: HostRuntime) -> Result<(), Fail> {
-    pass_anew(&rt, rt.alloc(), &READINGS)
+    pass_anew(rt.alloc(), &READINGS)
 }
 
 /// Zones are the same where their texts are.
@@ -112,7 +112,7 @@ const ZONES: [Exchange; 3] = [
 
 #[test]
 fn zones_are_compared_as_texts(rt: HostRuntime) -> Result<(), Fail> {
-    pass_anew(&rt, rt.alloc(), &ZONES)
+    pass_anew(rt.alloc(), &ZONES)
 }
 
 /// A repeated edit marks no day, and one that changes no day's inputs marks none either.
@@ -149,5 +149,5 @@ const MARKS: [Exchange; 8] = [
 
 #[test]
 fn days_await_edits_that_change_them(rt: HostRuntime) -> Result<(), Fail> {
-    pass_anew(&rt, rt.alloc(), &MARKS)
+    pass_anew(rt.alloc(), &MARKS)
 }

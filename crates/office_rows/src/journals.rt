@@ -1,11 +1,11 @@
 //! What stands in a journal behind the edits of a run, and what is no journal.
 
-use crate::fixtures::{
+use std::alloc::Global;
+use std::test::Fail;
+use whole_runs::{
     ADDED, ADDITION, BATCH, EMPTY_JOURNAL, Exchange, INIT, OK, cabinet, expect, left, new_journal,
     pass, run, same,
 };
-use std::alloc::Global;
-use std::test::Fail;
 
 const HEADER: &[u8] = b"STREAMOFFICE-J1\n";
 
@@ -58,7 +58,7 @@ const EDITS: [Exchange; 6] = [
 fn edits_are_kept(rt: HostRuntime) -> Result<(), Fail> {
     let alloc = rt.alloc();
     let mut cabinet = new_journal(alloc)?;
-    pass(&rt, rt.alloc(), &mut cabinet, &EDITS)?;
+    pass(rt.alloc(), &mut cabinet, &EDITS)?;
     let kept = joined(
         alloc,
         &[
@@ -72,11 +72,10 @@ fn edits_are_kept(rt: HostRuntime) -> Result<(), Fail> {
             b"\0",
         ],
     )?;
-    same(&rt, "kept", &left(&cabinet), &Some(kept.as_slice()));
+    same("kept", &left(&cabinet), &Some(kept.as_slice()))?;
     let again = [("GET /status", "", OK, r#"{"edits":3,"pending":1}"#)];
-    pass(&rt, rt.alloc(), &mut cabinet, &again)?;
-    same(&rt, "left", &left(&cabinet), &Some(kept.as_slice()));
-    Ok(())
+    pass(rt.alloc(), &mut cabinet, &again)?;
+    same("left", &left(&cabinet), &Some(kept.as_slice()))
 }
 
 /// The gate before a record, and whether the same edit is a repeated one.
@@ -98,8 +97,8 @@ fn a_stop_leaves_the_edit_or_not(rt: HostRuntime) -> Result<(), Fail> {
             ("POST /edits", ADDITION, OK, reply),
             ("GET /status", "", OK, r#"{"edits":1,"pending":0}"#),
         ];
-        pass(&rt, rt.alloc(), &mut cabinet, &again)?;
-        same(&rt, reply, &left(&cabinet), &Some(whole.as_slice()));
+        pass(rt.alloc(), &mut cabinet, &again)?;
+        same(reply, &left(&cabinet), &Some(whole.as_slice()))?;
     }
     Ok(())
 }
@@ -154,15 +153,14 @@ fn journals_are_damaged(rt: HostRuntime) -> Result<(), Fail> {
         bytes.extend_from_slice(&joined(alloc, parts)?)?;
         let mut cabinet = cabinet(alloc, &bytes, &[])?;
         let ran = run(
-            &rt,
             rt.alloc(),
             &mut cabinet,
             BATCH,
             b"GET /status HTTP/1.1\r\n\r\n",
         )?;
-        expect(&rt, &ran, 5, b"", told);
-        same(&rt, "reads", &ran.reads, &0);
-        same(&rt, "left", &left(&cabinet), &Some(bytes.as_slice()));
+        expect(&ran, 5, b"", told)?;
+        same("reads", &ran.reads, &0)?;
+        same("left", &left(&cabinet), &Some(bytes.as_slice()))?;
     }
     Ok(())
 }
@@ -188,16 +186,15 @@ fn journals_are_made(rt: HostRuntime) -> Result<(), Fail> {
     for (bytes, status, told) in MAKINGS {
         let mut cabinet = cabinet(rt.alloc(), bytes, &[])?;
         let ran = run(
-            &rt,
             rt.alloc(),
             &mut cabinet,
             INIT,
             b"GET /status HTTP/1.1\r\n\r\n",
         )?;
-        expect(&rt, &ran, status, b"", told);
-        same(&rt, "reads", &ran.reads, &0);
+        expect(&ran, status, b"", told)?;
+        same("reads", &ran.reads, &0)?;
         let kept = if status == 0 { EMPTY_JOURNAL } else { bytes };
-        same(&rt, "left", &left(&cabinet), &Some(kept));
+        same("left", &left(&cabinet), &Some(kept))?;
     }
     Ok(())
 }
@@ -216,15 +213,14 @@ fn there_is_no_journal(rt: HostRuntime) -> Result<(), Fail> {
     for bytes in NO_JOURNALS {
         let mut cabinet = cabinet(rt.alloc(), bytes, &[])?;
         let ran = run(
-            &rt,
             rt.alloc(),
             &mut cabinet,
             BATCH,
             b"GET /status HTTP/1.1\r\n\r\n",
         )?;
-        expect(&rt, &ran, 5, b"", b"streamoffice: not a journal\n");
-        same(&rt, "reads", &ran.reads, &0);
-        same(&rt, "left", &left(&cabinet), &Some(bytes));
+        expect(&ran, 5, b"", b"streamoffice: not a journal\n")?;
+        same("reads", &ran.reads, &0)?;
+        same("left", &left(&cabinet), &Some(bytes))?;
     }
     Ok(())
 }

@@ -1,7 +1,7 @@
 //! Days that are computed, as they are asked for.
 
-use crate::fixtures::{ADDED, CONFLICT, Exchange, NOT_FOUND, OK, new_journal, pass, pass_anew};
 use std::test::Fail;
+use whole_runs::{ADDED, CONFLICT, Exchange, NOT_FOUND, OK, new_journal, pass, pass_anew};
 
 const READING: &str =
     r#"{"kind":"PutReadings","by":"AB","ref":"a2","site":"01646500","readings":[["2024-01-05T05:00:00Z","1.00"]]}"#;
@@ -68,7 +68,7 @@ const A_SMALLER_GAP: [Exchange; 15] = [
 
 #[test]
 fn a_smaller_gap_changes_both_days(rt: HostRuntime) -> Result<(), Fail> {
-    pass_anew(&rt, rt.alloc(), &A_SMALLER_GAP)
+    pass_anew(rt.alloc(), &A_SMALLER_GAP)
 }
 
 /// A turn publishes the first pending day, and many end where none is left.
@@ -100,7 +100,7 @@ const TURNS: [Exchange; 13] = [
 
 #[test]
 fn turns_publish_days_in_order(rt: HostRuntime) -> Result<(), Fail> {
-    pass_anew(&rt, rt.alloc(), &TURNS)
+    pass_anew(rt.alloc(), &TURNS)
 }
 
 /// A day that no edit changed is computed and empty at any time.
@@ -117,7 +117,7 @@ const EMPTY_DAYS: [Exchange; 8] = [
 
 #[test]
 fn days_without_readings_are_empty(rt: HostRuntime) -> Result<(), Fail> {
-    pass_anew(&rt, rt.alloc(), &EMPTY_DAYS)
+    pass_anew(rt.alloc(), &EMPTY_DAYS)
 }
 
 /// A station that is not kept is not found, and an edit on it is refused.
@@ -135,7 +135,7 @@ const NO_STATION: [Exchange; 4] = [
 
 #[test]
 fn there_is_no_station(rt: HostRuntime) -> Result<(), Fail> {
-    pass_anew(&rt, rt.alloc(), &NO_STATION)
+    pass_anew(rt.alloc(), &NO_STATION)
 }
 
 /// What is known of both days once the journal is opened anew.
@@ -159,7 +159,7 @@ fn every_changed_day_is_pending_again(rt: HostRuntime) -> Result<(), Fail> {
         SETTLED,
         ("GET /status", "", OK, r#"{"edits":4,"pending":0}"#),
     ];
-    pass(&rt, rt.alloc(), &mut cabinet, &before)?;
-    pass(&rt, rt.alloc(), &mut cabinet, &OPENED_ANEW)?;
-    pass(&rt, rt.alloc(), &mut cabinet, &OPENED_ANEW)
+    pass(rt.alloc(), &mut cabinet, &before)?;
+    pass(rt.alloc(), &mut cabinet, &OPENED_ANEW)?;
+    pass(rt.alloc(), &mut cabinet, &OPENED_ANEW)
 }

@@ -1,40 +1,37 @@
 //! Calls of the disk that fail at an edit, and the mend at the next one.
 
-use crate::fixtures::{
+use std::alloc::Global;
+use std::test::Fail;
+use whole_runs::{
     ADDED, ADDITION, BATCH, CONFLICT, EMPTY_JOURNAL, Exchange, FIRST, OK, UNAVAILABLE, cabinet,
     new_journal, pass, run, same,
 };
-use std::alloc::Global;
-use std::process::Abort;
-use std::test::Fail;
 
 /// How many calls of its disk the opening of a journal of no records makes.
-fn opening_calls(rt: &impl Abort, alloc: Global) -> Result<u64, Fail> {
+fn opening_calls(alloc: Global) -> Result<u64, Fail> {
     let mut cabinet = new_journal(alloc)?;
-    run(rt, alloc, &mut cabinet, BATCH, b"")?;
+    run(alloc, &mut cabinet, BATCH, b"")?;
     Ok(cabinet.disk("J").map_or(0, |disk| disk.call_count()))
 }
 
 /// Over a journal of no records the exchanges pass where these calls of the disk fail, counted from the first behind the opening, and
 /// the disk has so many calls then.
 fn pass_failing(
-    rt: &impl Abort,
     alloc: Global,
     failing: &[u64],
     exchanges: &[Exchange],
     calls: u64,
 ) -> Result<(), Fail> {
-    let opening = opening_calls(rt, alloc)?;
+    let opening = opening_calls(alloc)?;
     let mut numbers = Vec::new(alloc);
     for call in failing {
         numbers.push(opening.saturating_add(*call))?;
     }
     let mut cabinet = cabinet(alloc, EMPTY_JOURNAL, &numbers)?;
-    pass(rt, alloc, &mut cabinet, exchanges)?;
+    pass(alloc, &mut cabinet, exchanges)?;
     let made = cabinet.disk("J").map_or(0, |disk| disk.call_count());
-    same(rt, "calls", &made, &opening.saturating_add(calls));
-    same(rt, "faults", &cabinet.fault_count(), &1);
-    Ok(())
+    same("calls", &made, &opening.saturating_add(calls))?;
+    same("faults", &cabinet.fault_count(), &1)
 }
 
 const IN_DOUBT: &str = r#"{"code":"JournalFault","in_doubt":true}"#;
@@ -67,7 +64,7 @@ fn a_call_fails(rt: HostRuntime) -> Result<(), Fail> {
             ADDED,
             ("GET /status", "", OK, r#"{"edits":1,"pending":0}"#),
         ];
-        pass_failing(&rt, rt.alloc(), failing, &exchanges, calls)?;
+        pass_failing(rt.alloc(), failing, &exchanges, calls)?;
     }
     Ok(())
 }
@@ -92,7 +89,7 @@ fn two_calls_fail(rt: HostRuntime) -> Result<(), Fail> {
             ADDED,
             ("GET /status", "", OK, r#"{"edits":1,"pending":0}"#),
         ];
-        pass_failing(&rt, rt.alloc(), failing, &exchanges, calls)?;
+        pass_failing(rt.alloc(), failing, &exchanges, calls)?;
     }
     Ok(())
 }
@@ -129,7 +126,7 @@ const IN_THE_MEANTIME: [Exchange; 10] = [
 
 #[test]
 fn a_doubt_stops_nothing(rt: HostRuntime) -> Result<(), Fail> {
-    pass_failing(&rt, rt.alloc(), &[7], &IN_THE_MEANTIME, 13)
+    pass_failing(rt.alloc(), &[7], &IN_THE_MEANTIME, 13)
 }
 
 /// The call that fails, and whether the same edit is a repeated one once the journal is opened anew.
@@ -143,14 +140,14 @@ const OPENED_ANEW: [(u64, &str, &str); 4] = [
 /// An edit in doubt whose record is found was accepted.
 #[test]
 fn an_edit_in_doubt_is_found_or_not(rt: HostRuntime) -> Result<(), Fail> {
-    let opening = opening_calls(&rt, rt.alloc())?;
+    let opening = opening_calls(rt.alloc())?;
     for (call, first, second) in OPENED_ANEW {
         let failing = [opening.saturating_add(call)];
         let mut cabinet = cabinet(rt.alloc(), EMPTY_JOURNAL, &failing)?;
         let sent = ("POST /edits", ADDED.1, UNAVAILABLE, first);
-        pass(&rt, rt.alloc(), &mut cabinet, &[sent])?;
+        pass(rt.alloc(), &mut cabinet, &[sent])?;
         let again = ("POST /edits", ADDED.1, OK, second);
-        pass(&rt, rt.alloc(), &mut cabinet, &[again])?;
+        pass(rt.alloc(), &mut cabinet, &[again])?;
     }
     Ok(())
 }

@@ -1,13 +1,12 @@
 //! The limits of every run, as far as a short stream comes to one.
 
-use crate::fixtures::{
-    ADDITION, BATCH, CONFLICT, OK, expect, new_journal, push_message, push_reply, run,
-};
 use civil_days::write_instant;
 use fixed_units::{NoMemory, Second, Text};
 use std::alloc::Global;
-use std::process::Abort;
 use std::test::Fail;
+use whole_runs::{
+    ADDITION, BATCH, CONFLICT, OK, expect, new_journal, push_message, push_reply, run,
+};
 
 /// The messages and the replies of a stream that grows by edits.
 #[derive(Drop)]
@@ -95,11 +94,10 @@ impl Stream {
     }
 
     /// The stream passes over a new journal.
-    fn pass(&self, rt: &impl Abort) -> Result<(), Fail> {
+    fn pass(&self) -> Result<(), Fail> {
         let mut cabinet = new_journal(self.alloc)?;
-        let ran = run(rt, self.alloc, &mut cabinet, BATCH, self.input.as_slice())?;
-        expect(rt, &ran, 0, self.due.as_slice(), b"");
-        Ok(())
+        let ran = run(self.alloc, &mut cabinet, BATCH, self.input.as_slice())?;
+        expect(&ran, 0, self.due.as_slice(), b"")
     }
 }
 
@@ -117,7 +115,7 @@ fn there_are_500_stations(rt: HostRuntime) -> Result<(), Fail> {
     stream.refused(MANY_STATIONS)?;
     stream.put(b'a', 1, b"2024-01-05T05:00:00Z")?;
     stream.accepted(501)?;
-    stream.pass(&rt)
+    stream.pass()
 }
 
 /// The stamp of a number: from 2 on they rise by 57 seconds from the beginning of 2024-01-05.
@@ -145,7 +143,7 @@ fn a_day_has_1500_readings(rt: HostRuntime) -> Result<(), Fail> {
     stream.accepted(1_502)?;
     stream.put_at(1_504, stamp(1_518)?)?;
     stream.accepted(1_503)?;
-    stream.pass(&rt)
+    stream.pass()
 }
 
 const MANY_CELLS: &str = r#"{"code":"HistoryFull","full":"Cells"}"#;
@@ -176,5 +174,5 @@ fn there_are_4_000_000_cells(rt: HostRuntime) -> Result<(), Fail> {
     stream.refused(MANY_CELLS)?;
     stream.put(b'd', 55, b"2024-01-05T05:00:00Z")?;
     stream.accepted(166)?;
-    stream.pass(&rt)
+    stream.pass()
 }

@@ -1,7 +1,7 @@
 //! Stations, and the lengths of days by their zones.
 
-use crate::fixtures::{ADDED, BAD_REQUEST, CONFLICT, Exchange, NOT_FOUND, OK, pass_anew};
 use std::test::Fail;
+use whole_runs::{ADDED, BAD_REQUEST, CONFLICT, Exchange, NOT_FOUND, OK, pass_anew};
 
 /// The station is added with the rules of the zone of New York.
 const ADDED_EAST: Exchange = (
@@ -68,7 +68,7 @@ const THE_SHORT_DAY: [Exchange; 10] = [
 
 #[test]
 fn a_day_of_23_hours(rt: HostRuntime) -> Result<(), Fail> {
-    pass_anew(&rt, rt.alloc(), &THE_SHORT_DAY)
+    pass_anew(rt.alloc(), &THE_SHORT_DAY)
 }
 
 /// A day of 25 hours that is not covered.
@@ -91,7 +91,7 @@ const THE_LONG_DAY: [Exchange; 4] = [
 
 #[test]
 fn a_day_of_25_hours(rt: HostRuntime) -> Result<(), Fail> {
-    pass_anew(&rt, rt.alloc(), &THE_LONG_DAY)
+    pass_anew(rt.alloc(), &THE_LONG_DAY)
 }
 
 const BAD_ZONE: &str = r#"{"code":"Body","member":"zone"}"#;
@@ -121,7 +121,7 @@ const ZONES: [Exchange; 4] = [
 
 #[test]
 fn zones_are_good_or_refused(rt: HostRuntime) -> Result<(), Fail> {
-    pass_anew(&rt, rt.alloc(), &ZONES)
+    pass_anew(rt.alloc(), &ZONES)
 }
 
 const STATION: &str = "GET /stations/01646500";
@@ -175,5 +175,5 @@ const STATIONS: [Exchange; 8] = [
 
 #[test]
 fn stations_are_told_as_they_were_given(rt: HostRuntime) -> Result<(), Fail> {
-    pass_anew(&rt, rt.alloc(), &STATIONS)
+    pass_anew(rt.alloc(), &STATIONS)
 }

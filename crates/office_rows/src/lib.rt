@@ -1,0 +1,15 @@
+//! Worked rows of edits, days, limits, zones, faults and journals as whole runs of the program's call, over objects in memory. Every byte that is due was worked out by hand.
+#![tactic(auto)]
+
+#[cfg(test)]
+mod days;
+#[cfg(test)]
+mod faults;
+#[cfg(test)]
+mod journals;
+#[cfg(test)]
+mod limits;
+#[cfg(test)]
+mod repeats;
+#[cfg(test)]
+mod zones;

@@ -1,2 +1,3 @@
+pub mod Insides
 pub mod Places
 pub mod Replays

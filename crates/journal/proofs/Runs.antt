@@ -1,5 +1,5 @@
 -- What a stop at any moment of an append and of a mend leaves.
-use Rattle.std.proofs.Common.{◌≡◌, inl, ℕ, ◌+◌, List, [], ◌∷◌, ◌++◌, length, Some, IfSome, IsSome, subst}
+use Rattle.std.proofs.Common.{◌≡◌, inl, ℕ, ◌+◌, List, length, Some, IfSome, IsSome, subst}
 use Rattle.devices.specs.declared.disks.Disk.{Ghosts}
 use Rattle.records.specs.Payloads.{encoded_and_closed}
 use Rattle.records.specs.declared.payloads.Record.{Record}

@@ -5,9 +5,9 @@ use Rattle.httparse.specs.Grammar.{RequestHead, print_request}
 use Rattle.wire.specs.declared.framing.Frame.{Frame}
 use Rattle.wire.specs.declared.framing.Frame.TheVariants as frames
 use Rattle.wire.specs.declared.framing.Head.{Head}
-use Rattle.wire.specs.declared.incoming.Passed.{Passed}
-use Rattle.wire.specs.declared.incoming.Passed.TheVariants as passes
-use Rattle.wire.specs.declared.incoming.Texts.{Texts}
+use Rattle.wire.specs.declared.passing.Passed.{Passed}
+use Rattle.wire.specs.declared.passing.Passed.TheVariants as passes
+use Rattle.wire.specs.declared.passing.Texts.{Texts}
 use Rattle.wire.specs.declared.messages.Message.TheVariants as messages
 use Rattle.wire.specs.Framing.{verb_of, frame_of, is_good, body_length}
 use Rattle.wire.specs.declared.messages.Verb.{Verb}

@@ -15,11 +15,11 @@ use Rattle.wire.specs.declared.looking.Front.TheVariants as fronts
 use Rattle.wire.specs.declared.framing.Frame.{Frame}
 use Rattle.wire.specs.declared.framing.Frame.TheVariants as frames
 use Rattle.wire.specs.declared.messages.Verb.{Verb}
-use Rattle.wire.specs.declared.incoming.Texts.{Texts}
+use Rattle.wire.specs.declared.passing.Texts.{Texts}
 use Rattle.wire.specs.declared.incoming.Filled.{Filled}
 use Rattle.wire.specs.declared.incoming.Filled.TheVariants as fills
-use Rattle.wire.specs.declared.incoming.Passed.{Passed}
-use Rattle.wire.specs.declared.incoming.Passed.TheVariants as passes
+use Rattle.wire.specs.declared.passing.Passed.{Passed}
+use Rattle.wire.specs.declared.passing.Passed.TheVariants as passes
 
 -- the bytes at hand begin with this head, which frames a body, and what was found are its parts
 pub record IsFramedAt (ahead : List ℕ) (found : Head) (head : RequestHead) : Type 0 where

@@ -6,6 +6,7 @@ pub mod incoming;
 pub mod limits;
 pub mod looking;
 pub mod messages;
+pub mod passing;
 pub mod replies;
 
 pub use incoming::Incoming;

@@ -1,6 +1,6 @@
 use Rattle.std.proofs.Common.{◌≡◌, ◌++◌, List, ℕ, true, slice_range, sym, ap, ◌∙◌, subst}
 use Rattle.wire.specs.Framing.{body_length}
-use Rattle.wire.specs.declared.incoming.Texts.{Texts}
+use Rattle.wire.specs.declared.passing.Texts.{Texts}
 use Rattle.wire.specs.Incoming.{Held, IsNext, Proceeds, HasCause}
 use Rattle.wire.specs.Looking.{PassesWhole, is_kept, told_as}
 use Rattle.wire.proofs.IncomingLemmas.{told_maps}

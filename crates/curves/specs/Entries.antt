@@ -46,6 +46,11 @@ pub record IsSeriesValue (entries : List Entry) (at stage v : ℤ) : Type 0 wher
 abbrev pub AreAmounts : List Entry → Type 0
 AreAmounts entries = All (λ entry. All (λ p. IsAmount p.1) entry.curve) entries
 
+-- what the entries of a series keep to: they rise, and their amounts are in range
+pub record IsSeries (entries : List Entry) : Type 0 where
+  pub rising : IsRising entries
+  pub amounts : AreAmounts entries
+
 -- whether an entry stands at an instant
 abbrev pub stands_at : ℤ → List Entry → Bool
 stands_at at entries = is_some (lists.at instant_of at entries)

@@ -69,6 +69,17 @@ fn amount_prorated(entry: &Entry, next: &Entry, at: Second, stage: Micro) -> Mic
     )
 }
 
+/// The entries that bear on the instants from `lo` to `hi`, of entries whose instants strictly rise: each that stands at
+/// most at `hi` and whose next one, if there is one, stands after `lo`; and each that directly follows such an entry that
+/// prorates.
+pub fn bearing_entries(entries: &[Entry], lo: Second, hi: Second) -> &[Entry]
+    requires { IsRising entries.now }
+    ensures { result.now ≡ bearing lo hi entries.now }
+{
+    let (start, end) = bearing(entries, lo, hi);
+    &entries[start..end]
+}
+
 /// The first place of the entries that bear on a span, and the place after the last one.
 pub(crate) fn bearing(entries: &[Entry], lo: Second, hi: Second) -> (usize, usize)
     requires { IsRising entries.now }

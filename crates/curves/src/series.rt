@@ -1,10 +1,11 @@
 //! A kept series: entries that rise by instant, with room for more.
 
-ghost use Rattle.std.specs.Prelude.{◌≡◌, ◌+◌, ◌<◌, ◌≤◌, [], length, is_ok, IsOk, OnOk, OnErr, slice_range};
+ghost use Rattle.std.specs.Prelude.{◌≡◌, ◌+◌, ◌<◌, ◌≤◌, [], length, is_ok, IsOk, IfOk, OnOk, OnErr, slice_range};
 ghost use Rattle.curves.specs.Entries.{IsRising, series_value, stands_at, without, put};
 ghost use Rattle.curves.specs.Bearing.{bearing};
 
-use crate::entries::{Entry, bearing, value_of};
+use crate::entries::{Entry, bearing, bearing_entries, value_of};
+use crate::entry_list::EntryList;
 use fixed_units::{Micro, NoMemory, Second};
 use rising::{NoEntry, RisingList};
 use std::alloc::Global;
@@ -96,6 +97,22 @@ impl Series {
         ensures run { slice_range self.now.entries result.0 result.1 ≡ bearing lo hi self.now.entries }
     {
         bearing(self.list.as_slice(), lo, hi)
+    }
+
+    /// The entries that bear on the instants from `lo` to `hi`, as [`Series::bearing`] says.
+    pub fn bearing_entries(&self, lo: Second, hi: Second) -> &[Entry]
+        ensures { result.now ≡ bearing lo hi self.now.entries }
+    {
+        bearing_entries(self.list.as_slice(), lo, hi)
+    }
+
+    /// A copy of them.
+    pub fn bearing_list(&self, alloc: Global, lo: Second, hi: Second) -> Result<EntryList, NoMemory>
+        ensures { IfOk result (λ list. list ≡ bearing lo hi self.now.entries) }
+    {
+        let mut entries = Vec::new(alloc);
+        entries.extend_from_slice(self.bearing_entries(lo, hi))?;
+        Ok(EntryList::from_vec(entries))
     }
 
     /// The entries, in order.

@@ -2,7 +2,11 @@
 //! to compare what is kept with.
 
 ghost use Rattle.std.specs.Prelude.{◌≡◌, ◌+◌, ◌*◌, ◌^◌, ◌≤◌, ◌++◌, ◌&&◌, pos, neg_ℤ, ◌-ℤ◌, ◌≤ℤ◌, int_lt, int_le, All, find, reverse, option_to_list, IfOk, OnOk};
-ghost use Rattle.fixed_units.specs.Quantities.{IsStage, most_stage};
+ghost use Rattle.fixed_units.specs.Quantities.{IsStage};
+ghost use Rattle.unit_discharge.specs.Unit.{most_corrected};
+ghost use Rattle.curves.specs.Entries.{IsSeries};
+ghost use Rattle.curves.specs.Corrections.{AreCorrections, entries_of};
+ghost use Rattle.day_inputs.specs.declared.day_inputs.DayInputs.TheVariants.{Day};
 ghost use Rattle.readings.specs.Readings as readings_of;
 ghost use Rattle.readings.specs.Readings.{IsRising};
 ghost use Rattle.readings.specs.Window as windows;
@@ -12,14 +16,14 @@ ghost use Rattle.daily_values.specs.DayValue as values;
 ghost use Rattle.daily_values.specs.DayValue.{stage_sum};
 
 use crate::day_values::{DayValue, Figures};
-use crate::sums::{Sum, day_length, seconds_between, twice_area};
-use day_inputs::DayParts;
+use crate::sums::{Sum, day_length, seconds_between, twice_area, unit_of};
+use curves::{CorrectionSets, Shifts};
+use day_inputs::{DayInputs, DayParts, with_window};
 use fixed_units::{Flag, NoMemory, Reading, RoundingArray, Second};
-use readings::ReadingList;
 use std::alloc::Global;
 
 /// The value of the day from `from` until `until`, 20 to 28 hours later, of a station with a gap tolerance of 1 to 720
-/// minutes, these rounding arrays and these readings, rising by instant.
+/// minutes, these rounding arrays, correction sets, shifts and readings, rising by instant.
 pub fn day_value(
     alloc: Global,
     gap: u32,
@@ -27,30 +31,49 @@ pub fn day_value(
     discharge_array: RoundingArray,
     from: Second,
     until: Second,
+    corrections: &CorrectionSets,
+    shifts: &Shifts,
     readings: &[Reading],
 ) -> Result<DayValue, NoMemory>
     requires gap_low { 1 ≤ gap }
     requires gap_high { gap ≤ most_gap }
     requires shortest { pos shortest_day ≤ℤ (until -ℤ from) }
     requires longest { (until -ℤ from) ≤ℤ pos longest_day }
+    requires corrections { AreCorrections (entries_of corrections.now) }
+    requires shifts { IsSeries shifts.now.series.entries }
     requires rising { IsRising readings.now }
     requires stages { All (λ r. IsStage r.raw) readings.now }
-    ensures { IfOk result (λ v. v ≡ values.day_value (inputs.day_inputs gap stage_array discharge_array from until readings.now)) }
+    ensures { IfOk result (λ v. v ≡ values.day_value (inputs.day_inputs gap stage_array discharge_array from until (entries_of corrections.now) shifts.now.series.entries readings.now)) }
 {
     let window = window(alloc, gap, from, until, readings)?;
-    if window.is_empty() {
-        return Ok(DayValue::Empty);
-    }
-    let parts = DayParts {
+    let inputs = with_window(
+        alloc,
         gap,
         stage_array,
         discharge_array,
         from,
         until,
-        window: ReadingList::from_vec(window),
-    };
+        corrections,
+        shifts,
+        window,
+    )?;
+    match inputs {
+        DayInputs::Empty => Ok(DayValue::Empty),
+        DayInputs::Day(parts) => value_of_parts(alloc, &parts),
+    }
+}
+
+/// The value of a day of these inputs.
+fn value_of_parts(alloc: Global, parts: &DayParts) -> Result<DayValue, NoMemory>
+    requires { AreParts parts.now }
+    ensures { IfOk result (λ v. v ≡ values.day_value (Day parts.now)) }
+{
     let pairs = neighbours(alloc, parts.window.as_slice())?;
-    Ok(DayValue::Day(Figures::new(day_length(&parts), add_areas(&parts, &pairs), stage_array)))
+    Ok(DayValue::Day(Figures::new(
+        day_length(parts),
+        add_areas(parts, &pairs),
+        parts.stage_array,
+    )))
 }
 
 /// The window of the day: its used readings between the nearest used ones on either side that are near enough.
@@ -187,13 +210,15 @@ fn add_areas(parts: &DayParts, pairs: &[(Reading, Reading)]) -> Sum
     requires pairs { pairs.now ≡ values.neighbours parts.now.window }
     ensures sum { result ≡ stage_sum parts.now }
     ensures covered { result.covered ≤ values.day_length parts.now }
-    ensures low { neg_ℤ (pos (2 * most_stage * result.covered)) ≤ℤ result.twice }
-    ensures high { result.twice ≤ℤ pos (2 * most_stage * result.covered) }
+    ensures low { neg_ℤ (pos (2 * most_corrected * result.covered)) ≤ℤ result.twice }
+    ensures high { result.twice ≤ℤ pos (2 * most_corrected * result.covered) }
 {
     let mut sum = Sum::none();
-    for (left, right) in pairs {
-        let seconds = seconds_between(parts, left, right);
-        sum.twice += twice_area(parts, left, right, seconds);
+    for pair in pairs {
+        let left = unit_of(parts, pair.0);
+        let right = unit_of(parts, pair.1);
+        let seconds = seconds_between(parts, &left, &right);
+        sum.twice += twice_area(parts, &left, &right, seconds);
         sum.covered += seconds;
     }
     sum

@@ -9,3 +9,4 @@ pub use day_inputs::{DayInputs, DayParts};
 pub use day_values::{DayValue, Figures, compute};
 pub use readings::ReadingList;
 pub use sums::Sum;
+pub use unit_discharge::{Missing, Unit};

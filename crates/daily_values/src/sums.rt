@@ -1,20 +1,22 @@
-//! Sums over trapezoids between neighbouring readings.
+//! Sums over trapezoids between the corrected stages of neighbouring readings.
 
-ghost use Rattle.std.specs.Prelude.{◌≡◌, ◌+◌, ◌*◌, ◌^◌, ◌≤◌, pos, neg_ℤ, ◌-ℤ◌, ◌*ℤ◌, ◌≤ℤ◌, ◌<ℤ◌};
+ghost use Rattle.std.specs.Prelude.{◌≡◌, ◌∷◌, ◌+◌, ◌*◌, ◌^◌, ◌≤◌, pos, neg_ℤ, ◌-ℤ◌, ◌*ℤ◌, ◌≤ℤ◌, ◌<ℤ◌};
 ghost use Rattle.std.specs.Int.{int_max, int_min};
-ghost use Rattle.fixed_units.specs.Quantities.{IsStage, most_stage};
+ghost use Rattle.fixed_units.specs.Quantities.{IsStage};
+ghost use Rattle.unit_discharge.specs.Unit.{IsCorrected, most_corrected};
 ghost use Rattle.day_inputs.specs.DayInputs.{AreParts, longest_day};
 ghost use Rattle.daily_values.specs.DayValue as values;
 ghost use Rattle.daily_values.specs.DayValue.{stage_sum, stage_between};
 
 use day_inputs::DayParts;
 use fixed_units::{Reading, Second, line_at};
+use unit_discharge::{Unit, unit};
 
 /// Twice an area in millionths of a foot times seconds, and the seconds that it covers. Half the one over the other is
 /// a mean.
 #[derive(Clone, Copy, Debug, PartialEq, Eq)]
 pub struct Sum {
-    /// Twice the area: for each second that is covered at most 2 * 10^11 either way.
+    /// Twice the area: for each second that is covered at most 2.06 * 10^11 either way.
     pub twice: i128,
     /// How many seconds are covered, at most the 72,000 to 100,800 of the day.
     pub covered: u32,
@@ -32,23 +34,55 @@ impl Sum {
     }
 }
 
-/// The sum for the stage of a day.
+/// The sum for the stage of a day: over the lines between the corrected stages of neighbouring readings.
 pub(crate) fn sum_stages(parts: &DayParts) -> Sum
     requires { AreParts parts.now }
     ensures sum { result ≡ stage_sum parts.now }
     ensures covered { result.covered ≤ values.day_length parts.now }
-    ensures low { neg_ℤ (pos (2 * most_stage * result.covered)) ≤ℤ result.twice }
-    ensures high { result.twice ≤ℤ pos (2 * most_stage * result.covered) }
+    ensures low { neg_ℤ (pos (2 * most_corrected * result.covered)) ≤ℤ result.twice }
+    ensures high { result.twice ≤ℤ pos (2 * most_corrected * result.covered) }
+{
+    match parts.window.as_slice().split_first() {
+        Some((first, rest)) => sum_along(parts, *first, rest),
+        None => Sum::none(),
+    }
+}
+
+/// The sum along the readings of a day's window, of which the first one is given.
+fn sum_along(parts: &DayParts, first: Reading, rest: &[Reading]) -> Sum
+    requires parts { AreParts parts.now }
+    requires window { parts.now.window ≡ first ∷ rest.now }
+    ensures sum { result ≡ stage_sum parts.now }
+    ensures covered { result.covered ≤ values.day_length parts.now }
+    ensures low { neg_ℤ (pos (2 * most_corrected * result.covered)) ≤ℤ result.twice }
+    ensures high { result.twice ≤ℤ pos (2 * most_corrected * result.covered) }
 {
     let mut sum = Sum::none();
-    let mut rest = parts.window.as_slice();
-    while let [left, right, ..] = rest {
-        let seconds = seconds_between(parts, left, right);
-        sum.twice += twice_area(parts, left, right, seconds);
+    let mut left = unit_of(parts, first);
+    for reading in rest {
+        let right = unit_of(parts, *reading);
+        let seconds = seconds_between(parts, &left, &right);
+        sum.twice += twice_area(parts, &left, &right, seconds);
         sum.covered += seconds;
-        rest = &rest[1..];
+        left = right;
     }
     sum
+}
+
+/// The unit value of a reading of the day.
+pub(crate) fn unit_of(parts: &DayParts, reading: Reading) -> Unit
+    requires parts { AreParts parts.now }
+    requires stage { IsStage reading.raw }
+    ensures unit { result ≡ values.unit_of parts.now reading }
+    ensures range { IsCorrected result.stage }
+{
+    unit(
+        parts.first.as_slice(),
+        parts.second.as_slice(),
+        parts.third.as_slice(),
+        parts.shifts.as_slice(),
+        reading,
+    )
 }
 
 /// How many seconds a day has.
@@ -59,15 +93,15 @@ pub(crate) fn day_length(parts: &DayParts) -> u32
     positive_part(elapsed(parts.from, parts.until))
 }
 
-/// The first instant of the day between two readings.
-fn left_end(parts: &DayParts, left: &Reading) -> Second
+/// The first instant of the day between two unit values.
+fn left_end(parts: &DayParts, left: &Unit) -> Second
     ensures { result ≡ int_max parts.now.from left.now.at }
 {
     parts.from.max(left.at)
 }
 
-/// The last instant of the day between two readings.
-fn right_end(parts: &DayParts, right: &Reading) -> Second
+/// The last instant of the day between two unit values.
+fn right_end(parts: &DayParts, right: &Unit) -> Second
     ensures { result ≡ int_min parts.now.until right.now.at }
 {
     parts.until.min(right.at)
@@ -83,7 +117,7 @@ fn elapsed(from: Second, until: Second) -> i64
 }
 
 /// How many seconds of the day lie between two readings that are near enough to each other.
-pub(crate) fn seconds_between(parts: &DayParts, left: &Reading, right: &Reading) -> u32
+pub(crate) fn seconds_between(parts: &DayParts, left: &Unit, right: &Unit) -> u32
     requires { AreParts parts.now }
     ensures { result ≡ values.seconds_between parts.now (left.now, right.now) }
 {
@@ -101,16 +135,16 @@ fn positive_part(number: i64) -> u32
     number.max(0) as u32
 }
 
-/// Twice the area under the line between two readings that is cut to the day.
-pub(crate) fn twice_area(parts: &DayParts, left: &Reading, right: &Reading, seconds: u32) -> i128
+/// Twice the area under the line between two corrected stages that is cut to the day.
+pub(crate) fn twice_area(parts: &DayParts, left: &Unit, right: &Unit, seconds: u32) -> i128
     requires parts { AreParts parts.now }
     requires rising { left.now.at <ℤ right.now.at }
-    requires left { IsStage left.now.raw }
-    requires right { IsStage right.now.raw }
+    requires left { IsCorrected left.now.stage }
+    requires right { IsCorrected right.now.stage }
     requires seconds { seconds ≡ values.seconds_between parts.now (left.now, right.now) }
     ensures area { result ≡ values.twice_area parts.now (left.now, right.now) }
-    ensures low { neg_ℤ (pos (2 * most_stage * seconds)) ≤ℤ result }
-    ensures high { result ≤ℤ pos (2 * most_stage * seconds) }
+    ensures low { neg_ℤ (pos (2 * most_corrected * seconds)) ≤ℤ result }
+    ensures high { result ≤ℤ pos (2 * most_corrected * seconds) }
 {
     if seconds == 0 {
         return 0;
@@ -120,16 +154,16 @@ pub(crate) fn twice_area(parts: &DayParts, left: &Reading, right: &Reading, seco
     (first + last) * i128::from(seconds)
 }
 
-/// The stage at an instant on the line between two readings.
-fn stage_at(left: &Reading, right: &Reading, at: Second) -> i128
+/// The stage at an instant on the line between two corrected stages.
+fn stage_at(left: &Unit, right: &Unit, at: Second) -> i128
     requires rising { left.now.at <ℤ right.now.at }
-    requires left { IsStage left.now.raw }
-    requires right { IsStage right.now.raw }
+    requires left { IsCorrected left.now.stage }
+    requires right { IsCorrected right.now.stage }
     requires from { left.now.at ≤ℤ at }
     requires until { at ≤ℤ right.now.at }
     ensures value { result ≡ stage_between left.now right.now at }
-    ensures stage { IsStage result }
+    ensures range { IsCorrected result }
 {
-    let (from, to) = ((left.at.get(), left.raw), (right.at.get(), right.raw));
+    let (from, to) = ((left.at.get(), left.stage), (right.at.get(), right.stage));
     i128::from(line_at(from, to, at.get()).get())
 }

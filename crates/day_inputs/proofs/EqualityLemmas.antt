@@ -7,6 +7,7 @@ use Rattle.std.proofs.Common.{refl, ap, sym, subst}
 use Rattle.std.proofs.lemmas.Slice.Eq.{bytes_eq-Decides}
 use Rattle.std.proofs.lemmas.Bool.Decides.{Decides-eqb, Decides-int_eq, Decides-and, Decides-like}
 use Rattle.readings.proofs.EqualityLemmas.{lists_decide}
+use Rattle.curves.proofs.EqualityLemmas.{lists_decide as entries_decide}
 use Rattle.day_inputs.specs.declared.day_inputs.DayInputs.{DayInputs}
 use Rattle.day_inputs.specs.declared.day_inputs.DayInputs.TheVariants.{Empty, Day}
 use Rattle.day_inputs.specs.declared.day_inputs.DayParts.{DayParts}
@@ -20,30 +21,20 @@ options_decide h (Some a) None = (λ k. absurd (cc), λ e. absurd (cc))
 options_decide h (Some a) (Some b) = Decides-like _ (λ e. ap Some e) (λ e. cc) (h a b)
 
 -- the parts in their order
-abbrev AreSame : DayParts → DayParts → Type 0
+abbrev pub AreSame : DayParts → DayParts → Type 0
 AreSame p q =
-    (p.gap ≡ q.gap) × ((p.stage_array ≡ q.stage_array) × ((p.discharge_array ≡ q.discharge_array)
-    × ((p.from ≡ q.from) × ((p.until ≡ q.until) × (p.window ≡ q.window)))))
+    (p.gap ≡ q.gap) × ((p.stage_array ≡ q.stage_array) × ((p.discharge_array ≡ q.discharge_array) × ((p.from ≡ q.from) × ((p.until ≡ q.until) × ((p.window ≡ q.window) × ((p.first ≡ q.first) × ((p.second ≡ q.second) × ((p.third ≡ q.third) × ((p.shifts ≡ q.shifts))))))))))
 
-from_parts : (p q : DayParts) → AreSame p q → p ≡ q
+pub from_parts : (p q : DayParts) → AreSame p q → p ≡ q
 from_parts p q h =
     let e : ◌≡◌ {A = DayParts}
-    (record { gap = p.gap; stage_array = p.stage_array; discharge_array = p.discharge_array; from = p.from; until = p.until; window = p.window })
-    (record { gap = q.gap; stage_array = q.stage_array; discharge_array = q.discharge_array; from = q.from; until = q.until; window = q.window }) =
-    rw (h.0, h.1.0, h.1.1.0, h.1.1.1.0, h.1.1.1.1.0, h.1.1.1.1.1) refl in
+    (record { gap = p.gap; stage_array = p.stage_array; discharge_array = p.discharge_array; from = p.from; until = p.until; window = p.window; first = p.first; second = p.second; third = p.third; shifts = p.shifts })
+    (record { gap = q.gap; stage_array = q.stage_array; discharge_array = q.discharge_array; from = q.from; until = q.until; window = q.window; first = q.first; second = q.second; third = q.third; shifts = q.shifts }) =
+    rw (h.0, h.1.0, h.1.1.0, h.1.1.1.0, h.1.1.1.1.0, h.1.1.1.1.1.0, h.1.1.1.1.1.1.0, h.1.1.1.1.1.1.1.0, h.1.1.1.1.1.1.1.1.0, h.1.1.1.1.1.1.1.1.1) refl in
     e
 
-to_parts : (p q : DayParts) → p ≡ q → AreSame p q
-to_parts p q e = (
-  ap (λ (x : DayParts). x.gap) e,
-  (
-    ap (λ (x : DayParts). x.stage_array) e,
-    (
-      ap (λ (x : DayParts). x.discharge_array) e,
-      (ap (λ (x : DayParts). x.from) e, (ap (λ (x : DayParts). x.until) e, ap (λ (x : DayParts). x.window) e)),
-    ),
-  ),
-)
+pub to_parts : (p q : DayParts) → p ≡ q → AreSame p q
+to_parts p q e = (ap (λ (x : DayParts). x.gap) e, (ap (λ (x : DayParts). x.stage_array) e, (ap (λ (x : DayParts). x.discharge_array) e, (ap (λ (x : DayParts). x.from) e, (ap (λ (x : DayParts). x.until) e, (ap (λ (x : DayParts). x.window) e, (ap (λ (x : DayParts). x.first) e, (ap (λ (x : DayParts). x.second) e, (ap (λ (x : DayParts). x.third) e, ap (λ (x : DayParts). x.shifts) e)))))))))
 
 pub Decides-same_parts : (p q : DayParts) → Decides (same_parts p q) (p ≡ q)
 Decides-same_parts p q =
@@ -52,7 +43,12 @@ Decides-same_parts p q =
     (Decides-and _ _ (bytes_eq-Decides p.stage_array q.stage_array)
     (Decides-and _ _ (bytes_eq-Decides p.discharge_array q.discharge_array)
     (Decides-and _ _ (Decides-int_eq p.from q.from)
-    (Decides-and _ _ (Decides-int_eq p.until q.until) (lists_decide p.window q.window))))))
+    (Decides-and _ _ (Decides-int_eq p.until q.until)
+    (Decides-and _ _ (lists_decide p.window q.window)
+    (Decides-and _ _ (entries_decide p.first q.first)
+    (Decides-and _ _ (entries_decide p.second q.second)
+    (Decides-and _ _ (entries_decide p.third q.third)
+    (entries_decide p.shifts q.shifts))))))))))
 
 day_from : (p q : DayParts) → p ≡ q → Day p ≡ Day q
 day_from p q e = ap Day e

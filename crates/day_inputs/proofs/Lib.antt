@@ -1,1 +1,3 @@
+pub mod BearingLemmas
 pub mod EqualityLemmas
+pub mod WindowEnds

@@ -1,29 +1,54 @@
 -- The inputs of a day: all that its value depends on.
-use Rattle.std.specs.Prelude.{ℕ, ◌*◌, ◌≤◌, List, [], ◌∷◌, All, ℤ, pos, ◌-ℤ◌, ◌≤ℤ◌, ⊤}
+use Rattle.std.specs.Prelude.{ℕ, ◌*◌, ◌≤◌, List, [], ◌∷◌, All, Option, Some, None, ℤ, pos, ◌-ℤ◌, ◌≤ℤ◌, ⊤}
 use Rattle.fixed_units.specs.Quantities.{IsStage}
 use Rattle.fixed_units.specs.declared.readings.Reading.{Reading}
 use Rattle.readings.specs.Readings.{IsRising}
 use Rattle.readings.specs.Window.{window}
+use Rattle.curves.specs.declared.entries.Entry.{Entry}
+use Rattle.curves.specs.Entries.{IsSeries}
+use Rattle.curves.specs.Bearing.{bearing}
+use Rattle.curves.specs.Corrections.{Corrections}
 use Rattle.day_inputs.specs.declared.day_inputs.DayInputs.{DayInputs}
 use Rattle.day_inputs.specs.declared.day_inputs.DayInputs.TheVariants.{Empty, Day}
 use Rattle.day_inputs.specs.declared.day_inputs.DayParts.{DayParts}
 
--- the inputs of a day [from, until) with this window: none where the window is empty
-abbrev pub with_window : ℕ → List ℕ → List ℕ → ℤ → ℤ → List Reading → DayInputs
-with_window gap stage_array discharge_array from until [] = Empty
-with_window gap stage_array discharge_array from until (r ∷ rs) = Day (record {
+-- the instant of the last of some readings, of which the first is given
+abbrev pub last_at : Reading → List Reading → ℤ
+last_at r [] = r.at
+last_at r (s ∷ rs) = last_at s rs
+
+-- the instants of the first and the last reading of a window
+abbrev pub window_ends : List Reading → Option (ℤ × ℤ)
+window_ends [] = None
+window_ends (r ∷ rs) = Some (r.at, last_at r rs)
+
+abbrev pub ends_of : Option Reading → Option Reading → Option (ℤ × ℤ)
+ends_of None last = None
+ends_of (Some first) None = None
+ends_of (Some first) (Some last) = Some (first.at, last.at)
+
+-- the inputs of a day [from, until) with this window: none where the window is empty, and else with the entries of these
+-- correction sets and shifts that bear on the time from its first reading to its last one
+abbrev pub with_window : ℕ → List ℕ → List ℕ → ℤ → ℤ → Corrections → List Entry → List Reading → DayInputs
+with_window gap stage_array discharge_array from until corrections shifts [] = Empty
+with_window gap stage_array discharge_array from until corrections shifts (r ∷ rs) = Day (record {
   gap = gap;
   stage_array = stage_array;
   discharge_array = discharge_array;
   from = from;
   until = until;
   window = r ∷ rs;
+  first = bearing r.at (last_at r rs) corrections.first;
+  second = bearing r.at (last_at r rs) corrections.second;
+  third = bearing r.at (last_at r rs) corrections.third;
+  shifts = bearing r.at (last_at r rs) shifts;
 })
 
--- the inputs of the day [from, until) of a station with this gap tolerance, in minutes, these rounding arrays and these readings
-abbrev pub day_inputs : ℕ → List ℕ → List ℕ → ℤ → ℤ → List Reading → DayInputs
-day_inputs gap stage_array discharge_array from until readings =
-    with_window gap stage_array discharge_array from until (window from until (pos (60 * gap)) readings)
+-- the inputs of the day [from, until) of a station with this gap tolerance, in minutes, these rounding arrays, correction sets,
+-- shifts and readings
+abbrev pub day_inputs : ℕ → List ℕ → List ℕ → ℤ → ℤ → Corrections → List Entry → List Reading → DayInputs
+day_inputs gap stage_array discharge_array from until corrections shifts readings =
+    with_window gap stage_array discharge_array from until corrections shifts (window from until (pos (60 * gap)) readings)
 
 -- a day has 20 to 28 hours, in seconds
 abbrev pub shortest_day : ℕ
@@ -36,7 +61,8 @@ longest_day = 100_800
 abbrev pub most_gap : ℕ
 most_gap = 720
 
--- what the inputs of a day keep to: a gap tolerance of 1 to 720 minutes, a day of 20 to 28 hours, rising readings of stages
+-- what the inputs of a day keep to: a gap tolerance of 1 to 720 minutes, a day of 20 to 28 hours, rising readings of stages,
+-- and series of entries
 pub record AreParts (parts : DayParts) : Type 0 where
   pub gap_low : 1 ≤ parts.gap
   pub gap_high : parts.gap ≤ most_gap
@@ -44,6 +70,10 @@ pub record AreParts (parts : DayParts) : Type 0 where
   pub longest : (parts.until -ℤ parts.from) ≤ℤ pos longest_day
   pub rising : IsRising parts.window
   pub stages : All (λ r. IsStage r.raw) parts.window
+  pub first : IsSeries parts.first
+  pub second : IsSeries parts.second
+  pub third : IsSeries parts.third
+  pub shifts : IsSeries parts.shifts
 
 abbrev pub AreInputs : DayInputs → Type 0
 AreInputs Empty = ⊤

@@ -1,5 +1,6 @@
 //! The inputs of a day.
 
+use curves::EntryList;
 use fixed_units::{RoundingArray, Second};
 use readings::ReadingList;
 
@@ -18,6 +19,15 @@ pub struct DayParts {
     pub until: Second,
     /// The readings of the day and its neighbours, rising by instant: stages of at most 100,000 feet either way.
     pub window: ReadingList,
+    /// The entries of the first correction set that bear on the time from the window's first reading to its last one: they
+    /// rise by instant, with amounts of at most 1,000 feet either way.
+    pub first: EntryList,
+    /// Those of the second set.
+    pub second: EntryList,
+    /// Those of the third set.
+    pub third: EntryList,
+    /// Those of the shifts.
+    pub shifts: EntryList,
 }
 
 /// The inputs of a day.

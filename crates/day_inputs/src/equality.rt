@@ -34,4 +34,8 @@ fn are_same_parts(parts: &DayParts, others: &DayParts) -> bool
         && parts.from == others.from
         && parts.until == others.until
         && readings::are_same(parts.window.as_slice(), others.window.as_slice())
+        && curves::are_same(parts.first.as_slice(), others.first.as_slice())
+        && curves::are_same(parts.second.as_slice(), others.second.as_slice())
+        && curves::are_same(parts.third.as_slice(), others.third.as_slice())
+        && curves::are_same(parts.shifts.as_slice(), others.shifts.as_slice())
 }

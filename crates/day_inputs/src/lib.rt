@@ -3,7 +3,9 @@
 
 pub mod day_inputs;
 pub mod equality;
+pub mod making;
 
 pub use day_inputs::{DayInputs, DayParts};
 pub use equality::are_same;
+pub use making::{ends, has_bearing, with_window};
 pub use readings::window_is;

@@ -141,7 +141,7 @@ far_day s day r rs k d h m =
     far_leave a b gap (r ∷ rs) s.readings k.readings_are.rising (omega (arith, ints)) (omega (arith, ints))
     (All-weaker (IsFrom r.at (last_of r rs).at) (IsFar a b gap) (λ x i. far_from r.at (last_of r rs).at a b gap x g m i) (r ∷ rs) (from_first r rs h)) in
     sym ((Decides-same_inputs (station_day s day) (station_day (with_readings (r ∷ rs) s) day)).1
-    (ap (λ (w : List Reading). with_window s.gap s.stage_array s.discharge_array a b w) (sym same)))
+    (ap (λ (w : List Reading). with_window s.gap s.stage_array s.discharge_array a b s.corrections s.shifts w) (sym same)))
 
 -- an edit of a site that is not kept and that adds no station keeps each day
 none_set : (stations : List StationRecord) (site : SiteNumber) (name : List ℕ) (gap : ℕ) (stages discharges : List ℕ) (day : ℤ)

@@ -8,5 +8,5 @@ pub mod reaching;
 pub mod spans;
 
 pub use days::DayList;
-pub use reaching::reach;
-pub use spans::compared_days;
+pub use reaching::{reach, reach_at};
+pub use spans::{compared_days, compared_days_at};

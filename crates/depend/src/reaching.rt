@@ -5,15 +5,16 @@ ghost use Rattle.depend.specs.Compared.{days_within};
 ghost use Rattle.fixed_units.specs.Quantities.{IsDay};
 ghost use Rattle.office_inputs.specs.Changes.{changed_days, keeps_day};
 ghost use Rattle.office_inputs.specs.Kept.{in_force};
+ghost use Rattle.office_inputs.specs.Places.{IsPlaceOf};
 ghost use Rattle.office_inputs.specs.Refusals.{adds_station, refusal_of};
 ghost use Rattle.office_inputs.specs.Stations.{StationRecord, station_of};
 ghost use Rattle.office_inputs.specs.Touched.{interval};
 
 use crate::days::DayList;
-use crate::spans::compared_days;
+use crate::spans::compared_days_at;
 use edits::Edit;
 use fixed_units::{Day, NoMemory};
-use office_inputs::{Inputs, Station, stations_keep_to_their_ranges};
+use office_inputs::{Inputs, Place, Station, stations_keep_to_their_ranges};
 use std::alloc::Global;
 use std::sync::ledger::Ledger;
 use steps::Steps;
@@ -35,11 +36,32 @@ pub fn reach<L: Ledger>(
     ensures rising { IfOk result (λ days. AllPairs (λ a b. a <ℤ b) days) }
     ensures steps { steps.new ≤ steps.old + length (interval (in_force inputs.now) edit.now) + 9 }
 {
+    reach_at(alloc, inputs, inputs.place(edit.site), edit, steps)
+}
+
+/// The same at the place of the edit's site. Nothing is looked up.
+///
+/// # Errors
+///
+/// [`NoMemory`] where the list had no room.
+pub fn reach_at<L: Ledger>(
+    alloc: Global,
+    inputs: &Inputs,
+    place: Place,
+    edit: &Edit,
+    steps: &mut Steps<L>,
+) -> Result<DayList, NoMemory>
+    requires place { IsPlaceOf (in_force inputs.now) edit.now.site place }
+    requires accepted { refusal_of inputs.now.limits (in_force inputs.now) edit.now ≡ None }
+    ensures days { IfOk result (λ days. days ≡ changed_days (in_force inputs.now) edit.now) }
+    ensures rising { IfOk result (λ days. AllPairs (λ a b. a <ℤ b) days) }
+    ensures steps { steps.new ≤ steps.old + length (interval (in_force inputs.now) edit.now) + 9 }
+{
     stations_keep_to_their_ranges(inputs);
-    let Some(station) = inputs.station(edit.site) else {
+    let Some(station) = inputs.station_at(place) else {
         return Ok(DayList::new(alloc));
     };
-    match compared_days(inputs, edit) {
+    match compared_days_at(inputs, place, edit) {
         Some(span) => changed_between(alloc, station, edit, span, steps),
         None => Ok(DayList::new(alloc)),
     }

@@ -6,17 +6,26 @@ ghost use Rattle.civil_days.specs.Starts.{IsZone, day_start_of};
 ghost use Rattle.depend.specs.Compared.{AreCompared, IsCover};
 ghost use Rattle.fixed_units.specs.Quantities.{IsDay, IsStamp, first_day, last_day};
 ghost use Rattle.office_inputs.specs.Kept.{in_force};
+ghost use Rattle.office_inputs.specs.Places.{IsPlace, IsPlaceOf};
 ghost use Rattle.office_inputs.specs.Touched.{in_reach, is_between_filled, meets, touched_of};
 ghost use Rattle.office_inputs.specs.declared.touched.Touched.TheVariants.{Between};
 
 use civil_days::StationZone;
 use edits::Edit;
-use fixed_units::{Day, FIRST_DAY, LAST_DAY, Second, Site};
-use office_inputs::{Inputs, Touched, stations_keep_to_their_ranges};
+use fixed_units::{Day, FIRST_DAY, LAST_DAY, Second};
+use office_inputs::{Inputs, Place, Touched, stations_keep_to_their_ranges};
 
 /// The first and the last of the days that [`crate::reach`] compares for an edit, or `None` where its interval has no day: they
 /// hold every day of the interval, and all but these two are of it.
 pub fn compared_days(inputs: &Inputs, edit: &Edit) -> Option<(Day, Day)>
+    ensures { AreCompared (in_reach (in_force inputs.now) edit.now.site (touched_of (in_force inputs.now) edit.now)) result }
+{
+    compared_days_at(inputs, inputs.place(edit.site), edit)
+}
+
+/// The same at the place of the edit's site. Nothing is looked up.
+pub fn compared_days_at(inputs: &Inputs, place: Place, edit: &Edit) -> Option<(Day, Day)>
+    requires { IsPlaceOf (in_force inputs.now) edit.now.site place }
     ensures { AreCompared (in_reach (in_force inputs.now) edit.now.site (touched_of (in_force inputs.now) edit.now)) result }
 {
     match inputs.touched(edit) {
@@ -26,8 +35,8 @@ pub fn compared_days(inputs: &Inputs, edit: &Edit) -> Option<(Day, Day)>
             first,
             last,
             cells_only,
-        } => days_about(inputs, edit.site, first, last, cells_only),
-        Touched::Cells => used_days(inputs, edit.site),
+        } => days_about(inputs, place, first, last, cells_only),
+        Touched::Cells => used_days(inputs, place),
     }
 }
 
@@ -35,16 +44,17 @@ pub fn compared_days(inputs: &Inputs, edit: &Edit) -> Option<(Day, Day)>
 /// between days that have inputs.
 fn days_about(
     inputs: &Inputs,
-    site: Site,
+    place: Place,
     first: Second,
     last: Second,
     cells_only: bool,
 ) -> Option<(Day, Day)>
+    requires place { IsPlace (in_force inputs.now) place }
     requires first { IsStamp first }
     requires last { IsStamp last }
-    ensures { AreCompared (in_reach (in_force inputs.now) site (Between first last cells_only)) result }
+    ensures { AreCompared (in_reach (in_force inputs.now) place.site (Between first last cells_only)) result }
 {
-    let Some(station) = inputs.station(site) else {
+    let Some(station) = inputs.station_at(place) else {
         return None;
     };
     stations_keep_to_their_ranges(inputs);
@@ -52,7 +62,7 @@ fn days_about(
     if !cells_only {
         return Some(near);
     }
-    match used_days(inputs, site) {
+    match used_days(inputs, place) {
         Some(used) => Some(common_days(near, used)),
         None => None,
     }
@@ -72,10 +82,11 @@ fn near_days(zone: &StationZone, first: Second, last: Second) -> (Day, Day)
 }
 
 /// The days from the first that has inputs to the last.
-fn used_days(inputs: &Inputs, site: Site) -> Option<(Day, Day)>
-    ensures { AreCompared (is_between_filled (in_force inputs.now) site) result }
+fn used_days(inputs: &Inputs, place: Place) -> Option<(Day, Day)>
+    requires { IsPlace (in_force inputs.now) place }
+    ensures { AreCompared (is_between_filled (in_force inputs.now) place.site) result }
 {
-    match inputs.used_span(site) {
+    match inputs.used_span_at(place) {
         Some(span) => Some(days_of(span)),
         None => None,
     }

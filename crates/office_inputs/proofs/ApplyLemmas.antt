@@ -1,5 +1,5 @@
 -- What an edit makes of the stations that are kept, of their records and of how many readings they have.
-use Rattle.std.specs.Prelude.{◌≡◌, ℕ, zero, suc, ◌+◌, ◌<◌, ◌≤◌, Bool, true, false, cond, List, [], ◌∷◌, ◌++◌, filter, length, slice_set, slice_index_or, option_to_list, option_map, Option, Some, None, IfNone, ℤ, ◌<ℤ◌, int_lt, All}
+use Rattle.std.specs.Prelude.{◌≡◌, ℕ, zero, suc, ◌+◌, ◌<◌, ◌≤◌, Bool, true, false, cond, List, [], ◌∷◌, ◌++◌, filter, length, slice_set, slice_index_or, option_to_list, option_map, Option, Some, None, ℤ, ◌<ℤ◌, int_lt, All}
 use Rattle.std.proofs.Common.{arith, refl, ap, sym, subst, ◌∙◌}
 use Rattle.std.proofs.lemmas.List.Sums.{sum_by-append, sum_by-cons}
 use Rattle.std.proofs.lemmas.List.{length-append}
@@ -106,11 +106,9 @@ records_set kept site i x y change h e f p =
     ∙ ap (λ (o : Option StationRecord). with_changed change o (records_of kept)) (sym found)
 
 -- a site that is not kept has no station to change
-pub records_none : (kept : List KeptStation) (site : SiteNumber) (change : StationRecord → StationRecord) → kept_at kept site ≡ None
-    → records_of kept ≡ changed_at site change (records_of kept)
-records_none kept site change e =
-    let found : station_of (records_of kept) site ≡ None = record_at kept site ∙ ap (λ (o : Option KeptStation). option_map (λ (k : KeptStation). k.station) o) e in
-    ap (λ (o : Option StationRecord). with_changed change o (records_of kept)) (sym found)
+pub records_none : (stations : List StationRecord) (site : SiteNumber) (change : StationRecord → StationRecord) → station_of stations site ≡ None
+    → stations ≡ changed_at site change stations
+records_none stations site change e = ap (λ (o : Option StationRecord). with_changed change o stations) (sym e)
 
 -- puts never take readings away
 at_most : (xs ys : List Reading) (o : Option Reading) (r : Reading) → length (xs ++ (option_to_list o ++ ys)) ≤ length (xs ++ r ∷ ys)
@@ -144,11 +142,6 @@ pub count_put_kept : (k : KeptStation) (kept : List KeptStation) → lists.IsRis
 count_put_kept k kept r n e =
     count_put_new k.station (records_of kept) (records_rise kept r)
     (record_at kept k.station.site ∙ ap (λ (o : Option KeptStation). option_map (λ (k : KeptStation). k.station) o) n) e
-
-pub none_kept : (found : Option ℕ) (kept list : List KeptStation) (site : SiteNumber) → list ≡ kept → ((i : ℕ) → found ≡ Some i → ⊥)
-    → IfNone found (kept_at list site ≡ None) → kept_at kept site ≡ None
-none_kept None kept list site e n h = ap (λ (k : List KeptStation). kept_at k site) (sym e) ∙ h
-none_kept (Some i) kept list site e n h = absurd (n i refl)
 
 -- stations with one put that keeps to its ranges
 pub stations_put : (k : KeptStation) (kept : List KeptStation) → AreStations kept → IsStation k.station → AreStations (lists.put place_of_kept k kept)

@@ -1,6 +1,5 @@
 -- What an edit leaves alone, and which days have inputs only since it.
 use Rattle.std.specs.Prelude.{◌≡◌, Bool, true, false, not, cond, List, [], ◌∷◌, ◌++◌, filter, Contains, Option, Some, None, ℕ, zero, suc, ℤ, pos, ◌+ℤ◌}
-use Rattle.std.specs.Ordering.{int_eq}
 use Rattle.std.proofs.Common.{arith, refl, ap, sym, subst, ◌∙◌}
 use Rattle.std.proofs.lemmas.Bool.Decides.{Decides-int_eq}
 use Rattle.std.proofs.lemmas.Int.{ints, by_lt_z}
@@ -18,7 +17,7 @@ use Rattle.edits.specs.declared.content.What.{What}
 use Rattle.edits.specs.declared.content.What.TheVariants.{AddStation, SetStation, PutReadings}
 use Rattle.edits.specs.declared.content.Edit.{Edit}
 use Rattle.office_inputs.specs.Changes.{changed_days, keeps_day}
-use Rattle.office_inputs.specs.Stations.{StationRecord, station_of, stations_after, stations_of, inputs_of_day, day_of_station, after_what, place_of, with_changed, changed_at, new_station, described, with_readings}
+use Rattle.office_inputs.specs.Stations.{StationRecord, station_of, stations_after, stations_of, inputs_of_day, day_of_station, after_what, place_of, with_changed, new_station, described, with_readings}
 use Rattle.office_inputs.specs.Touched.{has_inputs, is_filled}
 use Rattle.office_inputs.proofs.KeepLemmas.{at_place}
 

@@ -3,6 +3,7 @@ pub mod SpanLemmas
 pub mod InputsLemmas
 pub mod KeepLemmas
 pub mod RoomLemmas
+pub mod PlaceLemmas
 pub mod ApplyLemmas
 pub mod RefusalLemmas
 pub mod CountLemmas

@@ -32,10 +32,6 @@ pub record StandsAt (site : SiteNumber) (i : ℕ) (kept : List KeptStation) : Ty
   pub found : kept_at kept site ≡ slice_get kept i
   pub written : (z : KeptStation) → place_of_kept z ≡ site_place site → slice_set kept i z ≡ put place_of_kept z kept
 
-pub stands : (kept list : List KeptStation) (site : SiteNumber) (i : ℕ) → list ≡ kept → i < length list → kept_at list site ≡ slice_get list i
-    → ((z : KeptStation) → place_of_kept z ≡ site_place site → slice_set list i z ≡ put place_of_kept z list) → StandsAt site i kept
-stands kept list site i e l f w = subst (StandsAt site i) e (record { within = l; found = f; written = w })
-
 -- a station of the site written over is found there
 pub written_found : (kept : List KeptStation) (site : SiteNumber) (i : ℕ) (x y : KeptStation) → StandsAt site i kept → x ≡ slice_index_or kept i x
     → place_of_kept y ≡ place_of_kept x → kept_at (slice_set kept i y) site ≡ Some y

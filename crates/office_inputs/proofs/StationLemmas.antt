@@ -1,6 +1,8 @@
 -- The inputs of a day of a station: whether there are any, what they keep to, and what leaves them as they are.
-use Rattle.std.specs.Prelude.{◌≡◌, ◌≢◌, ◌↔◌, ◌≤◌, ◌*◌, ℕ, Bool, true, false, not, cond, List, [], ◌∷◌, filter, find, is_some, Option, Some, None, All, ℤ, pos, ◌+ℤ◌}
+use Rattle.std.specs.Prelude.{◌≡◌, ◌≢◌, ◌↔◌, ◌≤◌, ◌*◌, ◌&&◌, ℕ, Bool, true, false, not, cond, Result, Ok, Err, IfOk, List, [], ◌∷◌, filter, find, is_some, Option, Some, None, All, ℤ, pos, ◌+ℤ◌}
+use Rattle.std.specs.Bool.{Decides}
 use Rattle.std.proofs.Common.{refl, ap, sym, subst, ◌∙◌}
+use Rattle.std.proofs.lemmas.Bool.Decides.{Decides-and, Decides-at, Decides-like}
 use Rattle.std.proofs.lemmas.List.Elements.{All-head, All-tail}
 use Rattle.fixed_units.specs.Quantities.{IsStage, IsStamp}
 use Rattle.edits.specs.Lawful.{IsPutReading}
@@ -12,8 +14,15 @@ use Rattle.readings.specs.Equality.{same_readings}
 use Rattle.readings.proofs.EqualityLemmas.{lists_decide}
 use Rattle.readings.proofs.WindowParts.{inner_found}
 use Rattle.civil_days.specs.Starts.{IsDayLength}
-use Rattle.day_inputs.specs.DayInputs.{AreParts, day_inputs, with_window, most_gap}
-use Rattle.day_inputs.specs.Equality.{same_inputs}
+use Rattle.curves.specs.declared.entries.Entry.{Entry}
+use Rattle.curves.specs.Entries.{IsSeries}
+use Rattle.curves.specs.Corrections.{Corrections, AreCorrections}
+use Rattle.fixed_units.specs.declared.texts.NoMemory.{NoMemory}
+use Rattle.curves.specs.Bearing.{bearing}
+use Rattle.day_inputs.specs.DayInputs.{AreInputs, last_at, day_inputs, with_window, most_gap}
+use Rattle.day_inputs.proofs.WindowEnds.{inputs_kept}
+use Rattle.day_inputs.proofs.BearingLemmas.{bearing_told, bearing_are}
+use Rattle.day_inputs.specs.Equality.{same_inputs, has_bearing}
 use Rattle.day_inputs.proofs.EqualityLemmas.{Decides-same_inputs}
 use Rattle.day_inputs.specs.declared.day_inputs.DayInputs.{DayInputs}
 use Rattle.day_inputs.specs.declared.day_inputs.DayParts.{DayParts}
@@ -23,19 +32,17 @@ use Rattle.office_inputs.specs.KeptStation.{AreReadings, IsStation, KeptStation}
 use Rattle.office_inputs.specs.Touched.{has_inputs}
 
 -- the inputs of a day keep to what they must, where the station does
-pub parts_kept : (gap : ℕ) (stages discharges : List ℕ) (from until : ℤ) (readings items : List Reading) → 1 ≤ gap → gap ≤ most_gap
-    → IsDayLength from until → AreReadings readings → items ≡ window from until (pos (60 * gap)) readings
-    → AreParts (record { gap = gap; stage_array = stages; discharge_array = discharges; from = from; until = until; window = items })
-parts_kept gap stages discharges from until readings items low high l h w = record {
-  gap_low = low;
-  gap_high = high;
-  shortest = l.shortest;
-  longest = l.longest;
-  rising = subst IsRising (sym w) (window_rises from until (pos (60 * gap)) readings h.rising);
-  stages =
-      subst (λ (rs : List Reading). All (λ r. IsStage r.raw) rs) (sym w)
-      (window_keeps (λ r. IsStage r.raw) from until (pos (60 * gap)) readings h.stages);
-}
+pub day_kept : (r : Result DayInputs NoMemory) (gap : ℕ) (stages discharges : List ℕ) (from until : ℤ) (sets : Corrections) (shifts : List Entry)
+    (readings items : List Reading) → IfOk r (λ i. i ≡ with_window gap stages discharges from until sets shifts items) → 1 ≤ gap → gap ≤ most_gap
+    → IsDayLength from until → AreCorrections sets → IsSeries shifts → AreReadings readings → items ≡ window from until (pos (60 * gap)) readings
+    → IfOk r AreInputs
+day_kept (Err e) gap stages discharges from until sets shifts readings items k low high l c t h w = tt
+day_kept (Ok i) gap stages discharges from until sets shifts readings items k low high l c t h w =
+    subst AreInputs (sym k)
+    (inputs_kept gap stages discharges from until sets shifts low high l.shortest l.longest c t items
+    (subst IsRising (sym w) (window_rises from until (pos (60 * gap)) readings h.rising))
+    (subst (λ (rs : List Reading). All (λ r. IsStage r.raw) rs) (sym w)
+    (window_keeps (λ r. IsStage r.raw) from until (pos (60 * gap)) readings h.stages)))
 
 -- whether a list has an element
 pub is_any : {X : Type 0} → List X → Bool
@@ -46,11 +53,11 @@ pub no_any : (X : Type 0) → is_any {X = X} [] ≡ false
 unfolding is_any
 no_any X = refl
 
-window_any : (gap : ℕ) (stages discharges : List ℕ) (from until : ℤ) (rs : List Reading)
-    → has_inputs (with_window gap stages discharges from until rs) ≡ is_any rs
+window_any : (gap : ℕ) (stages discharges : List ℕ) (from until : ℤ) (sets : Corrections) (shifts : List Entry) (rs : List Reading)
+    → has_inputs (with_window gap stages discharges from until sets shifts rs) ≡ is_any rs
 unfolding is_any
-window_any gap stages discharges from until [] = refl
-window_any gap stages discharges from until (r ∷ rs) = refl
+window_any gap stages discharges from until sets shifts [] = refl
+window_any gap stages discharges from until sets shifts (r ∷ rs) = refl
 
 neighbours_any : (before : Option Reading) (rs : List Reading) (after : Option Reading) → is_any (with_neighbours before rs after) ≡ is_any rs
 unfolding is_any
@@ -74,7 +81,7 @@ pub day_any : (s : StationRecord) (day : ℤ) → has_inputs (station_day s day)
 day_any s day =
     let a = day_start s day in
     let b = day_start s (day +ℤ pos 1) in
-    window_any s.gap s.stage_array s.discharge_array a b (window a b (pos (60 * s.gap)) s.readings)
+    window_any s.gap s.stage_array s.discharge_array a b s.corrections s.shifts (window a b (pos (60 * s.gap)) s.readings)
     ∙ neighbours_any (neighbour_before a (pos (60 * s.gap)) s.readings) (inner a b s.readings) (neighbour_after b (pos (60 * s.gap)) s.readings)
 
 -- a day has inputs where some reading of it is used
@@ -91,10 +98,11 @@ window_of : DayInputs → List Reading
 window_of Empty = []
 window_of (Day p) = p.window
 
-window_told : (gap : ℕ) (stages discharges : List ℕ) (from until : ℤ) (rs : List Reading) → window_of (with_window gap stages discharges from until rs) ≡ rs
+window_told : (gap : ℕ) (stages discharges : List ℕ) (from until : ℤ) (sets : Corrections) (shifts : List Entry) (rs : List Reading)
+    → window_of (with_window gap stages discharges from until sets shifts rs) ≡ rs
 unfolding window_of
-window_told gap stages discharges from until [] = refl
-window_told gap stages discharges from until (r ∷ rs) = refl
+window_told gap stages discharges from until sets shifts [] = refl
+window_told gap stages discharges from until sets shifts (r ∷ rs) = refl
 
 same_of : (p q : DayInputs) → p ≡ q → same_inputs p q ≡ true
 same_of p q e = (Decides-same_inputs p q).1 e
@@ -107,17 +115,17 @@ other_of : (p q : DayInputs) → p ≢ q → same_inputs p q ≡ false
 other_of p q n = other_step p q (same_inputs p q) n refl
 
 -- a test that tells whether the window of a day alters tells whether its inputs do
-pub altered_told : (gap : ℕ) (stages discharges : List ℕ) (from until : ℤ) (old new : List Reading) (altered : Bool)
+pub altered_told : (gap : ℕ) (stages discharges : List ℕ) (from until : ℤ) (sets : Corrections) (shifts : List Entry) (old new : List Reading) (altered : Bool)
     → (altered ≡ true → new ≢ old) → (altered ≡ false → new ≡ old)
-    → not altered ≡ same_inputs (with_window gap stages discharges from until old) (with_window gap stages discharges from until new)
-altered_told gap stages discharges from until old new true changed same =
-    let before = with_window gap stages discharges from until old in
-    let after = with_window gap stages discharges from until new in
-    sym (other_of before after (λ e. changed refl (sym (window_told gap stages discharges from until new) ∙ ap window_of (sym e) ∙ window_told gap stages discharges from until old)))
-altered_told gap stages discharges from until old new false changed same =
-    let before = with_window gap stages discharges from until old in
-    let after = with_window gap stages discharges from until new in
-    sym (same_of before after (ap (with_window gap stages discharges from until) (sym (same refl))))
+    → not altered ≡ same_inputs (with_window gap stages discharges from until sets shifts old) (with_window gap stages discharges from until sets shifts new)
+altered_told gap stages discharges from until sets shifts old new true changed same =
+    let before = with_window gap stages discharges from until sets shifts old in
+    let after = with_window gap stages discharges from until sets shifts new in
+    sym (other_of before after (λ e. changed refl (sym (window_told gap stages discharges from until sets shifts new) ∙ ap window_of (sym e) ∙ window_told gap stages discharges from until sets shifts old)))
+altered_told gap stages discharges from until sets shifts old new false changed same =
+    let before = with_window gap stages discharges from until sets shifts old in
+    let after = with_window gap stages discharges from until sets shifts new in
+    sym (same_of before after (ap (with_window gap stages discharges from until sets shifts) (sym (same refl))))
 
 -- the same as it is asked at the instants of a day
 pub altered_day : (s : StationRecord) (day : ℤ) (r : Reading) (from until : ℤ) (altered : Bool)
@@ -126,9 +134,9 @@ pub altered_day : (s : StationRecord) (day : ℤ) (r : Reading) (from until : �
     → (altered ≡ false → window from until (pos (60 * s.gap)) (put r s.readings) ≡ window from until (pos (60 * s.gap)) s.readings)
     → not altered ≡ same_inputs (station_day s day) (station_day (with_readings (r ∷ []) s) day)
 altered_day s day r from until altered e f changed same =
-    let told : not altered ≡ same_inputs (day_inputs s.gap s.stage_array s.discharge_array from until s.readings)
-    (day_inputs s.gap s.stage_array s.discharge_array from until (put r s.readings)) =
-    altered_told s.gap s.stage_array s.discharge_array from until
+    let told : not altered ≡ same_inputs (day_inputs s.gap s.stage_array s.discharge_array from until s.corrections s.shifts s.readings)
+    (day_inputs s.gap s.stage_array s.discharge_array from until s.corrections s.shifts (put r s.readings)) =
+    altered_told s.gap s.stage_array s.discharge_array from until s.corrections s.shifts
     (window from until (pos (60 * s.gap)) s.readings) (window from until (pos (60 * s.gap)) (put r s.readings)) altered changed same in
     rw (sym e, sym f) told
 
@@ -163,27 +171,27 @@ discharges_of : DayInputs → List ℕ
 discharges_of Empty = []
 discharges_of (Day p) = p.discharge_array
 
-filled_gap : (g : ℕ) (s d : List ℕ) (a b : ℤ) (before after : Option Reading) (r : Reading) (rs : List Reading)
-    → (gap_of (with_window g s d a b (with_neighbours before (r ∷ rs) after)) ≡ g)
-    × ((stages_of (with_window g s d a b (with_neighbours before (r ∷ rs) after)) ≡ s)
-    × (discharges_of (with_window g s d a b (with_neighbours before (r ∷ rs) after)) ≡ d))
+filled_gap : (g : ℕ) (s d : List ℕ) (a b : ℤ) (sets : Corrections) (shifts : List Entry) (before after : Option Reading) (r : Reading) (rs : List Reading)
+    → (gap_of (with_window g s d a b sets shifts (with_neighbours before (r ∷ rs) after)) ≡ g)
+    × ((stages_of (with_window g s d a b sets shifts (with_neighbours before (r ∷ rs) after)) ≡ s)
+    × (discharges_of (with_window g s d a b sets shifts (with_neighbours before (r ∷ rs) after)) ≡ d))
 unfolding gap_of stages_of discharges_of
-filled_gap g s d a b None after r rs = (refl, (refl, refl))
-filled_gap g s d a b (Some x) after r rs = (refl, (refl, refl))
+filled_gap g s d a b sets shifts None after r rs = (refl, (refl, refl))
+filled_gap g s d a b sets shifts (Some x) after r rs = (refl, (refl, refl))
 
 -- a station described otherwise keeps the days without inputs alone
 abbrev pub Differs : ℕ → List ℕ → List ℕ → ℕ → List ℕ → List ℕ → Type 0
 Differs g s d g' s' d' = (g ≡ g' → s ≡ s' → d ≡ d' → ⊥)
 
-with_window_empty : (before after before' after' : Option Reading) (inner : List Reading) (g g' : ℕ) (s s' d d' : List ℕ) (a b : ℤ)
+with_window_empty : (before after before' after' : Option Reading) (inner : List Reading) (g g' : ℕ) (s s' d d' : List ℕ) (a b : ℤ) (sets : Corrections) (shifts : List Entry)
     → Differs g s d g' s' d'
-    → not (is_any inner) ≡ same_inputs (with_window g s d a b (with_neighbours before inner after)) (with_window g' s' d' a b (with_neighbours before' inner after'))
+    → not (is_any inner) ≡ same_inputs (with_window g s d a b sets shifts (with_neighbours before inner after)) (with_window g' s' d' a b sets shifts (with_neighbours before' inner after'))
 unfolding is_any
-with_window_empty before after before' after' [] g g' s s' d d' a b n = refl
-with_window_empty before after before' after' (r ∷ rs) g g' s s' d d' a b n =
-    sym (other_of (with_window g s d a b (with_neighbours before (r ∷ rs) after)) (with_window g' s' d' a b (with_neighbours before' (r ∷ rs) after')) (λ e.
-    let one = filled_gap g s d a b before after r rs in
-    let two = filled_gap g' s' d' a b before' after' r rs in
+with_window_empty before after before' after' [] g g' s s' d d' a b sets shifts n = refl
+with_window_empty before after before' after' (r ∷ rs) g g' s s' d d' a b sets shifts n =
+    sym (other_of (with_window g s d a b sets shifts (with_neighbours before (r ∷ rs) after)) (with_window g' s' d' a b sets shifts (with_neighbours before' (r ∷ rs) after')) (λ e.
+    let one = filled_gap g s d a b sets shifts before after r rs in
+    let two = filled_gap g' s' d' a b sets shifts before' after' r rs in
     n (sym one.0 ∙ ap gap_of e ∙ two.0) (sym one.1.0 ∙ ap stages_of e ∙ two.1.0) (sym one.1.1 ∙ ap discharges_of e ∙ two.1.1)))
 
 pub described_other : (s : StationRecord) (day : ℤ) (name : List ℕ) (gap : ℕ) (stages discharges : List ℕ)
@@ -194,10 +202,10 @@ described_other s day name gap stages discharges n =
     let b = day_start s (day +ℤ pos 1) in
     let before = neighbour_before a (pos (60 * s.gap)) s.readings in
     let after = neighbour_after b (pos (60 * s.gap)) s.readings in
-    ap not (window_any s.gap s.stage_array s.discharge_array a b (window a b (pos (60 * s.gap)) s.readings)
+    ap not (window_any s.gap s.stage_array s.discharge_array a b s.corrections s.shifts (window a b (pos (60 * s.gap)) s.readings)
     ∙ neighbours_any before (inner a b s.readings) after)
     ∙ with_window_empty before after (neighbour_before a (pos (60 * gap)) s.readings) (neighbour_after b (pos (60 * gap)) s.readings)
-    (inner a b s.readings) s.gap gap s.stage_array stages s.discharge_array discharges a b n
+    (inner a b s.readings) s.gap gap s.stage_array stages s.discharge_array discharges a b s.corrections s.shifts n
 
 -- the same of a station that is kept with room
 abbrev AlteredDay : ℤ → Reading → ℤ → ℤ → Bool → KeptStation → KeptStation → Type 0
@@ -212,18 +220,18 @@ pub altered_kept : (kept view : KeptStation) → view ≡ kept → (day : ℤ) (
 altered_kept kept view e day r from until altered =
     subst (λ (k : KeptStation). AlteredDay day r from until altered view k) e (altered_day view.station day r from until altered)
 
--- a day has these inputs exactly where the settings, the bounds and a window that is there agree
-abbrev pub HasParts : StationRecord → ℤ → DayParts → Type 0
-HasParts s day p =
-    ((s.gap ≡ p.gap) × (s.stage_array ≡ p.stage_array) × (s.discharge_array ≡ p.discharge_array))
-    × ((p.from ≡ day_start s day) × (p.until ≡ day_start s (day +ℤ pos 1)))
-    × (p.window ≡ station_window s day) × (p.window ≢ [])
+-- a day has these inputs exactly where the settings, the bounds, the window and the bearing entries agree
+abbrev HasSettings : StationRecord → DayParts → Type 0
+HasSettings s p = (s.gap ≡ p.gap) × (s.stage_array ≡ p.stage_array) × (s.discharge_array ≡ p.discharge_array)
+
+abbrev HasBounds : StationRecord → ℤ → DayParts → Type 0
+HasBounds s day p = (p.from ≡ day_start s day) × (p.until ≡ day_start s (day +ℤ pos 1))
+
+abbrev HasParts : StationRecord → ℤ → DayParts → List Reading → Type 0
+HasParts s day p w = HasSettings s p × (HasBounds s day p × ((p.window ≡ w) × (has_bearing s.corrections s.shifts p ≡ true)))
 
 parts_step : (s : StationRecord) (day : ℤ) (p : DayParts) (w : List Reading)
-    → Day p ≡ with_window s.gap s.stage_array s.discharge_array (day_start s day) (day_start s (day +ℤ pos 1)) w
-    → ((s.gap ≡ p.gap) × (s.stage_array ≡ p.stage_array) × (s.discharge_array ≡ p.discharge_array))
-    × ((p.from ≡ day_start s day) × (p.until ≡ day_start s (day +ℤ pos 1)))
-    × (p.window ≡ w) × (p.window ≢ [])
+    → Day p ≡ with_window s.gap s.stage_array s.discharge_array (day_start s day) (day_start s (day +ℤ pos 1)) s.corrections s.shifts w → HasParts s day p w
 parts_step s day p [] e = absurd (cc)
 parts_step s day p (r ∷ rs) e =
     let k : p ≡ record {
@@ -233,34 +241,35 @@ parts_step s day p (r ∷ rs) e =
       from = day_start s day;
       until = day_start s (day +ℤ pos 1);
       window = r ∷ rs;
-    } = cc in
-    let w = ap (λ (x : DayParts). x.window) k in (
+      first = bearing r.at (last_at r rs) s.corrections.first;
+      second = bearing r.at (last_at r rs) s.corrections.second;
+      third = bearing r.at (last_at r rs) s.corrections.third;
+      shifts = bearing r.at (last_at r rs) s.shifts;
+    } = cc in (
       (sym (ap (λ (x : DayParts). x.gap) k), sym (ap (λ (x : DayParts). x.stage_array) k), sym (ap (λ (x : DayParts). x.discharge_array) k)),
-      (ap (λ (x : DayParts). x.from) k, ap (λ (x : DayParts). x.until) k),
-      w,
-      λ n. absurd (cc),
+      (
+        (ap (λ (x : DayParts). x.from) k, ap (λ (x : DayParts). x.until) k),
+        (
+          ap (λ (x : DayParts). x.window) k,
+          bearing_told s.gap s.stage_array s.discharge_array (day_start s day) (day_start s (day +ℤ pos 1)) s.corrections s.shifts p (r ∷ rs) e,
+        ),
+      ),
     )
 
-pub parts_told : (s : StationRecord) (day : ℤ) (p : DayParts) → Day p ≡ station_day s day → HasParts s day p
-parts_told s day p e = parts_step s day p (station_window s day) e
+parts_back : (s : StationRecord) (day : ℤ) (p : DayParts) (w : List Reading) → HasParts s day p w
+    → Day p ≡ with_window s.gap s.stage_array s.discharge_array (day_start s day) (day_start s (day +ℤ pos 1)) s.corrections s.shifts w
+parts_back s day p w h =
+    bearing_are s.gap s.stage_array s.discharge_array (day_start s day) (day_start s (day +ℤ pos 1)) s.corrections s.shifts p w
+    (sym h.0.0) (sym h.0.1) (sym h.0.2) h.1.0.0 h.1.0.1 h.1.1.0 h.1.1.1
 
-parts_back : (s : StationRecord) (day : ℤ) (p : DayParts) (w : List Reading)
-    → ((s.gap ≡ p.gap) × (s.stage_array ≡ p.stage_array) × (s.discharge_array ≡ p.discharge_array))
-    → ((p.from ≡ day_start s day) × (p.until ≡ day_start s (day +ℤ pos 1))) → p.window ≡ w → p.window ≢ []
-    → Day p ≡ with_window s.gap s.stage_array s.discharge_array (day_start s day) (day_start s (day +ℤ pos 1)) w
-parts_back s day p [] a b e n = absurd (n e)
-parts_back s day p (r ∷ rs) a b e n =
-    let made : ℕ → List ℕ → List ℕ → ℤ → ℤ → List Reading → DayInputs =
-    λ g x y f u w. Day (record { gap = g; stage_array = x; discharge_array = y; from = f; until = u; window = w }) in
-    ap (λ g. made g p.stage_array p.discharge_array p.from p.until p.window) (sym a.0)
-    ∙ ap (λ x. made s.gap x p.discharge_array p.from p.until p.window) (sym a.1)
-    ∙ ap (λ y. made s.gap s.stage_array y p.from p.until p.window) (sym a.2)
-    ∙ ap (λ f. made s.gap s.stage_array s.discharge_array f p.until p.window) b.0
-    ∙ ap (λ u. made s.gap s.stage_array s.discharge_array (day_start s day) u p.window) b.1
-    ∙ ap (λ w. made s.gap s.stage_array s.discharge_array (day_start s day) (day_start s (day +ℤ pos 1)) w) e
-
-pub parts_are : (s : StationRecord) (day : ℤ) (p : DayParts) → HasParts s day p → Day p ≡ station_day s day
-parts_are s day p h = parts_back s day p (station_window s day) h.0 h.1 h.2 h.3
+pub parts_decide : (s : StationRecord) (day : ℤ) (p : DayParts) (settings bounds window entries told : Bool) → settings ≡ true ↔ HasSettings s p
+    → bounds ≡ true ↔ HasBounds s day p → window ≡ true ↔ p.window ≡ station_window s day → entries ≡ has_bearing s.corrections s.shifts p
+    → told ≡ (settings && (bounds && (window && entries))) → told ≡ true ↔ Day p ≡ station_day s day
+parts_decide s day p settings bounds window entries told f g h e t =
+    let bearing : Decides entries (has_bearing s.corrections s.shifts p ≡ true) = (λ k. sym e ∙ k, λ k. e ∙ k) in
+    let all = Decides-and settings (bounds && (window && entries)) f (Decides-and bounds (window && entries) g (Decides-and window entries h bearing)) in
+    Decides-at told (settings && (bounds && (window && entries))) t
+    (Decides-like (settings && (bounds && (window && entries))) (parts_back s day p (station_window s day)) (parts_step s day p (station_window s day)) all)
 
 -- the used ones of a day's readings with its neighbours are its window
 pub window_found : (s : StationRecord) (day from until : ℤ) (before after : Option Reading) (rs list : List Reading) (told : Bool)
@@ -292,11 +301,13 @@ window_kept kept view e day from until before after rs list told =
 
 -- a station with readings put keeps to its ranges
 pub put_station : (s : StationRecord) (rs new : List Reading) → IsStation s → All IsPutReading rs → new ≡ put_all rs s.readings
-    → IsStation (record { site = s.site; name = s.name; zone = s.zone; gap = s.gap; stage_array = s.stage_array; discharge_array = s.discharge_array; readings = new })
+    → IsStation (record { site = s.site; name = s.name; zone = s.zone; gap = s.gap; stage_array = s.stage_array; discharge_array = s.discharge_array; corrections = s.corrections; shifts = s.shifts; readings = new })
 put_station s rs new h k e = record {
   site_range = h.site_range;
   zone_is = h.zone_is;
   gap_low = h.gap_low;
   gap_high = h.gap_high;
+  corrections_are = h.corrections_are;
+  shifts_are = h.shifts_are;
   readings_are = subst AreReadings (sym e) (put_all_are rs s.readings k h.readings_are);
 }

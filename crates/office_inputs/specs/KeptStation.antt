@@ -3,6 +3,8 @@ use Rattle.std.specs.Prelude.{ℕ, ◌≤◌, List, All}
 use Rattle.fixed_units.specs.Quantities.{IsSite, IsStage, IsStamp}
 use Rattle.fixed_units.specs.declared.readings.Reading.{Reading}
 use Rattle.readings.specs.Readings.{IsRising}
+use Rattle.curves.specs.Entries.{IsSeries}
+use Rattle.curves.specs.Corrections.{AreCorrections}
 use Rattle.civil_days.specs.Starts.{IsZone}
 use Rattle.day_inputs.specs.DayInputs.{most_gap}
 use Rattle.office_inputs.specs.Stations.{StationRecord}
@@ -19,6 +21,8 @@ pub record IsStation (station : StationRecord) : Type 0 where
   pub zone_is : IsZone station.zone
   pub gap_low : 1 ≤ station.gap
   pub gap_high : station.gap ≤ most_gap
+  pub corrections_are : AreCorrections station.corrections
+  pub shifts_are : IsSeries station.shifts
   pub readings_are : AreReadings station.readings
 
 -- a station that is kept, and for how many more readings it has room

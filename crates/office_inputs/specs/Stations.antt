@@ -5,6 +5,8 @@ use Rattle.fixed_units.specs.declared.readings.Reading.{Reading}
 use Rattle.rising.specs.Lists as lists
 use Rattle.readings.specs.Readings.{put_all}
 use Rattle.readings.specs.Window.{window}
+use Rattle.curves.specs.declared.entries.Entry.{Entry}
+use Rattle.curves.specs.Corrections.{Corrections}
 use Rattle.civil_days.specs.Starts.{day_start_of}
 use Rattle.day_inputs.specs.DayInputs.{day_inputs}
 use Rattle.day_inputs.specs.declared.day_inputs.DayInputs.{DayInputs}
@@ -21,6 +23,8 @@ pub record StationRecord : Type 0 where
   pub gap : ℕ
   pub stage_array : List ℕ
   pub discharge_array : List ℕ
+  pub corrections : Corrections
+  pub shifts : List Entry
   pub readings : List Reading
 
 -- the number that a station stands at: that of its site
@@ -39,7 +43,7 @@ with_changed change (Some station) stations = lists.put place_of (change station
 abbrev pub changed_at : SiteNumber → (StationRecord → StationRecord) → List StationRecord → List StationRecord
 changed_at site change stations = with_changed change (station_of stations site) stations
 
--- a station as it is added: without readings
+-- a station as it is added: without corrections, shifts and readings
 abbrev pub new_station : SiteNumber → List ℕ → List ℕ → ℕ → List ℕ → List ℕ → StationRecord
 new_station site name zone gap stage_array discharge_array = record {
   site = site;
@@ -48,10 +52,12 @@ new_station site name zone gap stage_array discharge_array = record {
   gap = gap;
   stage_array = stage_array;
   discharge_array = discharge_array;
+  corrections = record { first = []; second = []; third = [] };
+  shifts = [];
   readings = [];
 }
 
--- a station described anew: it keeps its site, its zone and its readings
+-- a station described anew: it keeps its site, its zone, its corrections, its shifts and its readings
 abbrev pub described : List ℕ → ℕ → List ℕ → List ℕ → StationRecord → StationRecord
 described name gap stage_array discharge_array s = record {
   site = s.site;
@@ -60,6 +66,8 @@ described name gap stage_array discharge_array s = record {
   gap = gap;
   stage_array = stage_array;
   discharge_array = discharge_array;
+  corrections = s.corrections;
+  shifts = s.shifts;
   readings = s.readings;
 }
 
@@ -72,6 +80,8 @@ with_readings readings s = record {
   gap = s.gap;
   stage_array = s.stage_array;
   discharge_array = s.discharge_array;
+  corrections = s.corrections;
+  shifts = s.shifts;
   readings = put_all readings s.readings;
 }
 
@@ -100,7 +110,7 @@ station_window s day = window (day_start s day) (day_start s (day +ℤ pos 1)) (
 
 -- the inputs of a day of a station
 abbrev pub station_day : StationRecord → ℤ → DayInputs
-station_day s day = day_inputs s.gap s.stage_array s.discharge_array (day_start s day) (day_start s (day +ℤ pos 1)) s.readings
+station_day s day = day_inputs s.gap s.stage_array s.discharge_array (day_start s day) (day_start s (day +ℤ pos 1)) s.corrections s.shifts s.readings
 
 -- the inputs of a day of a site: none where it is not kept
 abbrev pub day_of_station : Option StationRecord → ℤ → DayInputs

@@ -4,21 +4,35 @@ ghost use Rattle.std.specs.Prelude.{◌≡◌, ℕ, List, ◌+◌, ◌≤◌, �
 ghost use Rattle.day_inputs.specs.DayInputs.{most_gap};
 ghost use Rattle.edits.specs.Lawful.{IsPutReading};
 ghost use Rattle.office_inputs.specs.Kept.{HasRoom, IsStagedName, IsStagedStation, HasReadingRoom, IsStagedNew, AreStations, in_force, records_of, kept_at};
+ghost use Rattle.office_inputs.specs.Places.{IsPlace, IsPlaceOf};
 ghost use Rattle.office_inputs.specs.Refusals.{refusal_of, reading_count, passes};
 ghost use Rattle.office_inputs.specs.Stations.{StationRecord, stations_after, changed_at, described, with_readings, place_of};
 ghost use Rattle.rising.specs.Lists.{put};
 
 use crate::inputs::Inputs;
+use crate::places::Place;
 use crate::staged::Staged;
 use crate::stations::Station;
 use edits::{Edit, Name, What};
 use fixed_units::{Reading, RoundingArray, Site};
-use rising::{place_in, put_in};
+use rising::put_in;
 use std::mem;
 
 impl Inputs {
     /// Accepts an edit for which room is made and that is not refused. It takes no memory.
     pub fn apply(&mut self, edit: &Edit)
+        requires accepted { refusal_of self.old.limits (in_force self.old) edit.now ≡ None }
+        requires room { HasRoom self.old edit.now }
+        ensures stations { in_force self.new ≡ stations_after (in_force self.old) edit.now }
+        ensures limits { self.new.limits ≡ self.old.limits }
+    {
+        let place = self.place(edit.site);
+        self.apply_at(place, edit);
+    }
+
+    /// The same at the place of the edit's site. Nothing is looked up but where a new station belongs.
+    pub fn apply_at(&mut self, place: Place, edit: &Edit)
+        requires place { IsPlaceOf (in_force self.old) edit.now.site place }
         requires accepted { refusal_of self.old.limits (in_force self.old) edit.now ≡ None }
         requires room { HasRoom self.old edit.now }
         ensures stations { in_force self.new ≡ stations_after (in_force self.old) edit.now }
@@ -31,8 +45,8 @@ impl Inputs {
                 stage_array,
                 discharge_array,
                 ..
-            } => self.describe_staged(edit.site, *gap, *stage_array, *discharge_array),
-            What::PutReadings { readings } => self.put(edit.site, readings.as_slice()),
+            } => self.describe_staged(place, *gap, *stage_array, *discharge_array),
+            What::PutReadings { readings } => self.put(place, readings.as_slice()),
         }
     }
 
@@ -49,23 +63,24 @@ impl Inputs {
         }
     }
 
-    /// Describes the station of a site anew, with the name that is staged.
+    /// Describes the station at a place anew, with the name that is staged.
     fn describe_staged(
         &mut self,
-        site: Site,
+        place: Place,
         gap: u32,
         stage_array: RoundingArray,
         discharge_array: RoundingArray,
     )
+        requires place { IsPlace (in_force self.old) place }
         requires gap_low { 1 ≤ gap }
         requires gap_high { gap ≤ most_gap }
-        ensures stations { (name : List ℕ) → IsStagedName name self.old.staged → in_force self.new ≡ changed_at site (described name gap stage_array discharge_array) (in_force self.old) }
+        ensures stations { (name : List ℕ) → IsStagedName name self.old.staged → in_force self.new ≡ changed_at place.site (described name gap stage_array discharge_array) (in_force self.old) }
         ensures limits { self.new.limits ≡ self.old.limits }
     {
         if let Staged::Named(name) = mem::replace(&mut self.staged, Staged::Nothing) {
             describe_in(
                 &mut self.stations,
-                site,
+                place,
                 name,
                 gap,
                 stage_array,
@@ -74,15 +89,16 @@ impl Inputs {
         }
     }
 
-    /// Puts readings at a site.
-    fn put(&mut self, site: Site, readings: &[Reading])
-        requires room { HasReadingRoom self.old.kept site (length readings.now) }
+    /// Puts readings at a place.
+    fn put(&mut self, place: Place, readings: &[Reading])
+        requires place { IsPlace (in_force self.old) place }
+        requires room { HasReadingRoom self.old.kept place.site (length readings.now) }
         requires lawful { All IsPutReading readings.now }
-        requires counted { passes self.old.limits.readings (reading_count (in_force self.old)) (reading_count (changed_at site (with_readings readings.now) (in_force self.old))) ≡ false }
-        ensures stations { in_force self.new ≡ changed_at site (with_readings readings.now) (in_force self.old) }
+        requires counted { passes self.old.limits.readings (reading_count (in_force self.old)) (reading_count (changed_at place.site (with_readings readings.now) (in_force self.old))) ≡ false }
+        ensures stations { in_force self.new ≡ changed_at place.site (with_readings readings.now) (in_force self.old) }
         ensures limits { self.new.limits ≡ self.old.limits }
     {
-        let added = put_readings_in(&mut self.stations, site, readings);
+        let added = put_readings_in(&mut self.stations, place, readings);
         self.readings += added as u64;
     }
 }
@@ -101,38 +117,40 @@ fn add_in(stations: &mut Vec<Station>, station: Station)
     put_in(stations, station);
 }
 
-/// Describes the station of a site anew, where it is kept.
+/// Describes the station at a place anew, where its site is kept.
 fn describe_in(
     stations: &mut Vec<Station>,
-    site: Site,
+    place: Place,
     name: Name,
     gap: u32,
     stage_array: RoundingArray,
     discharge_array: RoundingArray,
 )
     requires kept { AreStations stations.old.items }
+    requires place { IsPlace (records_of stations.old.items) place }
     requires gap_low { 1 ≤ gap }
     requires gap_high { gap ≤ most_gap }
-    ensures records { records_of stations.new.items ≡ changed_at site (described name gap stage_array discharge_array) (records_of stations.old.items) }
+    ensures records { records_of stations.new.items ≡ changed_at place.site (described name gap stage_array discharge_array) (records_of stations.old.items) }
     ensures count { reading_count (records_of stations.new.items) ≡ reading_count (records_of stations.old.items) }
     ensures kept { AreStations stations.new.items }
 {
-    if let Some(place) = place_in(stations.as_slice(), site) {
-        stations[place].describe(name, gap, stage_array, discharge_array);
+    if let Some(index) = place.index() {
+        stations[index].describe(name, gap, stage_array, discharge_array);
     }
 }
 
-/// Puts readings at the station of a site, where it is kept, and tells how many more it has then.
-fn put_readings_in(stations: &mut Vec<Station>, site: Site, readings: &[Reading]) -> usize
+/// Puts readings at the station at a place, where its site is kept, and tells how many more it has then.
+fn put_readings_in(stations: &mut Vec<Station>, place: Place, readings: &[Reading]) -> usize
     requires kept { AreStations stations.old.items }
-    requires room { HasReadingRoom stations.old.items site (length readings.now) }
+    requires place { IsPlace (records_of stations.old.items) place }
+    requires room { HasReadingRoom stations.old.items place.site (length readings.now) }
     requires lawful { All IsPutReading readings.now }
-    ensures records { records_of stations.new.items ≡ changed_at site (with_readings readings.now) (records_of stations.old.items) }
+    ensures records { records_of stations.new.items ≡ changed_at place.site (with_readings readings.now) (records_of stations.old.items) }
     ensures count { reading_count (records_of stations.new.items) ≡ reading_count (records_of stations.old.items) + result }
     ensures kept { AreStations stations.new.items }
 {
-    match place_in(stations.as_slice(), site) {
-        Some(place) => stations[place].put(readings),
+    match place.index() {
+        Some(index) => stations[index].put(readings),
         None => 0,
     }
 }

@@ -2,15 +2,16 @@
 
 ghost use Rattle.std.specs.Prelude.{◌≡◌, ◌↔◌, ◌+◌, true, [], ◌∷◌, length, IfOk, IfSome, IfNone, OnOk, None, option_map};
 ghost use Rattle.day_inputs.specs.DayInputs.{AreInputs};
-ghost use Rattle.rising.specs.Lists.{IsRising};
 ghost use Rattle.office_inputs.specs.Changes.{keeps_day};
-ghost use Rattle.office_inputs.specs.Kept.{AreStations, HasRoom, in_force, kept_at, place_of_kept};
+ghost use Rattle.office_inputs.specs.Kept.{AreStations, HasRoom, in_force};
+ghost use Rattle.office_inputs.specs.Places.{IsPlace, IsPlaceOf};
 ghost use Rattle.office_inputs.specs.Refusals.{refusal_of};
 ghost use Rattle.office_inputs.specs.Stations.{station_of, stations_after, inputs_of_day};
 ghost use Rattle.office_inputs.specs.Touched.{IsUsedSpan, between_readings, touched_of};
 ghost use Rattle.rising.specs.Ends.{first, last};
 
 use crate::limits::Limits;
+use crate::places::{Place, find_place, station_there};
 use crate::refusals::{Refusal, Which};
 use crate::staged::Staged;
 use crate::stations::Station;
@@ -19,7 +20,6 @@ use civil_days::StationZone;
 use day_inputs::DayInputs;
 use edits::{Edit, Name, What};
 use fixed_units::{Day, NoMemory, Reading, Site};
-use rising::{place_in, put_in};
 use std::alloc::Global;
 use std::marker::Model;
 use std::sync::Arc;
@@ -71,11 +71,27 @@ impl Inputs {
         self.limits
     }
 
+    /// Where the station of a site stands, by a binary search. It is good for an edit of the site until the next edit is accepted, so
+    /// that the station is looked up once for it.
+    pub fn place(&self, site: Site) -> Place
+        ensures { IsPlaceOf (in_force self.now) site result }
+    {
+        find_place(self.stations.as_slice(), site)
+    }
+
     /// The station of a site, or `None` exactly where it is not kept.
     pub fn station(&self, site: Site) -> Option<&Station>
         ensures { option_map (λ s. s.now.station) result ≡ station_of (in_force self.now) site }
     {
-        find_station(self.stations.as_slice(), site)
+        self.station_at(self.place(site))
+    }
+
+    /// The station at a place, or `None` exactly where its site is not kept. Nothing is looked up.
+    pub fn station_at(&self, place: Place) -> Option<&Station>
+        requires { IsPlace (in_force self.now) place }
+        ensures { option_map (λ s. s.now.station) result ≡ station_of (in_force self.now) place.site }
+    {
+        station_there(self.stations.as_slice(), place)
     }
 
     /// The inputs of a day of a site: none where it is not kept.
@@ -117,7 +133,15 @@ impl Inputs {
     pub fn used_span(&self, site: Site) -> Option<(Day, Day)>
         ensures { IsUsedSpan (in_force self.now) site result }
     {
-        match self.station(site) {
+        self.used_span_at(self.place(site))
+    }
+
+    /// The same of the site of a place. Nothing is looked up.
+    pub fn used_span_at(&self, place: Place) -> Option<(Day, Day)>
+        requires { IsPlace (in_force self.now) place }
+        ensures { IsUsedSpan (in_force self.now) place.site result }
+    {
+        match self.station_at(place) {
             Some(station) => station.used_span(),
             None => None,
         }
@@ -140,17 +164,6 @@ pub fn stations_keep_to_their_ranges(inputs: &Inputs)
     ensures { AreStations inputs.now.kept }
 {
     let _ = &inputs.stations;
-}
-
-/// The station of a site among those that are kept.
-fn find_station(stations: &[Station], site: Site) -> Option<&Station>
-    requires { IsRising place_of_kept stations.now }
-    ensures { option_map (λ s. s.now) result ≡ kept_at stations.now site }
-{
-    match place_in(stations, site) {
-        Some(place) => Some(&stations[place]),
-        None => None,
-    }
 }
 
 /// The reading of a list of one.

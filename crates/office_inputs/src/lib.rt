@@ -6,6 +6,7 @@ mod comparing;
 pub mod inputs;
 pub mod laws;
 pub mod limits;
+pub mod places;
 pub mod refusals;
 mod refusing;
 pub mod rooms;
@@ -16,6 +17,7 @@ mod zones;
 
 pub use inputs::{Inputs, stations_keep_to_their_ranges};
 pub use limits::Limits;
+pub use places::Place;
 pub use refusals::{Full, Refusal, Which};
 pub use stations::Station;
 pub use touched::Touched;

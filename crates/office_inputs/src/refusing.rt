@@ -5,9 +5,11 @@ ghost use Rattle.fixed_units.specs.Quantities.{IsStamp};
 ghost use Rattle.office_inputs.specs.Counting.{reading_limit, station_limit, without_station, IsRefusalAt, IsLimitedOn};
 ghost use Rattle.edits.specs.Lawful.{IsLawful};
 ghost use Rattle.office_inputs.specs.Kept.{in_force};
+ghost use Rattle.office_inputs.specs.Places.{IsPlaceOf};
 ghost use Rattle.office_inputs.specs.Refusals.{refusal_of, limit_refusal, reading_count};
 
 use crate::inputs::{Inputs, only_one, stations_keep_to_their_ranges};
+use crate::places::Place;
 use crate::refusals::{Refusal, Which};
 use crate::stations::Station;
 use edits::{Edit, What};
@@ -19,12 +21,20 @@ impl Inputs {
     pub fn refusal(&self, edit: &Edit) -> Option<Refusal>
         ensures { result ≡ refusal_of self.now.limits (in_force self.now) edit.now }
     {
+        self.refusal_at(self.place(edit.site), edit)
+    }
+
+    /// The same at the place of the edit's site. Nothing is looked up.
+    pub fn refusal_at(&self, place: Place, edit: &Edit) -> Option<Refusal>
+        requires { IsPlaceOf (in_force self.now) edit.now.site place }
+        ensures { result ≡ refusal_of self.now.limits (in_force self.now) edit.now }
+    {
         stations_keep_to_their_ranges(self);
-        match self.station(edit.site) {
+        match self.station_at(place) {
             None => self.refusal_without(&edit.what),
             Some(station) => {
                 let _site = station.site();
-                self.refusal_at(station, &edit.what)
+                self.refusal_with(station, &edit.what)
             }
         }
     }
@@ -40,7 +50,7 @@ impl Inputs {
     }
 
     /// Why an edit of a station is refused.
-    fn refusal_at(&self, station: &Station, what: &What) -> Option<Refusal>
+    fn refusal_with(&self, station: &Station, what: &What) -> Option<Refusal>
         requires { IsLawful what.now }
         ensures { IsRefusalAt self.now.limits (reading_count (in_force self.now)) station.now.station what.now result }
     {

@@ -4,21 +4,32 @@ ghost use Rattle.std.specs.Prelude.{◌≡◌, ◌≤◌, ◌<◌, OnOk, IfSome,
 ghost use Rattle.std.specs.Prelude.{vec_len, vec_capacity};
 ghost use Rattle.civil_days.specs.Starts.{IsZone};
 ghost use Rattle.day_inputs.specs.DayInputs.{most_gap};
-ghost use Rattle.rising.specs.Lists.{IsRising};
-ghost use Rattle.office_inputs.specs.Kept.{HasRoom, IsStagedStation, IsStagedName, HasReadingRoom, AreStations, in_force, records_of, kept_at, place_of_kept};
+ghost use Rattle.office_inputs.specs.Kept.{HasRoom, IsStagedStation, IsStagedName, HasReadingRoom, AreStations, in_force, records_of};
+ghost use Rattle.office_inputs.specs.Places.{IsPlace, IsPlaceOf};
 ghost use Rattle.office_inputs.specs.Stations.{new_station};
 
 use crate::inputs::Inputs;
+use crate::places::Place;
 use crate::staged::Staged;
 use crate::stations::Station;
 use crate::zones::zone_of;
 use edits::{Edit, Name, What};
 use fixed_units::{NoMemory, RoundingArray, Site};
-use rising::place_in;
 
 impl Inputs {
     /// Makes room for an edit. What is in force is as before, also after `NoMemory`.
     pub fn prepare(&mut self, edit: &Edit) -> Result<(), NoMemory>
+        ensures stations { in_force self.new ≡ in_force self.old }
+        ensures limits { self.new.limits ≡ self.old.limits }
+        ensures room { OnOk result (HasRoom self.new edit.now) }
+    {
+        let place = self.place(edit.site);
+        self.prepare_at(place, edit)
+    }
+
+    /// The same at the place of the edit's site, which stays that of the site. Nothing is looked up.
+    pub fn prepare_at(&mut self, place: Place, edit: &Edit) -> Result<(), NoMemory>
+        requires { IsPlaceOf (in_force self.old) edit.now.site place }
         ensures stations { in_force self.new ≡ in_force self.old }
         ensures limits { self.new.limits ≡ self.old.limits }
         ensures room { OnOk result (HasRoom self.new edit.now) }
@@ -32,7 +43,7 @@ impl Inputs {
                 discharge_array,
             } => self.stage_station(edit.site, name, zone, *gap, *stage_array, *discharge_array),
             What::SetStation { name, .. } => self.stage_name(name),
-            What::PutReadings { readings } => self.reserve(edit.site, readings.as_slice().len()),
+            What::PutReadings { readings } => self.reserve(place, readings.as_slice().len()),
         }
     }
 
@@ -79,27 +90,29 @@ impl Inputs {
         Ok(())
     }
 
-    /// Makes room for so many readings more of a site, where it is kept.
-    fn reserve(&mut self, site: Site, count: usize) -> Result<(), NoMemory>
+    /// Makes room for so many readings more of the station at a place, where its site is kept.
+    fn reserve(&mut self, place: Place, count: usize) -> Result<(), NoMemory>
+        requires { IsPlace (in_force self.old) place }
         ensures stations { in_force self.new ≡ in_force self.old }
         ensures limits { self.new.limits ≡ self.old.limits }
-        ensures room { OnOk result (HasReadingRoom self.new.kept site count) }
+        ensures room { OnOk result (HasReadingRoom self.new.kept place.site count) }
     {
-        reserve_in(&mut self.stations, site, count)
+        reserve_in(&mut self.stations, place, count)
     }
 }
 
-/// Makes room for so many readings more of a site among the stations that are kept.
-fn reserve_in(stations: &mut Vec<Station>, site: Site, count: usize) -> Result<(), NoMemory>
-    requires { AreStations stations.old.items }
+/// Makes room for so many readings more of the station at a place among the stations that are kept.
+fn reserve_in(stations: &mut Vec<Station>, place: Place, count: usize) -> Result<(), NoMemory>
+    requires stations { AreStations stations.old.items }
+    requires place { IsPlace (records_of stations.old.items) place }
     ensures records { records_of stations.new.items ≡ records_of stations.old.items }
     ensures kept { AreStations stations.new.items }
     ensures len { vec_len stations.new ≡ vec_len stations.old }
     ensures capacity { vec_capacity stations.new ≡ vec_capacity stations.old }
-    ensures room { OnOk result (HasReadingRoom stations.new.items site count) }
+    ensures room { OnOk result (HasReadingRoom stations.new.items place.site count) }
 {
-    match place_in(stations.as_slice(), site) {
-        Some(place) => stations[place].reserve(count),
+    match place.index() {
+        Some(index) => stations[index].reserve(count),
         None => Ok(()),
     }
 }

@@ -1,13 +1,13 @@
-//! A station that is kept: what is said of it, and its readings.
+//! A station that is kept: what is said of it, its corrections and shifts, and its readings.
 
-ghost use Rattle.std.specs.Prelude.{◌≡◌, ◌↔◌, true, false, ◌≤◌, ◌<◌, ◌+◌, ℕ, ℤ, List, [], ◌∷◌, pos, ◌+ℤ◌, length, All, find, is_some, reverse, None, Some, IfOk, OnOk, OnErr, IfSome, IfNone};
+ghost use Rattle.std.specs.Prelude.{◌≡◌, ◌↔◌, ◌&&◌, true, false, ◌≤◌, ◌<◌, ◌+◌, ℕ, ℤ, List, [], ◌∷◌, pos, ◌+ℤ◌, length, All, find, is_some, reverse, None, Some, IfOk, OnOk, OnErr, IfSome, IfNone};
 ghost use Rattle.std.specs.Arc.{arc_value};
 ghost use Rattle.civil_days.specs.Starts.{IsZone, IsDayLength, IsIn};
 ghost use Rattle.fixed_units.specs.Quantities.{IsDay, IsStamp};
 ghost use Rattle.readings.specs.Readings.{is_used, put_all, at_instant, IsRising};
 ghost use Rattle.readings.specs.Window.{of_day};
 ghost use Rattle.day_inputs.specs.DayInputs.{AreInputs, most_gap};
-ghost use Rattle.day_inputs.specs.Equality.{same_inputs};
+ghost use Rattle.day_inputs.specs.Equality.{same_inputs, has_bearing};
 ghost use Rattle.day_inputs.specs.declared.day_inputs.DayInputs.TheVariants as DayInputs;
 ghost use Rattle.edits.specs.Lawful.{IsPutReading};
 ghost use Rattle.office_inputs.specs.Stations.{new_station, described, with_readings, station_day, station_window, day_start};
@@ -15,10 +15,11 @@ ghost use Rattle.office_inputs.specs.Touched.{has_inputs, IsSpanOf};
 ghost use Rattle.office_inputs.specs.KeptStation.{IsStation};
 
 use civil_days::StationZone;
-use day_inputs::{DayInputs, DayParts};
+use curves::{CorrectionSets, Shifts};
+use day_inputs::{DayInputs, DayParts, has_bearing, with_window};
 use edits::Name;
 use fixed_units::{Day, Flag, NoMemory, Reading, RoundingArray, Second, Site};
-use readings::{ReadingList, Readings, window_is};
+use readings::{Readings, window_is};
 use rising::Keyed;
 use std::alloc::Global;
 use std::marker::Model;
@@ -33,21 +34,24 @@ pub struct Station {
     gap: u32,
     stage_array: RoundingArray,
     discharge_array: RoundingArray,
+    corrections: CorrectionSets,
+    shifts: Shifts,
     readings: Readings,
 }
 
 impl Model for Station {
     ghost use Rattle.std.specs.Arc.{arc_value};
+    ghost use Rattle.curves.specs.Corrections.{entries_of};
     ghost use Rattle.office_inputs.specs.KeptStation.{KeptStation, IsStation};
 
     ghost Value = { KeptStation };
 
     ghost view = { λ s. record {
-      station = record { site = s.site; name = s.name; zone = arc_value s.zone; gap = s.gap; stage_array = s.stage_array; discharge_array = s.discharge_array; readings = s.readings.list };
+      station = record { site = s.site; name = s.name; zone = arc_value s.zone; gap = s.gap; stage_array = s.stage_array; discharge_array = s.discharge_array; corrections = entries_of s.corrections; shifts = s.shifts.series.entries; readings = s.readings.list };
       spare = s.readings.spare;
     } };
 
-    ghost invariant = { λ s. IsStation (record { site = s.site; name = s.name; zone = arc_value s.zone; gap = s.gap; stage_array = s.stage_array; discharge_array = s.discharge_array; readings = s.readings.list }) };
+    ghost invariant = { λ s. IsStation (record { site = s.site; name = s.name; zone = arc_value s.zone; gap = s.gap; stage_array = s.stage_array; discharge_array = s.discharge_array; corrections = entries_of s.corrections; shifts = s.shifts.series.entries; readings = s.readings.list }) };
 }
 
 impl Keyed for Station {
@@ -132,7 +136,7 @@ impl Station {
 }
 
 impl Station {
-    /// A station without readings, which takes no memory of its own.
+    /// A station without corrections, shifts and readings, which takes no memory of its own.
     pub(crate) fn new(
         alloc: Global,
         site: Site,
@@ -155,6 +159,8 @@ impl Station {
             gap,
             stage_array,
             discharge_array,
+            corrections: CorrectionSets::new(alloc),
+            shifts: Shifts::new(alloc),
             readings: Readings::new(alloc),
         }
     }
@@ -225,17 +231,17 @@ impl Station {
     {
         let (from, until) = self.bounds(day);
         let window = self.readings.to_list(alloc, from, until, self.gap)?;
-        if window.is_empty() {
-            return Ok(DayInputs::Empty);
-        }
-        Ok(DayInputs::Day(DayParts {
-            gap: self.gap,
-            stage_array: self.stage_array,
-            discharge_array: self.discharge_array,
+        with_window(
+            alloc,
+            self.gap,
+            self.stage_array,
+            self.discharge_array,
             from,
             until,
-            window: ReadingList::from_vec(window),
-        }))
+            &self.corrections,
+            &self.shifts,
+            window,
+        )
     }
 
     /// Whether these are the inputs of a day. It takes no memory.
@@ -252,16 +258,17 @@ impl Station {
     fn has_parts(&self, day: Day, parts: &DayParts) -> bool
         ensures { result ≡ true ↔ DayInputs.Day parts.now ≡ station_day self.now.station day }
     {
-        if !self.has_settings(parts.gap, parts.stage_array, parts.discharge_array) {
-            return false;
-        }
-        if !self.has_bounds(day, parts.from, parts.until) {
-            return false;
-        }
-        if parts.window.as_slice().is_empty() {
-            return false;
-        }
-        self.has_window(day, parts.window.as_slice())
+        let settings = self.has_settings(parts.gap, parts.stage_array, parts.discharge_array);
+        let bounds = self.has_bounds(day, parts.from, parts.until);
+        let window = self.has_window(day, parts.window.as_slice());
+        are_all(settings, bounds, window, self.has_entries(parts))
+    }
+
+    /// Whether the entries of a day are those of the station that bear on its window.
+    fn has_entries(&self, parts: &DayParts) -> bool
+        ensures { result ≡ has_bearing self.now.station.corrections self.now.station.shifts parts.now }
+    {
+        has_bearing(&self.corrections, &self.shifts, parts)
     }
 
     /// Whether a day begins and ends there.
@@ -347,7 +354,7 @@ impl Station {
         put_each(&mut self.readings, readings)
     }
 
-    /// Describes the station anew: its zone and its readings stay.
+    /// Describes the station anew: its zone, its corrections, its shifts and its readings stay.
     pub(crate) fn describe(
         &mut self,
         name: Name,
@@ -359,12 +366,20 @@ impl Station {
         requires gap_high { gap ≤ most_gap }
         ensures station { self.new.station ≡ described name gap stage_array discharge_array self.old.station }
         ensures spare { self.new.spare ≡ self.old.spare }
+        ensures kept { IsStation self.new.station }
     {
         self.name = name;
         self.gap = gap;
         self.stage_array = stage_array;
         self.discharge_array = discharge_array;
     }
+}
+
+/// Whether all parts of a day's inputs agree.
+fn are_all(settings: bool, bounds: bool, window: bool, entries: bool) -> bool
+    ensures { result ≡ (settings && (bounds && (window && entries))) }
+{
+    settings && bounds && window && entries
 }
 
 /// Whether some reading is used.

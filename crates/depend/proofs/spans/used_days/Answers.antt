@@ -6,7 +6,7 @@ use Rattle.depend.proofs.spans.used_days.Goals as goal
 pub returns-in-Some : goal.returns-in-Some
 returns-in-Some c =
     rw c.days_of.ensures.value
-    (used_cover (in_force c.args.inputs.now) c.args.site c.in-Some.span.0 c.in-Some.span.1 c.in-Some.ensures c.days_of.ensures.first c.days_of.ensures.last)
+    (used_cover (in_force c.args.inputs.now) c.args.place.site c.in-Some.span.0 c.in-Some.span.1 c.in-Some.ensures c.days_of.ensures.first c.days_of.ensures.last)
 
 pub returns-in-None : goal.returns-in-None
-returns-in-None c = none_used (in_force c.args.inputs.now) c.args.site c.in-None.ensures
+returns-in-None c = none_used (in_force c.args.inputs.now) c.args.place.site c.in-None.ensures

@@ -1,21 +1,28 @@
 -- The station is written over with the same record and more room.
-use Rattle.std.proofs.Common.{ap}
+use Rattle.std.proofs.Common.{arith, ap, sym, ◌∙◌}
 use Rattle.std.proofs.lemmas.Result.{on_ok_weaker}
 use Rattle.fixed_units.specs.Quantities.{site_place}
 use Rattle.office_inputs.specs.Stations.{StationRecord}
-use Rattle.office_inputs.proofs.RoomLemmas.{records_same, stands, written_found, room_there}
+use Rattle.office_inputs.proofs.RoomLemmas.{records_same, written_found, room_there}
+use Rattle.office_inputs.proofs.PlaceLemmas.{stands, no_room_asked, index_within}
 use Rattle.office_inputs.proofs.rooms.reserve_in.Goals as goal
+
+pub index_mut-requires : goal.index_mut-requires
+index_mut-requires c = omega (arith, index_within c.args.stations.now.items c.args.place c.in-Some.index c.requires.place (sym c.index.ensures ∙ c.in-Some.is), c.args.stations.now.ok.0)
 
 pub returns-in-Some-clause-records : goal.returns-in-Some-clause-records
 returns-in-Some-clause-records c =
-    let h = stands c.args.stations.now.items c.as_slice.result.now c.args.site c.in-Some.place c.as_slice.ensures.value c.in-Some.ensures.within c.in-Some.ensures.found c.in-Some.ensures.written in
-    records_same c.args.stations.now.items c.in-Some.place c.index_mut.result.now c.reserve.new.self h.within c.index_mut.ensures.value c.reserve.ensures.station
+    let h = stands c.args.stations.now.items c.args.place c.in-Some.index c.requires.stations.rising c.requires.place (sym c.index.ensures ∙ c.in-Some.is) in
+    records_same c.args.stations.now.items c.in-Some.index c.index_mut.result.now c.reserve.new.self h.within c.index_mut.ensures.value c.reserve.ensures.station
 
 pub returns-in-Some-clause-room : goal.returns-in-Some-clause-room
 returns-in-Some-clause-room c =
-    let h = stands c.args.stations.now.items c.as_slice.result.now c.args.site c.in-Some.place c.as_slice.ensures.value c.in-Some.ensures.within c.in-Some.ensures.found c.in-Some.ensures.written in
+    let h = stands c.args.stations.now.items c.args.place c.in-Some.index c.requires.stations.rising c.requires.place (sym c.index.ensures ∙ c.in-Some.is) in
     on_ok_weaker c.reserve.result
-    (room_there _ c.args.site c.args.count c.reserve.new.self
-    (written_found c.args.stations.now.items c.args.site c.in-Some.place c.index_mut.result.now c.reserve.new.self h c.index_mut.ensures.value
+    (room_there _ c.args.place.site c.args.count c.reserve.new.self
+    (written_found c.args.stations.now.items c.args.place.site c.in-Some.index c.index_mut.result.now c.reserve.new.self h c.index_mut.ensures.value
     (ap (λ (s : StationRecord). site_place s.site) c.reserve.ensures.station)))
     c.reserve.ensures.room
+
+pub returns-in-None-clause-room : goal.returns-in-None-clause-room
+returns-in-None-clause-room c = no_room_asked c.args.stations.now.items c.args.place c.args.count c.requires.place (sym c.index.ensures ∙ c.in-None.is)

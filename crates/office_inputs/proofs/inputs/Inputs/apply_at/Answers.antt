@@ -3,11 +3,12 @@ use Rattle.std.specs.Prelude.{◌≡◌, false}
 use Rattle.std.proofs.Common.{ap, sym, subst, ◌∙◌}
 use Rattle.edits.specs.declared.content.What.{What}
 use Rattle.edits.specs.declared.content.What.TheVariants.{PutReadings}
+use Rattle.fixed_units.specs.Quantities.{SiteNumber}
 use Rattle.office_inputs.specs.Kept.{HasRoomFor, in_force}
 use Rattle.office_inputs.specs.Refusals.{adds_station, passes, reading_count}
-use Rattle.office_inputs.specs.Stations.{after_what, new_station}
+use Rattle.office_inputs.specs.Stations.{after_what, changed_at, new_station, with_readings}
 use Rattle.office_inputs.proofs.RefusalLemmas.{accepted, absent}
-use Rattle.office_inputs.proofs.inputs.Inputs.apply.Goals as goal
+use Rattle.office_inputs.proofs.inputs.Inputs.apply_at.Goals as goal
 
 pub add_staged-requires-clause-absent : goal.add_staged-requires-clause-absent
 add_staged-requires-clause-absent c =
@@ -17,8 +18,10 @@ pub put-requires-clause-counted : goal.put-requires-clause-counted
 put-requires-clause-counted c =
     let a = accepted c.args.self.now.limits (in_force c.args.self.now) c.args.edit.now c.requires.accepted in
     let w = c.in-PutReadings.is ∙ ap PutReadings (sym c.as_slice.ensures) in
-    subst (λ (what : What). passes c.args.self.now.limits.readings (reading_count (in_force c.args.self.now))
-    (reading_count (after_what c.args.edit.now.site what (in_force c.args.self.now))) ≡ false) w a.readings
+    let stations = in_force c.args.self.now in
+    subst (λ (site : SiteNumber). passes c.args.self.now.limits.readings (reading_count stations) (reading_count (changed_at site (with_readings c.as_slice.result.now) stations)) ≡ false)
+    (sym c.requires.place.0)
+    (subst (λ (what : What). passes c.args.self.now.limits.readings (reading_count stations) (reading_count (after_what c.args.edit.now.site what stations)) ≡ false) w a.readings)
 
 pub returns-in-AddStation-clause-stations : goal.returns-in-AddStation-clause-stations
 returns-in-AddStation-clause-stations c =

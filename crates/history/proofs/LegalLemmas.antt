@@ -1,16 +1,18 @@
 -- A legal history stays legal with one event more, where that event may come; so does that of an office that is opened again, with the
 -- record in doubt and without it.
-use Rattle.std.specs.Prelude.{◌≡◌, true, List, [], ◌∷◌, ◌++◌, length, map, reverse, Option, Some, None, ◌⊎◌, ℤ}
+use Rattle.std.specs.Prelude.{◌≡◌, true, List, [], ◌∷◌, ◌++◌, length, map, reverse, Option, Some, ◌⊎◌, ℤ}
 use Rattle.std.proofs.Common.{refl, ap, sym, subst, ◌∙◌, inl, inr}
 use Rattle.std.proofs.lemmas.List.{append-nil, append_assoc, map-append, reverse-append, reverse-reverse}
 use Rattle.edits.specs.declared.content.Edit.{Edit}
 use Rattle.fixed_units.specs.Quantities.{SiteNumber}
 use Rattle.history.specs.Accepted.{accepted, edit_of, named}
-use Rattle.history.specs.After.{MayLeaveInDoubt, doubt, doubt_back, go_on, reopen}
+use Rattle.history.specs.After.{MayLeaveInDoubt, doubt, doubt_back, go_on, left_by, reopen}
 use Rattle.history.specs.Awaited.{is_pending}
 use Rattle.history.specs.Events.{Event, Accepted, Published, Faulted, History}
 use Rattle.history.specs.Legal.{IsLegal, MayBeKept}
 use Rattle.history.specs.Verdicts.{Accepts, record_of, verdict}
+use Rattle.history.specs.declared.recorded.NotKept.{NotKept}
+use Rattle.history.specs.declared.recorded.NotKept.TheVariants as not_kept
 use Rattle.history.proofs.EventLemmas.{accepted_all, accepted_published, accepted_faulted}
 use Rattle.history.proofs.VerdictLemmas.{accepted_parts}
 use Rattle.office_inputs.specs.Refusals as inputs
@@ -250,14 +252,14 @@ accepted_may_be_kept h edit v =
     record { reference = parts.new; edit = parts.stations }
 
 -- what a fault leaves the journal in doubt of
+left_step : (h : History) (edit : Edit) (failed : NotKept) → verdict h edit ≡ Accepts → IsLegal h
+    → (piece : Record) → left_by (doubt h) (record_of h edit) failed ≡ Some piece → MayBeKept h.limits h.events piece
+left_step h edit not_kept.Mend v k piece e = doubt_may_be_kept h piece e k
+left_step h edit not_kept.Record v k piece e = absurd (cc)
+left_step h edit not_kept.Gate v k piece e =
+    let same : record_of h edit ≡ piece = cc in
+    subst (MayBeKept h.limits h.events) same (accepted_may_be_kept h edit v)
+
 pub left_may_be_kept : (h : History) (edit : Edit) (left : Option Record) → verdict h edit ≡ Accepts → IsLegal h → MayLeaveInDoubt h edit left
     → (piece : Record) → left ≡ Some piece → MayBeKept h.limits h.events piece
-left_may_be_kept h edit left v k m piece e = elim m [
-  | inl before ↦ doubt_may_be_kept h piece (sym before ∙ e) k
-  | inr other ↦ elim other [
-    | inl none ↦ absurd (let apart : None ≡ Some piece = sym none ∙ e in cc)
-    | inr own ↦
-        let same : record_of h edit ≡ piece = cc in
-        subst (MayBeKept h.limits h.events) same (accepted_may_be_kept h edit v)
-  ]
-]
+left_may_be_kept h edit left v k m piece e = left_step h edit m.0 v k piece (sym m.1 ∙ e)

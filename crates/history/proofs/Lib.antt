@@ -1,6 +1,7 @@
 pub mod CountLemmas
 pub mod EventLemmas
 pub mod JobLemmas
+pub mod LastChangeLemmas
 pub mod LegalLemmas
 pub mod MergeLemmas
 pub mod NamedLemmas

@@ -1,9 +1,10 @@
 -- An accepted edit that comes again is told its number.
-use Rattle.std.specs.Prelude.{◌≡◌, ◌==◌, ℕ, zero, suc, ◌+◌, Bool, true, cond, bytes_eq, List, [], ◌∷◌, ◌++◌, length, map, slice_get, Option, Some, None}
+use Rattle.std.specs.Prelude.{◌≡◌, ◌==◌, ℕ, zero, suc, ◌+◌, Bool, true, false, cond, bytes_eq, List, [], ◌∷◌, ◌++◌, length, map, slice_get, Option, Some, None}
 use Rattle.std.specs.Cmp.Lexicographic.{bytes_decides}
 use Rattle.std.proofs.Common.{arith, refl, ap, sym, subst, ◌∙◌}
 use Rattle.std.proofs.lemmas.Bool.Decides.{Decides-eqb}
 use Rattle.std.proofs.lemmas.List.{append-nil, append_assoc, length-map, map-append}
+use Rattle.std.proofs.lemmas.Option.{same_Some}
 use Rattle.edits.specs.Same.{is_same, is_same_what}
 use Rattle.edits.specs.declared.content.Edit.{Edit}
 use Rattle.edits.specs.declared.content.What.{What}
@@ -11,11 +12,12 @@ use Rattle.edits.specs.declared.content.What.TheVariants.{AddStation, SetStation
 use Rattle.history.specs.Accepted.{Numbered, accepted, edit_of, edits_of, named}
 use Rattle.history.specs.Events.{Event, Accepted, Published, Faulted, History}
 use Rattle.history.specs.Legal.{IsLegal}
-use Rattle.history.specs.Verdicts.{Repeats, Refuses, refusal_of, verdict_by, verdict}
+use Rattle.history.specs.Verdicts.{Repeats, Refuses, refusal_of, verdict_of_refusal, verdict_by, verdict}
 use Rattle.history.proofs.EventLemmas.{accepted-append}
 use Rattle.history.proofs.NamedLemmas.{named_kept, named_new}
 use Rattle.history.proofs.PendingLemmas.{own_site}
 use Rattle.readings.proofs.EqualityLemmas.{told_same}
+use Rattle.office_inputs.specs.declared.refusals.Refusal.{Refusal}
 use Rattle.office_inputs.specs.declared.refusals.Refusal.TheVariants.{RefReused}
 use Rattle.records.specs.declared.payloads.Record.{Record}
 
@@ -81,7 +83,7 @@ was_accepted (Faulted left ∷ events) place edit s =
     }
 
 -- what is named stays so, however many edits come
-named_still : (reference : List ℕ) (edits more : List Edit) (n : Numbered) → named edits reference ≡ Some n → named (edits ++ more) reference ≡ Some n
+pub named_still : (reference : List ℕ) (edits more : List Edit) (n : Numbered) → named edits reference ≡ Some n → named (edits ++ more) reference ≡ Some n
 named_still reference edits [] n h = ap (λ (l : List Edit). named l reference) (append-nil edits) ∙ h
 named_still reference edits (edit ∷ more) n h =
     ap (λ (l : List Edit). named l reference) (sym (append_assoc edits (edit ∷ []) more))
@@ -112,3 +114,48 @@ is_repeated h place edit k s =
     ∙ ap (λ (b : Bool). cond b (Repeats (1 + length before)) (Refuses (RefReused (1 + length before)))) (same_as_itself piece.edit) in
     let count : 1 + length before ≡ place + 1 = omega (arith, length-map (accepted was.older) edit_of, was.place_is) in
     subst (λ (e : Edit). verdict h e ≡ Repeats (place + 1)) was.edit_is (told ∙ ap Repeats count)
+
+-- what it says that an edit comes again
+pub record IsNamed (edits : List Edit) (edit : Edit) (number : ℕ) : Type 0 where
+  pub other : Numbered
+  pub found : named edits edit.reference ≡ Some other
+  pub same : is_same other.edit edit ≡ true
+  pub number_is : other.number ≡ number
+
+again_step : (b : Bool) (other number : ℕ) → cond b (Repeats other) (Refuses (RefReused other)) ≡ Repeats number → (b ≡ true) × (other ≡ number)
+again_step true other number h = let same : other ≡ number = cc in (refl, same)
+again_step false other number h = absurd (cc)
+
+refused_step : (r : Option Refusal) (number : ℕ) → verdict_of_refusal r ≡ Repeats number → ⊥
+refused_step None number h = cc h
+refused_step (Some refusal) number h = cc h
+
+named_step : (edits : List Edit) (edit : Edit) (number : ℕ) (o : Option Numbered) (r : Option Refusal) → named edits edit.reference ≡ o
+    → verdict_by o edit r ≡ Repeats number → IsNamed edits edit number
+named_step edits edit number None r e h = absurd (refused_step r number h)
+named_step edits edit number (Some other) r e h =
+    let parts = again_step (is_same other.edit edit) other.number number h in
+    record { other = other; found = e; same = parts.0; number_is = parts.1 }
+
+pub repeats_named : (h : History) (edit : Edit) (number : ℕ) → verdict h edit ≡ Repeats number → IsNamed (edits_of h.events) edit number
+repeats_named h edit number v = named_step (edits_of h.events) edit number (named (edits_of h.events) edit.reference) (refusal_of h edit) refl v
+
+-- an edit that comes again goes on doing so, however many edits come
+pub repeats_still : (h after : History) (more : List Edit) (edit : Edit) (number : ℕ) → edits_of after.events ≡ edits_of h.events ++ more
+    → verdict h edit ≡ Repeats number → verdict after edit ≡ Repeats number
+repeats_still h after more edit number e v =
+    let is = repeats_named h edit number v in
+    let there : named (edits_of after.events) edit.reference ≡ Some is.other =
+    ap (λ (l : List Edit). named l edit.reference) e ∙ named_still edit.reference (edits_of h.events) more is.other is.found in
+    ap (λ (o : Option Numbered). verdict_by o edit (refusal_of after edit)) there
+    ∙ ap (λ (b : Bool). cond b (Repeats is.other.number) (Refuses (RefReused is.other.number))) is.same ∙ ap Repeats is.number_is
+
+-- two accepted edits of one reference are one
+pub same_place : (h : History) (first second : ℕ) (a b : Edit) → IsLegal h → slice_get (edits_of h.events) first ≡ Some a
+    → slice_get (edits_of h.events) second ≡ Some b → a.reference ≡ b.reference → first ≡ second
+same_place h first second a b k s t e =
+    let x = repeats_named h a (first + 1) (is_repeated h first a k s) in
+    let y = repeats_named h b (second + 1) (is_repeated h second b k t) in
+    let one : x.other ≡ y.other = same_Some x.other y.other (sym x.found ∙ ap (named (edits_of h.events)) e ∙ y.found) in
+    let numbers : first + 1 ≡ second + 1 = sym x.number_is ∙ ap (λ (n : Numbered). n.number) one ∙ y.number_is in
+    omega (arith, numbers)

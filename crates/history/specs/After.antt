@@ -1,9 +1,10 @@
 -- How a history goes on.
-use Rattle.std.specs.Prelude.{◌≡◌, ◌⊎◌, ℕ, zero, suc, Bool, List, [], ◌∷◌, ◌++◌, length, map, reverse, slice_get, Option, Some, None, is_some}
-use Rattle.history.specs.Accepted.{accepted}
+use Rattle.std.specs.Prelude.{◌≡◌, ℕ, zero, suc, Bool, true, false, List, [], ◌∷◌, ◌++◌, length, map, reverse, slice_get, Option, Some, None}
 use Rattle.history.specs.Awaited.{SiteDay, pending_days}
 use Rattle.history.specs.Events.{Event, Accepted, Published, Faulted, History}
 use Rattle.history.specs.Verdicts.{record_of, with_edit}
+use Rattle.history.specs.declared.recorded.NotKept.{NotKept}
+use Rattle.history.specs.declared.recorded.NotKept.TheVariants as not_kept
 use Rattle.edits.specs.declared.content.Edit.{Edit}
 use Rattle.office_inputs.specs.declared.limits.Limits.{Limits}
 use Rattle.records.specs.declared.payloads.Record.{Record}
@@ -63,7 +64,19 @@ doubt_back (Faulted doubt ∷ older) = doubt
 abbrev pub doubt : History → Option Record
 doubt h = doubt_back (reverse h.events)
 
--- what a fault that refuses this edit may leave the journal in doubt of: the record that it was in doubt of before, none, or that of the
--- edit
+-- whether the journal is in doubt of a record where one was not kept
+abbrev pub leaves_doubt : NotKept → Bool
+leaves_doubt not_kept.Mend = true
+leaves_doubt not_kept.Record = false
+leaves_doubt not_kept.Gate = true
+
+-- the record that it is in doubt of then: the one of before where that was not mended, none where the record could not be written, and
+-- the record itself where its gate could not be opened
+abbrev pub left_by : Option Record → Record → NotKept → Option Record
+left_by before piece not_kept.Mend = before
+left_by before piece not_kept.Record = None
+left_by before piece not_kept.Gate = Some piece
+
+-- what a fault that refuses this edit may leave the journal in doubt of
 abbrev pub MayLeaveInDoubt : History → Edit → Option Record → Type 0
-MayLeaveInDoubt h edit left = (left ≡ doubt h) ⊎ ((left ≡ None) ⊎ (left ≡ Some (record_of h edit)))
+MayLeaveInDoubt h edit left = (failed : NotKept) × (left ≡ left_by (doubt h) (record_of h edit) failed)

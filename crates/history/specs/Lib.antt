@@ -2,6 +2,7 @@ pub mod Accepted
 pub mod After
 pub mod Awaited
 pub mod Events
+pub mod LastChanges
 pub mod Legal
 pub mod Recording
 pub mod Statuses

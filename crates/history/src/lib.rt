@@ -5,4 +5,4 @@
 pub mod laws;
 pub mod recorded;
 
-pub use recorded::{Doubt, Recorded};
+pub use recorded::{Doubt, NotKept, Recorded};

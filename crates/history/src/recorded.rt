@@ -2,6 +2,7 @@
 
 ghost use Rattle.std.specs.Prelude.{◌≡◌, Some, None};
 ghost use Rattle.fixed_units.specs.Quantities.{SiteNumber};
+ghost use Rattle.history.specs.After.{leaves_doubt};
 ghost use Rattle.history.specs.Events.{Event, Accepted, Published, Faulted};
 
 use fixed_units::{Day, Site};
@@ -23,6 +24,29 @@ enum Kind {
     WasPublished(Site, Day),
     /// A fault of the journal refused an edit, which left this doubt.
     WasFaulted(Snapshot<Doubt>),
+}
+
+/// Why the record of an edit was not kept in a journal.
+#[derive(Clone, Copy, Debug, PartialEq, Eq)]
+pub enum NotKept {
+    /// The journal was in doubt of a record, and could not be mended: it still is.
+    Mend,
+    /// The record could not be written and synced: the journal is in doubt of none.
+    Record,
+    /// The gate before the record could not be opened and synced: the journal is in doubt of the record.
+    Gate,
+}
+
+impl NotKept {
+    /// Whether the journal is in doubt of a record.
+    pub fn in_doubt(self) -> bool
+        ensures { result ≡ leaves_doubt self }
+    {
+        match self {
+            NotKept::Mend | NotKept::Gate => true,
+            NotKept::Record => false,
+        }
+    }
 }
 
 /// Which record a journal is in doubt of, if of any. It takes no memory.

@@ -8,7 +8,7 @@ use Rattle.history.specs.After.{publication, after_publication, after_publicatio
 use Rattle.history.specs.Awaited.{SiteDay, pending_days}
 use Rattle.history.specs.Events.{Event, History}
 use Rattle.history.proofs.EventLemmas.{accepted-append}
-use Rattle.journal.specs.JournalBytes.{HasRecords}
+use Rattle.journal.specs.JournalBytes.{HasRecords, IsJournalOf, StandsFor}
 use Rattle.journal.specs.declared.keeping.Journal.{Journal}
 use Rattle.journal.proofs.Stages.{records_stand}
 use Rattle.office.specs.Standing.{Stands}
@@ -49,6 +49,14 @@ module _ {D : Type 0} {g : Ghosts D} (h : History) (left : Option Record) (journ
 
   pub left_images : IsSome (g.content journal.disk) → (image : List ℕ) → g.may_leave journal.disk image → IsLeft h image
   left_images told image left = records_stand (accepted h.events) (doubt h) image ((s.holds told).images image left)
+
+  -- exactly the accepted edits, where none is in doubt
+  pub exactly_now : doubt h ≡ None → IfSome (g.content journal.disk) (IsJournalOf (accepted h.events))
+  exactly_now d =
+      subst (λ (o : Option Record). IfSome (g.content journal.disk) (λ (bytes : List ℕ). StandsFor (accepted h.events) o bytes)) d left_now
+
+  pub exactly_images : doubt h ≡ None → IsSome (g.content journal.disk) → (image : List ℕ) → g.may_leave journal.disk image → IsJournalOf (accepted h.events) image
+  exactly_images d told image left = subst (λ (o : Option Record). StandsFor (accepted h.events) o image) d (left_images told image left)
 
   -- a publication writes nothing
   pub stands_published : (days : List SiteDay) → Stands (after_publications h days) left journal

@@ -1,38 +1,41 @@
 -- An edit's record is kept, or a fault refuses it: what the journal then is to the history.
-use Rattle.std.specs.Prelude.{◌≡◌, ◌⊎◌, ℕ, ◌+◌, ◌≤◌, Bool, true, false, List, [], ◌∷◌, ◌++◌, length, reverse, Option, Some, None, is_some, IsSome}
+use Rattle.std.specs.Prelude.{◌≡◌, ◌⊎◌, ℕ, ◌+◌, ◌≤◌, Bool, false, List, [], ◌∷◌, ◌++◌, length, reverse, Option, Some, None, is_some, IsSome}
 use Rattle.std.specs.Int.{w32, to_le_bytes}
 use Rattle.std.proofs.Common.{arith, refl, ap, sym, subst, inl, inr, ◌∙◌, length-append}
 use Rattle.std.proofs.lemmas.List.{append-nil, reverse-append}
 use Rattle.devices.specs.declared.disks.Disk.{Ghosts}
 use Rattle.edits.specs.declared.content.Edit.{Edit}
 use Rattle.history.specs.Accepted.{accepted, journal_size}
-use Rattle.history.specs.After.{MayLeaveInDoubt, after_edit, after_fault, doubt, doubt_back}
+use Rattle.history.specs.After.{MayLeaveInDoubt, after_edit, after_fault, doubt, doubt_back, leaves_doubt, left_by}
 use Rattle.history.specs.Events.{Event, Accepted, Faulted, History}
 use Rattle.history.specs.Verdicts.{Accepts, verdict, record_of}
+use Rattle.history.specs.declared.recorded.NotKept.{NotKept}
 use Rattle.history.proofs.EventLemmas.{accepted_accepted, accepted_faulted}
 use Rattle.history.proofs.VerdictLemmas.{accepted_parts}
 use Rattle.journal.specs.JournalBytes.{StandsFor}
-use Rattle.journal.specs.Keeping.{Holds, doubt_of}
+use Rattle.journal.specs.Keeping.{Holds}
 use Rattle.journal.specs.Moments.{LeavesOnly}
 use Rattle.journal.specs.Writing.{Lists}
 use Rattle.journal.specs.declared.keeping.Journal.{Journal}
 use Rattle.journal.proofs.Moments.{started, widened}
 use Rattle.journal.proofs.Stages.{records_stand}
-use Rattle.office.specs.Edits.{IsFaulted, IsTaken}
+use Rattle.office.specs.Edits.{FailedCalls, FaultCalls, IsFaulted, IsTaken}
 use Rattle.office.specs.Keeping.{IsLeftKeeping}
 use Rattle.office.specs.Standing.{Stands}
 use Rattle.office.specs.Stops.{IsLeft, IsLeftBetween, in_flight}
-use Rattle.office.specs.declared.keeping.NotKept.{NotKept}
 use Rattle.records.specs.Payloads.{payload, encoded, encoded_and_closed}
 use Rattle.records.specs.declared.payloads.Record.{Record}
 use Rattle.register.proofs.KeepsLemmas.{journal_more}
 
 -- which record the journal is in doubt of, as the history goes on
-doubt_accepted : (h : History) (edit : Edit) → doubt (after_edit h edit) ≡ None
+pub doubt_accepted : (h : History) (edit : Edit) → doubt (after_edit h edit) ≡ None
 unfolding doubt_back
 doubt_accepted h edit = ap doubt_back (reverse-append h.events (Accepted (record_of h edit) ∷ []))
 
-doubt_faulted : (h : History) (left : Option Record) → doubt (after_fault h left) ≡ left
+pub taken_settles : (old : History) (edit : Edit) (new : History) (number : ℕ) → IsTaken old edit new number false → doubt new ≡ None
+taken_settles old edit new number taken = ap doubt taken.2 ∙ doubt_accepted old edit
+
+pub doubt_faulted : (h : History) (left : Option Record) → doubt (after_fault h left) ≡ left
 unfolding doubt_back
 doubt_faulted h left = ap doubt_back (reverse-append h.events (Faulted left ∷ []))
 
@@ -65,6 +68,14 @@ lists_told : (content : Option (List ℕ)) (before after : List Bool) (faults : 
 lists_told None before after faults P lists = tt
 lists_told (Some bytes) before after faults P lists = lists refl
 
+lists_wider : (content : Option (List ℕ)) (before after : List Bool) (faults : ℕ) (P Q : List Bool → Type 0) → ((calls : List Bool) → P calls → Q calls)
+    → Lists content before after faults P → Lists content before after faults Q
+lists_wider None before after faults P Q k lists = tt
+lists_wider (Some bytes) before after faults P Q k lists = elim lists [
+  | inl some ↦ inl (some.0, some.1, k some.0 some.2)
+  | inr full ↦ inr full
+]
+
 -- what a stop leaves before an event has come, and where none comes
 left_before : (h after : History) (event : Event) (image : List ℕ) → after.events ≡ h.events ++ event ∷ []
     → IsLeftKeeping (accepted h.events) (doubt h) (in_flight event) image → IsLeftBetween h after image
@@ -94,10 +105,6 @@ is_taken h edit new number lawful is counted =
     let one : length (accepted (after_edit h edit).events) ≡ length (accepted h.events) + 1 =
     ap length (accepted_accepted h.events (record_of h edit)) ∙ length-append (accepted h.events) (record_of h edit ∷ []) in
     (lawful, counted ∙ ap (λ (n : History). length (accepted n.events)) is ∙ one, is)
-
-of_doubt : (in_doubt : Bool) (piece : Record) (left : Option Record) → left ≡ doubt_of in_doubt piece → (left ≡ None) ⊎ (left ≡ Some piece)
-of_doubt true piece left e = inr e
-of_doubt false piece left e = inl e
 
 module _ {D : Type 0} {g : Ghosts D} (h : History) (left : Option Record) (old : Journal D g) (stands : Stands h left old) where
   pub holds_left : IsSome (g.content old.disk) → Holds (accepted h.events) left old
@@ -146,21 +153,24 @@ module _ {D : Type 0} {g : Ghosts D} (h : History) (left : Option Record) (old :
         holds = λ told. rw (same, last) (keeps (accepted h.events) (holds_left (was_told (g.content old.disk) (g.content new.disk) untold told)));
       }
 
-  pub may_leave : (edit : Edit) (after : Option Record) (failed : NotKept)
-      → (is_some after ≡ failed.in_doubt) × ((after ≡ left) ⊎ (after ≡ doubt_of failed.in_doubt (record_of h edit)))
-      → MayLeaveInDoubt h edit after
-  may_leave edit after failed leaves = elim leaves.1 [
-    | inl e ↦ inl (e ∙ stands.left_is)
-    | inr e ↦ inr (of_doubt failed.in_doubt (record_of h edit) after e)
-  ]
+  left_is : (edit : Edit) (after : Option Record) (failed : NotKept) → after ≡ left_by left (record_of h edit) failed
+      → after ≡ left_by (doubt h) (record_of h edit) failed
+  left_is edit after failed e = e ∙ ap (λ (o : Option Record). left_by o (record_of h edit) failed) stands.left_is
 
-  pub is_faulted : (edit : Edit) (after : Option Record) (failed : NotKept) → verdict h edit ≡ Accepts
-      → (is_some after ≡ failed.in_doubt) × ((after ≡ left) ⊎ (after ≡ doubt_of failed.in_doubt (record_of h edit)))
-      → IsFaulted h edit (after_fault h after) failed.in_doubt
-  is_faulted edit after failed lawful leaves = record {
+  pub may_leave : (edit : Edit) (after : Option Record) (failed : NotKept)
+      → (is_some after ≡ leaves_doubt failed) × (after ≡ left_by left (record_of h edit) failed) → MayLeaveInDoubt h edit after
+  may_leave edit after failed leaves = (failed, left_is edit after failed leaves.1)
+
+  pub is_faulted : (edit : Edit) (after : Option Record) (failed : NotKept) (in_doubt : Bool) → verdict h edit ≡ Accepts → in_doubt ≡ leaves_doubt failed
+      → (is_some after ≡ leaves_doubt failed) × (after ≡ left_by left (record_of h edit) failed)
+      → IsFaulted h edit (after_fault h after) in_doubt
+  is_faulted edit after failed in_doubt lawful told leaves = record {
+    failed = failed;
     left = after;
     lawful = lawful;
-    doubt_is = record { told = leaves.0; which = may_leave edit after failed leaves };
+    told = told;
+    left_is = left_is edit after failed leaves.1;
+    left_told = leaves.0 ∙ sym told;
     faulted = refl;
   }
 
@@ -188,3 +198,14 @@ module _ {D : Type 0} {g : Ghosts D} (h : History) (left : Option Record) (old :
   calls_inside new P lists =
       subst (λ (o : Option Record). Lists (g.content old.disk) (g.calls old.disk) (g.calls new) (g.faults new) (P (is_some o))) stands.left_is
       (lists_told (g.content old.disk) (g.calls old.disk) (g.calls new) (g.faults new) (P (is_some left)) (λ told. lists (accepted h.events) (holds_left told)))
+
+  -- where a fault refuses an edit, they tell what failed
+  pub fault_calls_inside : (new : D) (edit : Edit) (after : Option Record) (failed : NotKept) (in_doubt : Bool) → verdict h edit ≡ Accepts
+      → in_doubt ≡ leaves_doubt failed → (is_some after ≡ leaves_doubt failed) × (after ≡ left_by left (record_of h edit) failed)
+      → ((pieces : List Record) → Holds pieces left old → Lists (g.content old.disk) (g.calls old.disk) (g.calls new) (g.faults new) (FailedCalls (is_some left) failed))
+      → Lists (g.content old.disk) (g.calls old.disk) (g.calls new) (g.faults new) (FaultCalls h edit (after_fault h after) in_doubt)
+  unfolding is_faulted
+  fault_calls_inside new edit after failed in_doubt lawful told leaves lists =
+      lists_wider (g.content old.disk) (g.calls old.disk) (g.calls new) (g.faults new) (FailedCalls (is_some (doubt h)) failed)
+      (FaultCalls h edit (after_fault h after) in_doubt) (λ calls are. (is_faulted edit after failed in_doubt lawful told leaves, are))
+      (calls_inside new (λ (doubtful : Bool) (calls : List Bool). FailedCalls doubtful failed calls) lists)

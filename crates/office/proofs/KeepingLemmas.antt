@@ -11,7 +11,7 @@ use Rattle.journal.specs.declared.keeping.AppendFault.{AppendFault}
 use Rattle.journal.specs.declared.keeping.AppendFault.TheVariants.{Full, Fault}
 use Rattle.journal.specs.declared.keeping.Journal.{Journal}
 use Rattle.journal.proofs.Moments.{joined}
-use Rattle.office.specs.Edits.{FaultCalls, mended}
+use Rattle.office.specs.Edits.{FailsToAppend, mended}
 use Rattle.office.specs.Keeping.{IsLeftKeeping, Settles, SettleCalls}
 use Rattle.records.specs.declared.payloads.Record.{Record}
 
@@ -34,8 +34,8 @@ failed_append T in_doubt (Fault true) calls not is h = subst (λ (b : Bool). App
 failed_append T in_doubt (Fault false) calls not is h = subst (λ (b : Bool). AppendCalls {T = ℕ} (Err (Fault b)) calls) is h
 
 pub fault_calls : (T : Type 0) (doubtful in_doubt : Bool) (fault : AppendFault) (calls : List Bool) → (fault ≡ Full → ⊥) → leaves_doubt {T = T} (Err fault) ≡ in_doubt
-    → AppendCalls {T = T} (Err fault) calls → FaultCalls doubtful in_doubt (mended doubtful ++ calls)
-fault_calls T doubtful in_doubt fault calls not is h = inr (calls, refl, failed_append T in_doubt fault calls not is h)
+    → AppendCalls {T = T} (Err fault) calls → FailsToAppend doubtful in_doubt (mended doubtful ++ calls)
+fault_calls T doubtful in_doubt fault calls not is h = (calls, refl, failed_append T in_doubt fault calls not is h)
 
 -- the record that an append may have left where it failed
 pub flown_failed : (T : Type 0) (piece : Record) (fault : AppendFault) (in_doubt : Bool) → leaves_doubt {T = T} (Err fault) ≡ in_doubt

@@ -2,10 +2,11 @@
 use Rattle.std.specs.Prelude.{◌≡◌, ℕ, ◌+◌, List, [], ◌∷◌, ◌++◌, map, flat_map, reverse, slice_get, Option, Some, None, IsSome}
 use Rattle.std.proofs.Common.{arith, refl, ap, sym, subst, inl, inr, ◌∙◌, append_assoc, length-append}
 use Rattle.std.proofs.lemmas.List.{append-nil, get_or_append_left, map-append}
+use Rattle.std.proofs.lemmas.List.Elements.{All-cons, All-nil}
 use Rattle.std.proofs.lemmas.Option.{get_or_from_slice_get, slice_get-get_or, slice_get_within}
 use Rattle.edits.specs.declared.content.Edit.{Edit}
 use Rattle.history.specs.Accepted.{Numbered, accepted, edit_of, edits_of}
-use Rattle.history.specs.After.{doubt, doubt_back, reopen}
+use Rattle.history.specs.After.{doubt, doubt_back, go_on, reopen}
 use Rattle.history.specs.Events.{Event, Accepted, Published, Faulted, History}
 use Rattle.history.specs.Legal.{IsLegal, MayBeKept}
 use Rattle.history.specs.Verdicts.{Repeats, or_else, refused_by_stations, verdict}
@@ -16,34 +17,49 @@ use Rattle.journal.specs.JournalBytes.{HasHeader, IsJournalOf, StandsFor, block,
 use Rattle.journal.proofs.Stages.{front-push}
 use Rattle.journal.proofs.Walks.{goes_past, not_damaged, one_list}
 use Rattle.office.specs.Openings.{IsDamagedFor, IsRefusedAt, MayOpen}
-use Rattle.office.specs.Stops.{IsLeft, IsLeftBefore, IsLeftBetween, in_flight}
+use Rattle.office.specs.Stops.{IsLeft, IsLeftBefore, IsLeftBetween, MayFollow, in_flight}
 use Rattle.office_inputs.specs.declared.limits.Limits.{Limits}
 use Rattle.office_inputs.specs.declared.refusals.Refusal.{Refusal}
 use Rattle.records.specs.declared.payloads.Record.{Record}
 use Rattle.register.specs.Asked.{readmission_refusal, reused}
 
-module _ (h : History) (events behind : List Event) (image : List ℕ) (legal : IsLegal h) (are : h.events ≡ events ++ behind) where
-  opens_without : IsJournalOf (accepted events) image → MayOpen h.limits (accepted events) image
+module _ (h : History) (events behind : List Event) (image : List ℕ) (legal : IsLegal h) (are : h.events ≡ events ++ behind)
+    (opened : ℕ) (limits : Limits) (kept : h.limits ≡ limits) (to_come : List Event) where
+  abbrev point : History
+  point = record { opened = opened; limits = limits; events = events }
+
+  opens_without : IsJournalOf (accepted events) image → MayOpen point to_come image
   opens_without found =
       let same : accepted events ≡ accepted events ++ [] = sym (append-nil (accepted events)) in
       record {
         more = [];
         few = omega arith;
+        which = All-nil (MayFollow point to_come);
         found = subst (λ (ps : List Record). IsJournalOf ps image) same found;
-        legal = subst (λ (ps : List Record). IsLegal (reopen h.limits ps)) same (legal_front h events behind legal are);
+        legal =
+            subst (λ (l : Limits). IsLegal (reopen l (accepted events ++ []))) kept
+            (subst (λ (ps : List Record). IsLegal (reopen h.limits ps)) same (legal_front h events behind legal are));
       }
 
-  opens_with : (left : Option Record) → ((piece : Record) → left ≡ Some piece → MayBeKept h.limits events piece) → StandsFor (accepted events) left image
-      → MayOpen h.limits (accepted events) image
-  opens_with None may stands = opens_without stands
-  opens_with (Some last) may stands = elim stands [
+  opens_with : (left : Option Record) → ((piece : Record) → left ≡ Some piece → MayBeKept h.limits events piece)
+      → ((piece : Record) → left ≡ Some piece → MayFollow point to_come piece) → StandsFor (accepted events) left image → MayOpen point to_come image
+  opens_with None may follows stands = opens_without stands
+  opens_with (Some last) may follows stands = elim stands [
     | inl found ↦ opens_without found
-    | inr found ↦ record { more = last ∷ []; few = omega arith; found = found; legal = legal_with h events behind last legal are (may last refl) }
+    | inr found ↦ record {
+      more = last ∷ [];
+      few = omega arith;
+      which = All-cons (MayFollow point to_come) last [] (follows last refl) (All-nil (MayFollow point to_come));
+      found = found;
+      legal =
+          subst (λ (l : Limits). IsLegal (reopen l (accepted events ++ last ∷ []))) kept (legal_with h events behind last legal are (may last refl));
+    }
   ]
 
 -- between two calls
-pub may_open : (h : History) (image : List ℕ) → IsLegal h → IsLeft h image → MayOpen h.limits (accepted h.events) image
-may_open h image k left = opens_with h h.events [] image k (sym (append-nil h.events)) (doubt h) (λ piece d. doubt_may_be_kept h piece d k) left
+pub may_open : (h : History) (image : List ℕ) → IsLegal h → IsLeft h image → MayOpen h [] image
+may_open h image k left =
+    opens_with h h.events [] image k (sym (append-nil h.events)) h.opened h.limits refl [] (doubt h) (λ piece d. doubt_may_be_kept h piece d k) (λ piece d. d) left
 
 -- the record that is in flight before an event of a legal history may be kept
 flight_may_be_kept : (h : History) (events behind : List Event) (event : Event) → IsLegal h → h.events ≡ events ++ event ∷ behind
@@ -56,24 +72,29 @@ flight_may_be_kept h events behind (Faulted left) k e piece i =
     k.doubts events behind piece (e ∙ ap (λ (o : Option Record). events ++ Faulted o ∷ behind) i)
 
 opens_before : (h : History) (events behind : List Event) (image : List ℕ) → IsLegal h → h.events ≡ events ++ behind
-    → (start : History) → IsLeftBefore (record { opened = start.opened; limits = start.limits; events = events }) behind image
-    → MayOpen h.limits (accepted events) image
-opens_before h events [] image k e start left = opens_with h events [] image k e (doubt_back (reverse events)) (front_may_be_kept h events [] k e) left
-opens_before h events (event ∷ behind) image k e start left = elim left [
-  | inl here ↦ opens_with h events (event ∷ behind) image k e (doubt_back (reverse events)) (front_may_be_kept h events (event ∷ behind) k e) here
-  | inr flight ↦ opens_with h events (event ∷ behind) image k e (in_flight event) (flight_may_be_kept h events behind event k e) flight
+    → (opened : ℕ) (limits : Limits) → h.limits ≡ limits → IsLeftBefore (record { opened = opened; limits = limits; events = events }) behind image
+    → MayOpen (record { opened = opened; limits = limits; events = events }) behind image
+opens_before h events [] image k e opened limits kept left =
+    opens_with h events [] image k e opened limits kept [] (doubt_back (reverse events)) (front_may_be_kept h events [] k e) (λ piece d. d) left
+opens_before h events (event ∷ behind) image k e opened limits kept left = elim left [
+  | inl here ↦
+      opens_with h events (event ∷ behind) image k e opened limits kept (event ∷ behind) (doubt_back (reverse events))
+      (front_may_be_kept h events (event ∷ behind) k e) (λ piece d. inl d) here
+  | inr flight ↦
+      opens_with h events (event ∷ behind) image k e opened limits kept (event ∷ behind) (in_flight event) (flight_may_be_kept h events behind event k e)
+      (λ piece i. inr i) flight
 ]
 
 -- at any moment of a call
 pub may_open_between : (h after : History) (image : List ℕ) → IsLegal after → after.limits ≡ h.limits → (left : IsLeftBetween h after image)
-    → MayOpen h.limits (accepted (h.events ++ left.since)) image
+    → MayOpen (go_on h left.since) left.behind image
 may_open_between h after image k same left =
-    subst (λ (l : Limits). MayOpen l (accepted (h.events ++ left.since)) image) same
-    (opens_before after (h.events ++ left.since) left.behind image k left.after_is h left.left)
+    opens_before after (h.events ++ left.since) left.behind image k left.after_is h.opened h.limits same left.left
 
-pub has_header : (limits : Limits) (known : List Record) (image : List ℕ) → MayOpen limits known image → HasHeader image
-has_header limits known image o =
-    (flat_map block (known ++ o.more) ++ o.found.rest, o.found.bytes_are ∙ append_assoc header (flat_map block (known ++ o.more)) o.found.rest)
+pub has_header : (h : History) (behind : List Event) (image : List ℕ) → MayOpen h behind image → HasHeader image
+has_header h behind image o =
+    let all = accepted h.events ++ o.more in
+    (flat_map block all ++ o.found.rest, o.found.bytes_are ∙ append_assoc header (flat_map block all) o.found.rest)
 
 -- a record that may be kept is not refused among those that an office is opened with
 not_refused : (limits : Limits) (pieces : List Record) (piece : Record) → MayBeKept limits (map Accepted pieces) piece
@@ -93,10 +114,10 @@ refused_not limits all at image found legal r =
     let none = not_refused limits r.pieces r.piece (legal.accepted (map Accepted r.pieces) (map Accepted past.more) r.piece events) in
     none_and_some (readmission_refusal (reopen limits r.pieces) r.piece.edit) none r.refused
 
-pub undamaged : (limits : Limits) (known : List Record) (image : List ℕ) (at : ℕ) → MayOpen limits known image → IsDamagedFor limits at image → ⊥
-undamaged limits known image at o damaged = elim damaged [
-  | inl missing ↦ not_damaged (known ++ o.more) at image o.found missing
-  | inr refused ↦ refused_not limits (known ++ o.more) at image o.found o.legal refused
+pub undamaged : (h : History) (behind : List Event) (image : List ℕ) (at : ℕ) → MayOpen h behind image → IsDamagedFor h.limits at image → ⊥
+undamaged h behind image at o damaged = elim damaged [
+  | inl missing ↦ not_damaged (accepted h.events ++ o.more) at image o.found missing
+  | inr refused ↦ refused_not h.limits (accepted h.events ++ o.more) at image o.found o.legal refused
 ]
 
 -- the known edits stand where they stood
@@ -106,13 +127,14 @@ slice_further xs ys k x s =
     slice_get-get_or (xs ++ ys) k x (omega (arith, within, length-append xs ys))
     ∙ ap Some (get_or_append_left xs ys x k within ∙ get_or_from_slice_get xs k x x s)
 
-pub told_again : (limits : Limits) (known pieces : List Record) (image : List ℕ) (place : ℕ) (edit : Edit) → MayOpen limits known image
-    → IsJournalOf pieces image → slice_get (map edit_of known) place ≡ Some edit → verdict (reopen limits pieces) edit ≡ Repeats (place + 1)
-told_again limits known pieces image place edit o found s =
+pub told_again : (h : History) (behind : List Event) (pieces : List Record) (image : List ℕ) (place : ℕ) (edit : Edit) → MayOpen h behind image
+    → IsJournalOf pieces image → slice_get (edits_of h.events) place ≡ Some edit → verdict (reopen h.limits pieces) edit ≡ Repeats (place + 1)
+told_again h behind pieces image place edit o found s =
+    let known = accepted h.events in
     let all = known ++ o.more in
     let same : pieces ≡ all = one_list pieces all image found o.found in
     let there : slice_get (edits_of (map Accepted all)) place ≡ Some edit =
     ap (λ (ps : List Record). slice_get (map edit_of ps) place) (accepted_all all)
     ∙ ap (λ (l : List Edit). slice_get l place) (map-append edit_of known o.more)
     ∙ slice_further (map edit_of known) (map edit_of o.more) place edit s in
-    ap (λ (ps : List Record). verdict (reopen limits ps) edit) same ∙ is_repeated (reopen limits all) place edit o.legal there
+    ap (λ (ps : List Record). verdict (reopen h.limits ps) edit) same ∙ is_repeated (reopen h.limits all) place edit o.legal there

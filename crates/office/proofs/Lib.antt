@@ -1,6 +1,11 @@
+pub mod BoundLemmas
+pub mod CallLemmas
+pub mod CourseLemmas
 pub mod DoubtLemmas
 pub mod EditLemmas
 pub mod KeepingLemmas
 pub mod LeftLemmas
 pub mod RefusedLemmas
 pub mod ReplayLemmas
+pub mod StepLemmas
+pub mod StopLemmas

@@ -82,24 +82,24 @@ pub is_refused : (h : History) (edit : Edit) (refusal : Refusal) → verdict h e
 is_refused h edit refusal v = refused_by h edit refusal v (refused_no_fault h edit refusal v)
 
 -- and the disk is not asked
-no_calls : (doubtful : Bool) (refusal : Refusal) → is_fault refusal ≡ false → RefusalCalls doubtful refusal []
-no_calls doubtful (RefReused number) f = refl
-no_calls doubtful NoStation f = refl
-no_calls doubtful StationExists f = refl
-no_calls doubtful (Limit which) f = refl
-no_calls doubtful (HistoryFull full) f = refl
-no_calls doubtful JournalFull f = refl
-no_calls doubtful NoMemory f = refl
-no_calls doubtful (JournalFault in_doubt) f = absurd (cc)
+no_calls : (old : History) (edit : Edit) (new : History) (refusal : Refusal) → is_fault refusal ≡ false → RefusalCalls old edit new refusal []
+no_calls old edit new (RefReused number) f = refl
+no_calls old edit new NoStation f = refl
+no_calls old edit new StationExists f = refl
+no_calls old edit new (Limit which) f = refl
+no_calls old edit new (HistoryFull full) f = refl
+no_calls old edit new JournalFull f = refl
+no_calls old edit new NoMemory f = refl
+no_calls old edit new (JournalFault in_doubt) f = absurd (cc)
 
 lists_none : (content : Option (List ℕ)) (calls : List Bool) (faults : ℕ) (P : List Bool → Type 0) → P [] → Lists content calls calls faults P
 lists_none None calls faults P p = tt
 lists_none (Some bytes) calls faults P p = inl ([], sym (append-nil calls), p)
 
-pub lists_refused : (content : Option (List ℕ)) (calls : List Bool) (faults : ℕ) (doubtful : Bool) (h : History) (edit : Edit) (refusal : Refusal)
-    → verdict h edit ≡ Refuses refusal → Lists content calls calls faults (RefusalCalls doubtful refusal)
-lists_refused content calls faults doubtful h edit refusal v =
-    lists_none content calls faults (RefusalCalls doubtful refusal) (no_calls doubtful refusal (refused_no_fault h edit refusal v))
+pub lists_refused : (content : Option (List ℕ)) (calls : List Bool) (faults : ℕ) (h : History) (edit : Edit) (new : History) (refusal : Refusal)
+    → verdict h edit ≡ Refuses refusal → Lists content calls calls faults (RefusalCalls h edit new refusal)
+lists_refused content calls faults h edit new refusal v =
+    lists_none content calls faults (RefusalCalls h edit new refusal) (no_calls h edit new refusal (refused_no_fault h edit refusal v))
 
 pub not_a_fault : (h : History) (edit : Edit) (refusal : Refusal) (in_doubt : Bool) → verdict h edit ≡ Refuses refusal → refusal ≡ JournalFault in_doubt → ⊥
 not_a_fault h edit refusal in_doubt v e =

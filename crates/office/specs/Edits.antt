@@ -2,9 +2,11 @@
 use Rattle.std.specs.Prelude.{◌≡◌, ◌⊎◌, ℕ, ◌+◌, Bool, true, false, not, List, [], ◌∷◌, ◌++◌, length, Option, is_some, Result, Ok, Err}
 use Rattle.edits.specs.declared.content.Edit.{Edit}
 use Rattle.history.specs.Accepted.{accepted}
-use Rattle.history.specs.After.{MayLeaveInDoubt, after_edit, after_fault}
+use Rattle.history.specs.After.{after_edit, after_fault, doubt, leaves_doubt, left_by}
 use Rattle.history.specs.Events.{History}
-use Rattle.history.specs.Verdicts.{Repeats, Refuses, Accepts, verdict}
+use Rattle.history.specs.Verdicts.{Repeats, Refuses, Accepts, record_of, verdict}
+use Rattle.history.specs.declared.recorded.NotKept.{NotKept}
+use Rattle.history.specs.declared.recorded.NotKept.TheVariants as not_kept
 use Rattle.journal.specs.Keeping.{AppendCalls}
 use Rattle.journal.specs.declared.keeping.AppendFault.TheVariants as append
 use Rattle.office.specs.declared.offices.Accepted.{Accepted}
@@ -23,17 +25,15 @@ IsTaken old edit new number false =
 abbrev pub IsRefused : History → Edit → History → Refusal → Type 0
 IsRefused old edit new refusal = (verdict old edit ≡ Refuses refusal) × (new ≡ old)
 
--- What a fault leaves the journal in doubt of: what it was in doubt of before, where that could not be mended; or else the record of
--- this edit, where it may stand there. Whether it is in doubt of a record at all is told.
-pub record IsLeftInDoubt (old : History) (edit : Edit) (in_doubt : Bool) (left : Option Record) : Type 0 where
-  pub told : is_some left ≡ in_doubt
-  pub which : MayLeaveInDoubt old edit left
-
--- a fault of the journal refused an edit that nothing else refused
+-- A fault of the journal refused an edit that nothing else refused. Which record the journal is in doubt of then hangs on what failed,
+-- and it is told whether it is in doubt of one.
 pub record IsFaulted (old : History) (edit : Edit) (new : History) (in_doubt : Bool) : Type 0 where
+  pub failed : NotKept
   pub left : Option Record
   pub lawful : verdict old edit ≡ Accepts
-  pub doubt_is : IsLeftInDoubt old edit in_doubt left
+  pub told : in_doubt ≡ leaves_doubt failed
+  pub left_is : left ≡ left_by (doubt old) (record_of old edit) failed
+  pub left_told : is_some left ≡ in_doubt
   pub faulted : new ≡ after_fault old left
 
 -- what happens by the refusal that is told
@@ -90,26 +90,32 @@ abbrev pub FailsToAppend : Bool → Bool → List Bool → Type 0
 FailsToAppend doubtful in_doubt calls =
     (more : List Bool) × (calls ≡ mended doubtful ++ more) × AppendCalls {T = ℕ} (Err (append.Fault in_doubt)) more
 
--- a mend that failed, which leaves the doubt, or an append that failed behind one
-abbrev pub FaultCalls : Bool → Bool → List Bool → Type 0
-FaultCalls doubtful in_doubt calls =
-    ((doubtful ≡ true) × (in_doubt ≡ true) × FailsToMend calls) ⊎ FailsToAppend doubtful in_doubt calls
+-- the calls up to the one that failed, of a journal that was in doubt or was not
+abbrev pub FailedCalls : Bool → NotKept → List Bool → Type 0
+FailedCalls doubtful not_kept.Mend calls = (doubtful ≡ true) × FailsToMend calls
+FailedCalls doubtful not_kept.Record calls = FailsToAppend doubtful false calls
+FailedCalls doubtful not_kept.Gate calls = FailsToAppend doubtful true calls
 
--- the calls of the disk in an edit of an office whose journal was in doubt or was not
-abbrev pub RefusalCalls : Bool → Refusal → List Bool → Type 0
-RefusalCalls doubtful (RefReused number) calls = calls ≡ []
-RefusalCalls doubtful NoStation calls = calls ≡ []
-RefusalCalls doubtful StationExists calls = calls ≡ []
-RefusalCalls doubtful (Limit which) calls = calls ≡ []
-RefusalCalls doubtful (HistoryFull full) calls = calls ≡ []
-RefusalCalls doubtful JournalFull calls = calls ≡ []
-RefusalCalls doubtful NoMemory calls = calls ≡ []
-RefusalCalls doubtful (JournalFault in_doubt) calls = FaultCalls doubtful in_doubt calls
+-- the calls of the disk where a fault refuses an edit tell what failed
+abbrev pub FaultCalls : History → Edit → History → Bool → List Bool → Type 0
+FaultCalls old edit new in_doubt calls =
+    (fault : IsFaulted old edit new in_doubt) × FailedCalls (is_some (doubt old)) fault.failed calls
+
+-- the calls of the disk in an edit
+abbrev pub RefusalCalls : History → Edit → History → Refusal → List Bool → Type 0
+RefusalCalls old edit new (RefReused number) calls = calls ≡ []
+RefusalCalls old edit new NoStation calls = calls ≡ []
+RefusalCalls old edit new StationExists calls = calls ≡ []
+RefusalCalls old edit new (Limit which) calls = calls ≡ []
+RefusalCalls old edit new (HistoryFull full) calls = calls ≡ []
+RefusalCalls old edit new JournalFull calls = calls ≡ []
+RefusalCalls old edit new NoMemory calls = calls ≡ []
+RefusalCalls old edit new (JournalFault in_doubt) calls = FaultCalls old edit new in_doubt calls
 
 abbrev pub TakenCalls : Bool → Bool → List Bool → Type 0
 TakenCalls doubtful true calls = calls ≡ []
 TakenCalls doubtful false calls = calls ≡ mended doubtful ++ (false ∷ false ∷ false ∷ false ∷ [])
 
-abbrev pub EditCalls : Bool → Result Accepted Refusal → List Bool → Type 0
-EditCalls doubtful (Ok told) calls = TakenCalls doubtful told.repeated calls
-EditCalls doubtful (Err refusal) calls = RefusalCalls doubtful refusal calls
+abbrev pub EditCalls : History → Edit → History → Result Accepted Refusal → List Bool → Type 0
+EditCalls old edit new (Ok told) calls = TakenCalls (is_some (doubt old)) told.repeated calls
+EditCalls old edit new (Err refusal) calls = RefusalCalls old edit new refusal calls

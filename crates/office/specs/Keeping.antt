@@ -2,11 +2,12 @@
 use Rattle.std.specs.Prelude.{◌≡◌, ◌⊎◌, ℕ, ◌+◌, Bool, true, false, List, [], ◌∷◌, ◌++◌, Option, Some, None, is_some, Result, Ok, Err}
 use Rattle.devices.specs.declared.disks.DiskFailed.{DiskFailed}
 use Rattle.devices.specs.declared.disks.Disk.{Ghosts}
+use Rattle.history.specs.After.{leaves_doubt, left_by}
+use Rattle.history.specs.declared.recorded.NotKept.{NotKept}
 use Rattle.journal.specs.JournalBytes.{StandsFor}
-use Rattle.journal.specs.Keeping.{Holds, doubt_of}
+use Rattle.journal.specs.Keeping.{Holds}
 use Rattle.journal.specs.declared.keeping.Journal.{Journal}
-use Rattle.office.specs.Edits.{FailsToMend, FaultCalls, TakenCalls, mended}
-use Rattle.office.specs.declared.keeping.NotKept.{NotKept}
+use Rattle.office.specs.Edits.{FailedCalls, FailsToMend, TakenCalls, mended}
 use Rattle.records.specs.declared.payloads.Record.{Record}
 
 -- the journal holds one record more and is in no doubt; or after a fault the same records
@@ -18,7 +19,7 @@ Keeps pieces piece left journal (Err failed) = Holds pieces left journal
 abbrev pub Leaves : {T : Type 0} → Option Record → Record → Option Record → Result T NotKept → Type 0
 Leaves before piece left (Ok done) = left ≡ None
 Leaves before piece left (Err failed) =
-    (is_some left ≡ failed.in_doubt) × ((left ≡ before) ⊎ (left ≡ doubt_of failed.in_doubt piece))
+    (is_some left ≡ leaves_doubt failed) × (left ≡ left_by before piece failed)
 
 -- where its last gate is
 abbrev pub gate_of : {T : Type 0} → ℕ → ℕ → Result T NotKept → ℕ
@@ -37,7 +38,7 @@ IsLeftKeeping pieces before flown image = StandsFor pieces before image ⊎ Stan
 -- the calls of the disk
 abbrev pub KeepCalls : {T : Type 0} → Bool → Result T NotKept → List Bool → Type 0
 KeepCalls doubtful (Ok done) calls = TakenCalls doubtful false calls
-KeepCalls doubtful (Err failed) calls = FaultCalls doubtful failed.in_doubt calls
+KeepCalls doubtful (Err failed) calls = FailedCalls doubtful failed calls
 
 -- what a journal holds once it is in no doubt, and after a fault of that
 abbrev pub Settles : {D T : Type 0} {g : Ghosts D} → List Record → Option Record → Journal D g → Result T DiskFailed → Type 0

@@ -4,4 +4,5 @@ pub mod Offices
 pub mod Openings
 pub mod Replaying
 pub mod Standing
+pub mod Steps
 pub mod Stops

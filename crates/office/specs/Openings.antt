@@ -1,11 +1,14 @@
 -- What the opening of an office answers.
 use Rattle.std.specs.Prelude.{◌≡◌, ◌⊎◌, ℕ, ◌≤◌, List, [], ◌∷◌, ◌++◌, length, All, Option, IsSome, IfSome, ⊤}
 use Rattle.devices.specs.Faults.{Rose}
+use Rattle.history.specs.Accepted.{accepted}
 use Rattle.history.specs.After.{reopen}
+use Rattle.history.specs.Events.{Event, History}
 use Rattle.history.specs.Legal.{IsLegal}
 use Rattle.journal.specs.JournalBytes.{HasHeader, IsDamagedAt, IsJournalOf, InGrammar, front, block}
 use Rattle.journal.specs.declared.opening.OpenFault.{OpenFault}
 use Rattle.journal.specs.declared.opening.OpenFault.TheVariants.{Fault, NotAJournal, Damaged, NoMemory}
+use Rattle.office.specs.Stops.{MayFollow}
 use Rattle.office_inputs.specs.declared.limits.Limits.{Limits}
 use Rattle.records.specs.declared.payloads.Record.{Record}
 use Rattle.register.specs.Asked.{readmission_refusal}
@@ -35,13 +38,14 @@ pub record IsRefusedAt (limits : Limits) (at : ℕ) (bytes : List ℕ) : Type 0 
 abbrev pub IsDamagedFor : Limits → ℕ → List ℕ → Type 0
 IsDamagedFor limits at bytes = IsDamagedAt at bytes ⊎ IsRefusedAt limits at bytes
 
--- An office may open on these bytes: they are the journal of the records that were known, or of these and one more, and each of them is
--- accepted again.
-pub record MayOpen (limits : Limits) (known : List Record) (bytes : List ℕ) : Type 0 where
+-- An office with this history may open on these bytes, when these events are still to come: they are the journal of the accepted edits,
+-- or of these and one record more that may follow them, and each of them is accepted again.
+pub record MayOpen (h : History) (behind : List Event) (bytes : List ℕ) : Type 0 where
   pub more : List Record
   pub few : length more ≤ 1
-  pub found : IsJournalOf (known ++ more) bytes
-  pub legal : IsLegal (reopen limits (known ++ more))
+  pub which : All (MayFollow h behind) more
+  pub found : IsJournalOf (accepted h.events ++ more) bytes
+  pub legal : IsLegal (reopen h.limits (accepted h.events ++ more))
 
 -- why an office is not opened, over a disk with this content and counts of faults
 abbrev pub IsNotOpened : Option (List ℕ) → Limits → OpenFault → ℕ → ℕ → Type 0

@@ -16,6 +16,12 @@ in_flight (Accepted piece) = Some piece
 in_flight (Published site day) = None
 in_flight (Faulted left) = left
 
+-- the record that may stand in the journal behind those of the accepted edits, when these events are still to come: the one in doubt, or
+-- the one that is in flight
+abbrev pub MayFollow : History → List Event → Record → Type 0
+MayFollow h [] piece = doubt h ≡ Some piece
+MayFollow h (event ∷ behind) piece = (doubt h ≡ Some piece) ⊎ (in_flight event ≡ Some piece)
+
 -- what a stop leaves when these events are still to come: the same, or the journal of the accepted edits and the one that is in flight
 abbrev pub IsLeftBefore : History → List Event → List ℕ → Type 0
 IsLeftBefore h [] image = IsLeft h image

@@ -3,7 +3,6 @@
 ghost use Rattle.std.specs.Prelude.{◌≡◌, ◌≤◌, ◌+◌, Bool, true, false, length, is_some, IsSome, IfOk, IfErr, OnErr, Err};
 ghost use Rattle.devices.specs.Faults.{Rose};
 ghost use Rattle.history.specs.Accepted.{stations_at};
-ghost use Rattle.history.specs.After.{doubt};
 ghost use Rattle.history.specs.Verdicts.{Accepts, verdict};
 ghost use Rattle.journal.specs.Keeping.{IsNext};
 ghost use Rattle.journal.specs.Moments.{LeavesOnly};
@@ -11,6 +10,7 @@ ghost use Rattle.journal.specs.Writing.{Lists};
 ghost use Rattle.office.specs.Edits.{Edits, EditCalls, EditsClaims, IsFaulted, IsTaken, asks_disk};
 ghost use Rattle.office.specs.Stops.{IsLeftBetween};
 ghost use Rattle.office_inputs.specs.Changes.{changed_days};
+ghost use Rattle.office_inputs.specs.Places.{IsPlaceOf};
 ghost use Rattle.office_inputs.specs.Touched.{interval};
 ghost use Rattle.register.specs.Asked.{needs_days};
 ghost use Rattle.register.specs.Registered.{IsReady, KeepsClaims, MarksClaims};
@@ -20,7 +20,7 @@ use crate::offices::{Accepted, Office};
 use devices::Disk;
 use edits::Edit;
 use fixed_units::{Day, NoMemory};
-use office_inputs::Refusal;
+use office_inputs::{Place, Refusal};
 use records::laws::keeps_grammar;
 use records::{Record, encode_and_close};
 use register::Judged;
@@ -42,14 +42,14 @@ impl<D: Disk> Office<D> {
         ensures claims { EditsClaims self.old.register edit self.new.register result }
         ensures disk { asks_disk result ≡ false → self.new.disk ≡ self.old.disk }
         ensures any_moment { IsSome (D.content self.old.disk) → LeavesOnly D.Disk self.old.disk self.new.disk (IsLeftBetween self.old.register.history self.new.register.history) }
-        ensures calls { Lists (D.content self.old.disk) (D.calls self.old.disk) (D.calls self.new.disk) (D.faults self.new.disk) (EditCalls (is_some (doubt self.old.register.history)) result) }
+        ensures calls { Lists (D.content self.old.disk) (D.calls self.old.disk) (D.calls self.new.disk) (D.faults self.new.disk) (EditCalls self.old.register.history edit self.new.register.history result) }
         ensures counted { D.faults self.old.disk ≤ D.faults self.new.disk }
         ensures cause { (in_doubt : Bool) → result ≡ Err (Refusal.JournalFault in_doubt) → Rose (D.faults self.old.disk) (D.faults self.new.disk) }
         ensures told { is_some (D.content self.new.disk) ≡ is_some (D.content self.old.disk) }
         ensures steps { steps.new ≤ steps.old + length (interval (stations_at self.old.register.history.events) edit) + 9 }
         ensures no_step { needs_days self.old.register.history edit ≡ false → steps.new ≡ steps.old }
     {
-        let days = match self.register.judge(&edit, steps) {
+        let (days, place) = match self.register.judge(&edit, steps) {
             Ok(Judged::Repeated(number)) => {
                 return Ok(Accepted {
                     number,
@@ -57,7 +57,7 @@ impl<D: Disk> Office<D> {
                 });
             }
             Ok(Judged::Refused(refusal)) => return Err(refusal),
-            Ok(Judged::Accepted(days)) => days,
+            Ok(Judged::Accepted(days, place)) => (days, place),
             Err(NoMemory) => return Err(Refusal::NoMemory),
         };
         let piece = Record { edit };
@@ -66,10 +66,14 @@ impl<D: Disk> Office<D> {
         let Ok(bytes) = encode_and_close(self.alloc, &piece) else {
             return Err(Refusal::NoMemory);
         };
-        if self.register.prepare(&piece.edit, days.as_slice()).is_err() {
+        if self
+            .register
+            .prepare(&piece.edit, place, days.as_slice())
+            .is_err()
+        {
             return Err(Refusal::NoMemory);
         }
-        self.keep_and_accept(piece, bytes.as_slice(), days.as_slice())
+        self.keep_and_accept(piece, bytes.as_slice(), place, days.as_slice())
     }
 
     /// Keeps the record of an edit that nothing refuses in the journal, and accepts it. There is room for it, so no memory is taken.
@@ -77,9 +81,11 @@ impl<D: Disk> Office<D> {
         &mut self,
         piece: Record,
         bytes: &[u8],
+        place: Place,
         days: &[Day],
     ) -> Result<Accepted, Refusal>
         requires verdict { verdict self.old.register.history piece.edit ≡ Accepts }
+        requires place { IsPlaceOf (stations_at self.old.register.history.events) piece.edit.site place }
         requires days { days.now ≡ changed_days (stations_at self.old.register.history.events) piece.edit }
         requires room { IsReady self.old.register piece.edit }
         requires next { IsNext piece bytes.now }
@@ -88,16 +94,16 @@ impl<D: Disk> Office<D> {
         ensures fault { IfErr result (λ refusal. (in_doubt : Bool) × (refusal ≡ Refusal.JournalFault in_doubt) × IsFaulted self.old.register.history piece.edit self.new.register.history in_doubt) }
         ensures fault_claims { OnErr result (KeepsClaims self.old.register self.new.register) }
         ensures any_moment { IsSome (D.content self.old.disk) → LeavesOnly D.Disk self.old.disk self.new.disk (IsLeftBetween self.old.register.history self.new.register.history) }
-        ensures calls { Lists (D.content self.old.disk) (D.calls self.old.disk) (D.calls self.new.disk) (D.faults self.new.disk) (EditCalls (is_some (doubt self.old.register.history)) result) }
+        ensures calls { Lists (D.content self.old.disk) (D.calls self.old.disk) (D.calls self.new.disk) (D.faults self.new.disk) (EditCalls self.old.register.history piece.edit self.new.register.history result) }
         ensures counted { D.faults self.old.disk ≤ D.faults self.new.disk }
         ensures cause { OnErr result (Rose (D.faults self.old.disk) (D.faults self.new.disk)) }
         ensures told { is_some (D.content self.new.disk) ≡ is_some (D.content self.old.disk) }
     {
         if let Err(failed) = keep(&mut self.journal, &mut self.doubt, &piece, bytes) {
             self.register.fault(&piece.edit, &self.doubt);
-            return Err(Refusal::JournalFault(failed.in_doubt));
+            return Err(Refusal::JournalFault(failed.in_doubt()));
         }
-        self.register.accept(piece, days);
+        self.register.accept(piece, place, days);
         Ok(Accepted {
             number: self.register.edits(),
             repeated: false,

@@ -10,16 +10,9 @@ ghost use Rattle.office.specs.Keeping.{Keeps, Leaves, IsLeftKeeping, KeepCalls, 
 ghost use Rattle.records.specs.declared.payloads.Record.{Record};
 
 use devices::{Disk, DiskFailed};
-use history::Doubt;
+use history::{Doubt, NotKept};
 use journal::{AppendFault, Journal};
 use records::Record;
-
-/// The disk failed.
-#[derive(Clone, Copy, Debug)]
-pub(crate) struct NotKept {
-    /// Whether the journal is in doubt of a record.
-    pub(crate) in_doubt: bool,
-}
 
 /// Appends a record to a journal; where that is in doubt of one, it is mended first. It takes no memory.
 pub(crate) fn keep<D: Disk>(
@@ -45,16 +38,16 @@ pub(crate) fn keep<D: Disk>(
     ensures cause { OnErr result (Rose (D.faults journal.old.disk) (D.faults journal.new.disk)) }
 {
     if settle(journal).is_err() {
-        return Err(NotKept { in_doubt: true });
+        return Err(NotKept::Mend);
     }
     *doubt = Doubt::none();
     match journal.append(bytes) {
         Ok(()) => Ok(()),
         Err(AppendFault::Fault(true)) => {
             *doubt = Doubt::of(piece);
-            Err(NotKept { in_doubt: true })
+            Err(NotKept::Gate)
         }
-        Err(_) => Err(NotKept { in_doubt: false }),
+        Err(_) => Err(NotKept::Record),
     }
 }
 

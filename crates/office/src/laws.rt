@@ -1,20 +1,37 @@
 //! What holds of every office.
 
-ghost use Rattle.std.specs.Prelude.{◌≡◌, ◌≤◌, ◌+◌, ◌++◌, ℕ, List, map, slice_get, Some, IsSome, IfSome};
+ghost use Rattle.std.specs.Prelude.{◌≡◌, ◌≢◌, ◌↔◌, ◌⊎◌, ◌<◌, ◌≤◌, ◌+◌, ◌++◌, ◌∷◌, [], ℕ, ℤ, false, List, length, map, slice_get, All, Option, Some, None, is_some, option_map, IsSome, IfSome, Result, Ok, IfOk, OnErr};
+ghost use Rattle.daily_values.specs.DayValue.{day_value};
+ghost use Rattle.daily_values.specs.declared.day_values.DayValue.{DayValue};
 ghost use Rattle.edits.specs.declared.content.Edit.{Edit};
-ghost use Rattle.history.specs.Accepted.{accepted, edit_of};
-ghost use Rattle.history.specs.After.{reopen};
-ghost use Rattle.history.specs.Events.{History};
+ghost use Rattle.fixed_units.specs.Quantities.{IsDay, SiteNumber};
+ghost use Rattle.fixed_units.specs.declared.texts.NoMemory.{NoMemory};
+ghost use Rattle.history.specs.Accepted.{accepted, edit_of, edits_of};
+ghost use Rattle.history.specs.After.{after_publication, after_publications, doubt, go_on, reopen};
+ghost use Rattle.history.specs.Awaited.{Computed, DayAnswer, NoStation, Pending, answer_at, awaited, pending_days};
+ghost use Rattle.history.specs.Events.{Event, History};
+ghost use Rattle.history.specs.LastChanges.{ChangedLast};
 ghost use Rattle.history.specs.Legal.{IsLegal};
 ghost use Rattle.history.specs.Verdicts.{Repeats, verdict};
 ghost use Rattle.journal.specs.JournalBytes.{HasHeader, IsJournalOf};
-ghost use Rattle.office.specs.Openings.{IsDamagedFor, MayOpen};
+ghost use Rattle.office.specs.Edits.{Edits, EditsClaims, IsTaken};
+ghost use Rattle.office.specs.Openings.{IsDamagedFor, IsOpened, MayOpen};
+ghost use Rattle.office.specs.Steps.{AClaim, ALook, APublication, ASettlement, AStop, ATurn, AnAnswer, AnEdit, Gives, GoesOver, IsCall, IsStep, Step, added};
 ghost use Rattle.office.specs.Stops.{IsLeft, IsLeftBetween};
-ghost use Rattle.office_inputs.specs.declared.limits.Limits.{Limits};
+ghost use Rattle.office.specs.declared.offices.Accepted.{Accepted};
+ghost use Rattle.office_inputs.specs.Stations.{inputs_of_day, station_of, stations_of};
+ghost use Rattle.office_inputs.specs.declared.refusals.Refusal.{Refusal};
+ghost use Rattle.recompute.specs.Jobs.{DayJob};
+ghost use Rattle.recompute.specs.declared.jobs.Publish.{Publish};
+ghost use Rattle.recompute.specs.declared.jobs.Publish.TheVariants.{Foreign, Published};
 ghost use Rattle.records.specs.declared.payloads.Record.{Record};
+ghost use Rattle.register.specs.Asked.{as_pair, day_of, job_at, next_after, outcome_at};
+ghost use Rattle.register.specs.Keeping.{KeepsToTheLimit};
+ghost use Rattle.register.specs.Registered.{EndsClaim, IsSettledTo, KeepsClaims, Registered, TakesClaim, first_unclaimed};
 
 use crate::offices::Office;
 use devices::Disk;
+use recompute::Done;
 
 /// What the disk of an office has, where it tells that, is the journal of the accepted edits, or of these and the one in doubt, and so
 /// is whatever a stop may leave; and the history is legal.
@@ -26,15 +43,127 @@ pub fn an_office_stands_on_its_disk<D: Disk>(office: &Office<D>)
     register::laws::a_history_is_legal(&office.register);
 }
 
+/// An accepted edit leaves no record in doubt, and then the disk has the journal of exactly the accepted edits, and so has whatever a
+/// stop may leave.
+pub fn an_accepted_edit_leaves_no_doubt<D: Disk>(office: &Office<D>)
+    ensures settled { (old new : History) (edit : Edit) (number : ℕ) → IsTaken old edit new number false → doubt new ≡ None }
+    ensures now { doubt office.now.register.history ≡ None → IfSome (D.content office.now.disk) (IsJournalOf (accepted office.now.register.history.events)) }
+    ensures images { doubt office.now.register.history ≡ None → IsSome (D.content office.now.disk) → (image : List ℕ) → D.may_leave office.now.disk image
+        → IsJournalOf (accepted office.now.register.history.events) image }
+{
+    let _ = &office.journal;
+}
+
 /// An office may open on whatever a stop leaves of it, also in the midst of a call: that is the journal of the edits that were accepted
-/// then, or of these and one more, and each of them is accepted again. It has a journal's header and is not damaged, so no opening is
-/// refused for its bytes. In an office that is opened on it an edit that was accepted and comes again is told its number.
+/// then, or of these and one more, the one in doubt or in flight, and each of them is accepted again. It has a journal's header and is
+/// not damaged, so no opening is refused for its bytes. In an office that is opened on it an edit that was accepted and comes again is
+/// told its number.
 pub fn whatever_is_left_opens()
-    ensures opens { (h : History) (image : List ℕ) → IsLegal h → IsLeft h image → MayOpen h.limits (accepted h.events) image }
+    ensures opens { (h : History) (image : List ℕ) → IsLegal h → IsLeft h image → MayOpen h [] image }
     ensures any_moment { (h after : History) (image : List ℕ) → IsLegal after → after.limits ≡ h.limits → (left : IsLeftBetween h after image)
-        → MayOpen h.limits (accepted (h.events ++ left.since)) image }
-    ensures header { (limits : Limits) (known : List Record) (image : List ℕ) → MayOpen limits known image → HasHeader image }
-    ensures undamaged { (limits : Limits) (known : List Record) (image : List ℕ) (at : ℕ) → MayOpen limits known image → ¬ IsDamagedFor limits at image }
-    ensures repeated { (limits : Limits) (known pieces : List Record) (image : List ℕ) (place : ℕ) (edit : Edit) → MayOpen limits known image
-        → IsJournalOf pieces image → slice_get (map edit_of known) place ≡ Some edit → verdict (reopen limits pieces) edit ≡ Repeats (place + 1) }
+        → MayOpen (go_on h left.since) left.behind image }
+    ensures header { (h : History) (behind : List Event) (image : List ℕ) → MayOpen h behind image → HasHeader image }
+    ensures undamaged { (h : History) (behind : List Event) (image : List ℕ) (at : ℕ) → MayOpen h behind image → ¬ IsDamagedFor h.limits at image }
+    ensures repeated { (h : History) (behind : List Event) (pieces : List Record) (image : List ℕ) (place : ℕ) (edit : Edit) → MayOpen h behind image
+        → IsJournalOf pieces image → slice_get (edits_of h.events) place ≡ Some edit → verdict (reopen h.limits pieces) edit ≡ Repeats (place + 1) }
 {}
+
+/// Whatever calls of an office are made, with faults of its disk, stops at any moment and openings behind them: the history stays
+/// legal; the records of the accepted edits stay, each at its number, and behind them stand exactly those of the edits that were
+/// acknowledged since, or were found at an opening; and an edit that was acknowledged and comes again is told its number. Where the
+/// events and a publication of each pending day keep to the limit they go on to: over calls whatever came before, and behind an opening
+/// over stops and further openings too.
+pub fn accepted_edits_stay()
+    ensures legal { (old new : Registered) (steps : List Step) → GoesOver old steps new → IsLegal old.history → IsLegal new.history }
+    ensures records { (old new : Registered) (steps : List Step) → GoesOver old steps new
+        → (records : List Record) × (accepted new.history.events ≡ accepted old.history.events ++ records) × (map edit_of records ≡ added steps) }
+    ensures numbered { (old new : Registered) (before after : List Step) (edit : Edit) (told : Accepted) → told.repeated ≡ false
+        → GoesOver old (before ++ AnEdit edit (Ok told) ∷ after) new → told.number ≡ length (edits_of old.history.events ++ added before) + 1 }
+    ensures repeated { (old new : Registered) (before after : List Step) (edit : Edit) (told : Accepted) → IsLegal old.history
+        → GoesOver old (before ++ AnEdit edit (Ok told) ∷ after) new → verdict new.history edit ≡ Repeats told.number }
+    ensures limits { (old new : Registered) (steps : List Step) → GoesOver old steps new → new.history.limits ≡ old.history.limits }
+    ensures limit { (old new : Registered) (steps : List Step) → All IsCall steps → GoesOver old steps new → KeepsToTheLimit old.history
+        → KeepsToTheLimit new.history }
+    ensures limit_from_opening { (old new : Registered) (steps : List Step) (pieces : List Record) → old.history ≡ reopen old.history.limits pieces
+        → GoesOver old steps new → KeepsToTheLimit old.history → KeepsToTheLimit new.history }
+{}
+
+/// Stopped at any moment, between two calls or inside one, the journal has the edits that were accepted before, all that were
+/// acknowledged since, and perhaps one more.
+pub fn no_acknowledged_edit_is_lost()
+    ensures between { (old at : Registered) (before : List Step) (image : List ℕ) (pieces : List Record) → GoesOver old before at → IsLeft at.history image
+        → IsJournalOf pieces image
+        → (more : List Edit) × (length more ≤ 1) × (map edit_of pieces ≡ (edits_of old.history.events ++ added before) ++ more) }
+    ensures inside { (old at new : Registered) (before : List Step) (step : Step) (image : List ℕ) (pieces : List Record) → GoesOver old before at
+        → IsCall step → IsStep at step new → IsLeftBetween at.history new.history image → IsJournalOf pieces image
+        → (more : List Edit) × (length more ≤ 1) × (map edit_of pieces ≡ (edits_of old.history.events ++ added before) ++ more) }
+{}
+
+/// Whatever comes before and after it, an answer is that of the history then; one marked computed is the value that computing from
+/// scratch from all edits accepted so far gives; any other names the last of these edits that changed the day, or says that none of them
+/// added the station.
+pub fn answers_are_true()
+    ensures of_history { (old new : Registered) (before after : List Step) (site : SiteNumber) (day : ℤ) (told : DayAnswer)
+        → GoesOver old (before ++ AnAnswer site day told ∷ after) new
+        → (at : Registered) × GoesOver old before at × GoesOver at (AnAnswer site day told ∷ after) new × (told ≡ answer_at at.history.events site day) }
+    ensures computed { (old new : Registered) (before after : List Step) (site : SiteNumber) (day : ℤ) (value : DayValue)
+        → GoesOver old (before ++ AnAnswer site day (Computed value) ∷ after) new
+        → value ≡ day_value (inputs_of_day (stations_of (edits_of old.history.events ++ added before)) site day) }
+    ensures pending { (old new : Registered) (before after : List Step) (site : SiteNumber) (day : ℤ) (number : ℕ)
+        → GoesOver old (before ++ AnAnswer site day (Pending number) ∷ after) new
+        → ChangedLast (edits_of old.history.events ++ added before) site day number }
+    ensures no_station { (old new : Registered) (before after : List Step) (site : SiteNumber) (day : ℤ)
+        → GoesOver old (before ++ AnAnswer site day NoStation ∷ after) new
+        → is_some (station_of (stations_of (edits_of old.history.events ++ added before)) site) ≡ false }
+{}
+
+/// A job that a claim or a look gave, and whose value is published after any calls, is published exactly where its day then still awaits
+/// the job's edit, and never told to be foreign.
+pub fn given_jobs_are_published_where_awaited()
+    ensures { (old new : Registered) (before between after : List Step) (given : Step) (job : DayJob) (outcome : Publish) → Gives given job → All IsCall between
+        → GoesOver old (before ++ given ∷ (between ++ APublication job outcome ∷ after)) new
+        → (at : Registered) × GoesOver old (before ++ given ∷ between) at × GoesOver at (APublication job outcome ∷ after) new
+        × ((outcome ≡ Published ↔ awaited at.history.events job.site job.day ≡ Some job.awaits) × (outcome ≢ Foreign)) }
+{}
+
+/// What a stop leaves, between two calls and inside one, is opened by a step: the office goes on from the records that were accepted
+/// before the call or behind it, and perhaps one more.
+pub fn an_opening_is_a_step()
+    ensures between { (old register : Registered) (image : List ℕ) → IsLeft old.history image → IsOpened (Some image) old.history.limits register
+        → (found : Option Record) × IsStep old (AStop found) register }
+    ensures inside { (old : Registered) (step : Step) (new register : Registered) (image : List ℕ) → IsCall step → IsStep old step new
+        → IsLeftBetween old.history new.history image → IsOpened (Some image) old.history.limits register
+        → (found : Option Record) × (IsStep old (AStop found) register ⊎ IsStep new (AStop found) register) }
+{}
+
+/// Each call of an office is a step: by the very clauses of [`Office::edit`], [`Office::claim`], [`Office::after`], [`Office::publish`],
+/// [`Office::turn`], [`Office::settle`] and [`Office::answer`].
+pub fn calls_are_steps()
+    ensures edit { (old new : Registered) (edit : Edit) (result : Result Accepted Refusal) → Edits old.history edit new.history result
+        → EditsClaims old edit new result → IsStep old (AnEdit edit result) new }
+    ensures claim { (old new : Registered) (result : Result (Option DayJob) NoMemory)
+        → IfOk result (λ job. job ≡ option_map (job_at old.history.events) (first_unclaimed old)) → new.history ≡ old.history
+        → IfOk result (λ job. IfSome job (TakesClaim old new)) → (result ≡ Ok None → new ≡ old) → OnErr result (new ≡ old) → IsStep old (AClaim result) new }
+    ensures look { (old new : Registered) (last : Option (SiteNumber × ℤ)) (result : Result (Option DayJob) NoMemory)
+        → IfOk result (λ job. job ≡ option_map (job_at old.history.events) (next_after last (pending_days old.history.events))) → new ≡ old
+        → IsStep old (ALook last result) new }
+    ensures publication { (old new : Registered) (job : DayJob) (outcome : Publish) → IsDay job.day → outcome ≡ outcome_at old.history.events job
+        → (outcome ≡ Published → new.history ≡ after_publications old.history (day_of job ∷ [])) → (outcome ≡ Published → EndsClaim old new job)
+        → (outcome ≢ Published → new ≡ old) → IsStep old (APublication job outcome) new }
+    ensures turn { (old new : Registered) (result : Result (Option (SiteNumber × ℤ)) NoMemory)
+        → IfOk result (λ day. day ≡ option_map as_pair (first_unclaimed old))
+        → IfOk result (λ day. new.history ≡ after_publication old.history (first_unclaimed old)) → KeepsClaims old new → OnErr result (new ≡ old)
+        → IsStep old (ATurn result) new }
+    ensures settlement { (old new : Registered) (result : Result ℕ NoMemory) → IfOk result (λ count. count ≡ length (pending_days old.history.events))
+        → IfOk result (IsSettledTo old new)
+        → OnErr result ((count : ℕ) × (count < length (pending_days old.history.events)) × IsSettledTo old new count) → IsStep old (ASettlement result) new }
+    ensures answer { (old new : Registered) (site : SiteNumber) (day : ℤ) (told : DayAnswer) → told ≡ answer_at old.history.events site day → new ≡ old
+        → IsStep old (AnAnswer site day told) new }
+{}
+
+/// The day of a job is one of the calendar.
+pub fn jobs_have_days_of_the_calendar(done: &Done)
+    ensures { IsDay done.now.job.day }
+{
+    let _ = done.job().day().get();
+}

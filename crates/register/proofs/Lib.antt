@@ -1,3 +1,5 @@
+pub mod AgainLemmas
+pub mod CourseLemmas
 pub mod FaultLemmas
 pub mod FoundLemmas
 pub mod KeepsLemmas

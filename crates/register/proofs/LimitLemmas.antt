@@ -38,7 +38,7 @@ rise_after_all stations (edit ∷ edits) h = rise_after_all (stations_after stat
 none_rise : IsRising place_of []
 none_rise = λ i j d u v. absurd (omega arith)
 
-stations_rise : (events : List Event) → IsRising place_of (stations_at events)
+pub stations_rise : (events : List Event) → IsRising place_of (stations_at events)
 stations_rise events = rise_after_all [] (edits_of events) none_rise
 
 -- a test that fails on one day of the calendar more keeps one day less
@@ -118,7 +118,7 @@ module _ (events : List Event) (own : SiteNumber) (its : ℤ) (day : IsDay its) 
   one_fewer = fewer_at (station_of (stations_at events) own) refl (pending_has_station events own its pending)
 
 -- each pending day is one of the calendar
-days_are : (events : List Event) (stations : List StationRecord) → All (λ (d : SiteDay). IsDay d.day) (flat_map (pending_of events) stations)
+pub days_are : (events : List Event) (stations : List StationRecord) → All (λ (d : SiteDay). IsDay d.day) (flat_map (pending_of events) stations)
 days_are events [] = All-nil (λ (d : SiteDay). IsDay d.day)
 days_are events (s ∷ stations) =
     All-append (λ (d : SiteDay). IsDay d.day) (pending_of events s) (flat_map (pending_of events) stations)

@@ -26,7 +26,7 @@ use Rattle.register.proofs.WaitingLemmas.{waiting_count}
 use Rattle.rising.specs.Lists.{IsRising}
 
 -- what is published was awaited
-published_awaits : (o : Option ℕ) (awaits : ℕ) (same : Bool) → outcome_by o awaits same ≡ publish.Published → is_some o ≡ true
+pub published_awaits : (o : Option ℕ) (awaits : ℕ) (same : Bool) → outcome_by o awaits same ≡ publish.Published → is_some o ≡ true
 published_awaits None awaits same h = absurd (cc)
 published_awaits (Some edit) awaits same h = refl
 

@@ -43,7 +43,7 @@ days_pending events (s ∷ stations) =
 pub all_pending : (events : List Event) → All (IsPending events) (pending_days events)
 all_pending events = days_pending events (stations_at events)
 
-awaited_some : (o : Option ℕ) → is_some o ≡ true → o ≡ Some (unwrap_or o 0)
+pub awaited_some : (o : Option ℕ) → is_some o ≡ true → o ≡ Some (unwrap_or o 0)
 awaited_some None h = absurd (cc)
 awaited_some (Some edit) h = refl
 

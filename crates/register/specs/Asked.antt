@@ -9,6 +9,7 @@ use Rattle.history.specs.Awaited as days
 use Rattle.history.specs.Events.{Event, History}
 use Rattle.history.specs.Verdicts.{Verdict, Repeats, Refuses, Accepts, or_else, refused_by_stations}
 use Rattle.office_inputs.specs.Changes.{changed_days}
+use Rattle.office_inputs.specs.Places.{IsPlaceOf}
 use Rattle.office_inputs.specs.declared.refusals.Refusal.{Refusal}
 use Rattle.office_inputs.specs.declared.refusals.Refusal.TheVariants.{RefReused}
 use Rattle.recompute.specs.Jobs.{DayJob, outcome_by}
@@ -25,13 +26,19 @@ use Rattle.register.specs.declared.judged.NotReadmitted.TheVariants as opening
 abbrev pub verdict_told : Judged → Verdict
 verdict_told (judged.Repeated number) = Repeats number
 verdict_told (judged.Refused refusal) = Refuses refusal
-verdict_told (judged.Accepted days) = Accepts
+verdict_told (judged.Accepted days place) = Accepts
 
 -- with an acceptance come the days that the edit changes
 abbrev pub TellsChanged : History → Edit → Judged → Type 0
 TellsChanged h edit (judged.Repeated number) = Unit {0}
 TellsChanged h edit (judged.Refused refusal) = Unit {0}
-TellsChanged h edit (judged.Accepted days) = days ≡ changed_days (stations_at h.events) edit
+TellsChanged h edit (judged.Accepted days place) = days ≡ changed_days (stations_at h.events) edit
+
+-- and where the station of its site stands
+abbrev pub TellsPlace : History → Edit → Judged → Type 0
+TellsPlace h edit (judged.Repeated number) = Unit {0}
+TellsPlace h edit (judged.Refused refusal) = Unit {0}
+TellsPlace h edit (judged.Accepted days place) = IsPlaceOf (stations_at h.events) edit.site place
 
 -- the edit's days have to be looked for: its reference names no accepted edit, and the stations in force do not refuse it
 abbrev pub needs_days : History → Edit → Bool

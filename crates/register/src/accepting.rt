@@ -8,16 +8,17 @@ ghost use Rattle.history.specs.After.{MayLeaveInDoubt, after_edit, after_fault, 
 ghost use Rattle.history.specs.Awaited.{pending_days};
 ghost use Rattle.history.specs.Verdicts.{Accepts, refused_by_stations, verdict, with_edit};
 ghost use Rattle.office_inputs.specs.Changes.{changed_days};
+ghost use Rattle.office_inputs.specs.Places.{IsPlaceOf};
 ghost use Rattle.register.specs.Asked.{IsNotReadmitted, readmission_refusal};
 ghost use Rattle.register.specs.Registered.{IsReady, KeepsClaims, MarksClaims, NoneOut};
 
 use crate::judged::NotReadmitted;
 use crate::registers::Register;
-use depend::reach;
+use depend::reach_at;
 use edits::Edit;
 use fixed_units::{Day, NoMemory};
 use history::{Doubt, Recorded};
-use office_inputs::{Refusal, stations_keep_to_their_ranges};
+use office_inputs::{Place, Refusal, stations_keep_to_their_ranges};
 use records::Record;
 use std::marker::Brand;
 use std::sync::ledger::{Blank, Ledger};
@@ -26,25 +27,27 @@ use steps::Steps;
 impl Register {
     /// Makes room for all that an edit adds which changes these days, so that its acceptance takes no memory. What happened and which
     /// claims are out is as before, also after `NoMemory`.
-    pub fn prepare(&mut self, edit: &Edit, days: &[Day]) -> Result<(), NoMemory>
+    pub fn prepare(&mut self, edit: &Edit, place: Place, days: &[Day]) -> Result<(), NoMemory>
         requires new { named (edits_of self.old.history.events) edit.now.reference ≡ None }
+        requires place { IsPlaceOf (stations_at self.old.history.events) edit.now.site place }
         requires days { days.now ≡ changed_days (stations_at self.old.history.events) edit.now }
         ensures history { self.new.history ≡ self.old.history }
         ensures claims { KeepsClaims self.old self.new }
         ensures room { OnOk result (IsReady self.new edit.now) }
     {
-        self.inputs.prepare(edit)?;
+        self.inputs.prepare_at(place, edit)?;
         self.cells.prepare(edit.site, days)?;
         self.pieces.reserve(1)?;
-        let place = self.pieces.len() as u64;
+        let number = self.pieces.len() as u64;
         self.references
-            .put(self.alloc, edit.reference.as_slice(), place)
+            .put(self.alloc, edit.reference.as_slice(), number)
     }
 
     /// Accepts an edit by its record, for which room is made: the days that it changes await it from then on, and their claims are no
     /// longer out. It takes no memory.
-    pub fn accept(&mut self, piece: Record, days: &[Day])
+    pub fn accept(&mut self, piece: Record, place: Place, days: &[Day])
         requires verdict { verdict self.old.history piece.edit ≡ Accepts }
+        requires place { IsPlaceOf (stations_at self.old.history.events) piece.edit.site place }
         requires days { days.now ≡ changed_days (stations_at self.old.history.events) piece.edit }
         requires room { IsReady self.old piece.edit }
         ensures history { self.new.history ≡ after_edit self.old.history piece.edit }
@@ -53,12 +56,13 @@ impl Register {
         // What an accepted edit counts is within the limits, which are numbers of 64 bits.
         let _ = self.inputs.limits();
         let bytes = self.journal_after(&piece.edit).unwrap_or(u64::MAX);
-        self.take_in(piece, days, bytes);
+        self.take_in(piece, place, days, bytes);
     }
 
     /// Accepts an edit that was not refused and whose reference is new.
-    fn take_in(&mut self, piece: Record, days: &[Day], journal_bytes: u64)
+    fn take_in(&mut self, piece: Record, place: Place, days: &[Day], journal_bytes: u64)
         requires new { named (edits_of self.old.history.events) piece.edit.reference ≡ None }
+        requires place { IsPlaceOf (stations_at self.old.history.events) piece.edit.site place }
         requires lawful { refused_by_stations self.old.history piece.edit ≡ None }
         requires days { days.now ≡ changed_days (stations_at self.old.history.events) piece.edit }
         requires room { IsReady self.old piece.edit }
@@ -70,7 +74,7 @@ impl Register {
         let accepted = Recorded::accepted(&piece);
         let number = self.pieces.len() as u64 + 1;
         let edit = &piece.edit;
-        self.inputs.apply(edit);
+        self.inputs.apply_at(place, edit);
         self.cells.mark(edit.site, days, number);
         self.events += 1;
         self.journal_bytes = journal_bytes;
@@ -131,18 +135,21 @@ impl Register {
         if let Some((number, _)) = self.named(piece.edit.reference.as_slice()) {
             return Err(NotReadmitted::Refused(Refusal::RefReused(number)));
         }
-        if let Some(refusal) = self.inputs.refusal(&piece.edit) {
+        let edit = &piece.edit;
+        let place = self.inputs.place(edit.site);
+        if let Some(refusal) = self.inputs.refusal_at(place, edit) {
             return Err(NotReadmitted::Refused(refusal));
         }
         let mut steps = Steps::<L>::new(blank);
-        let days = reach(self.alloc, &self.inputs, &piece.edit, &mut steps)?;
-        self.readmit_on(piece, days.as_slice())
+        let days = reach_at(self.alloc, &self.inputs, place, edit, &mut steps)?;
+        self.readmit_on(piece, place, days.as_slice())
     }
 
     /// Accepts an edit that is not refused and changes these days, while an office is opened with it.
-    fn readmit_on(&mut self, piece: Record, days: &[Day]) -> Result<(), NotReadmitted>
+    fn readmit_on(&mut self, piece: Record, place: Place, days: &[Day]) -> Result<(), NotReadmitted>
         requires opening { self.old.history ≡ reopen self.old.history.limits (accepted self.old.history.events) }
         requires lawful { readmission_refusal self.old.history piece.edit ≡ None }
+        requires place { IsPlaceOf (stations_at self.old.history.events) piece.edit.site place }
         requires days { days.now ≡ changed_days (stations_at self.old.history.events) piece.edit }
         ensures history { OnOk result (self.new.history ≡ reopen self.old.history.limits (accepted self.old.history.events ++ piece ∷ [])) }
         ensures refused { IfErr result (IsNotReadmitted (readmission_refusal self.old.history piece.edit)) }
@@ -155,8 +162,8 @@ impl Register {
         let Some(bytes) = self.journal_after(&piece.edit) else {
             return Err(NotReadmitted::NoMemory);
         };
-        self.prepare(&piece.edit, days)?;
-        self.take_in(piece, days, bytes);
+        self.prepare(&piece.edit, place, days)?;
+        self.take_in(piece, place, days, bytes);
         self.opened += 1;
         Ok(())
     }

@@ -4,7 +4,7 @@ ghost use Rattle.std.specs.Prelude.{◌≡◌};
 
 use depend::DayList;
 use fixed_units::NoMemory;
-use office_inputs::Refusal;
+use office_inputs::{Place, Refusal};
 use thiserror::Error;
 
 /// What is said to an edit.
@@ -14,8 +14,8 @@ pub enum Judged {
     Repeated(u64),
     /// It is refused.
     Refused(Refusal),
-    /// It is accepted, and these are the days that it changes.
-    Accepted(DayList),
+    /// It is accepted: these are the days that it changes, and this is where the station of its site stands.
+    Accepted(DayList, Place),
 }
 
 /// Why a record is not accepted among those that an office is opened with.

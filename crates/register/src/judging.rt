@@ -12,11 +12,11 @@ ghost use Rattle.office_inputs.specs.declared.refusals.Full.TheVariants as fulls
 ghost use Rattle.office_inputs.specs.declared.refusals.Refusal.TheVariants.{RefReused, HistoryFull, JournalFull};
 ghost use Rattle.recompute.specs.Cells.{awaited_in};
 ghost use Rattle.records.specs.Payloads.{edit_bytes};
-ghost use Rattle.register.specs.Asked.{TellsChanged, verdict_told, needs_days};
+ghost use Rattle.register.specs.Asked.{TellsChanged, TellsPlace, verdict_told, needs_days};
 
 use crate::judged::Judged;
 use crate::registers::Register;
-use depend::reach;
+use depend::reach_at;
 use edits::Edit;
 use fixed_units::{Day, NoMemory, Site};
 use office_inputs::{Full, Refusal, stations_keep_to_their_ranges};
@@ -26,8 +26,8 @@ use std::sync::ledger::Ledger;
 use steps::Steps;
 
 impl Register {
-    /// The verdict of an edit. Nothing is changed. No step is taken where the edit comes again or where the stations in force refuse
-    /// it, and else no more than the search for its days may take.
+    /// The verdict of an edit, whose station is looked up once. Nothing is changed. No step is taken where the edit comes again or
+    /// where the stations in force refuse it, and else no more than the search for its days may take.
     ///
     /// # Errors
     ///
@@ -35,19 +35,21 @@ impl Register {
     pub fn judge<L: Ledger>(&self, edit: &Edit, steps: &mut Steps<L>) -> Result<Judged, NoMemory>
         ensures verdict { IfOk result (λ judged. verdict_told judged ≡ verdict self.now.history edit.now) }
         ensures changed { IfOk result (TellsChanged self.now.history edit.now) }
+        ensures place { IfOk result (TellsPlace self.now.history edit.now) }
         ensures steps { steps.new ≤ steps.old + length (interval (stations_at self.now.history.events) edit.now) + 9 }
         ensures no_step { needs_days self.now.history edit.now ≡ false → steps.new ≡ steps.old }
     {
         if let Some((number, other)) = self.named(edit.reference.as_slice()) {
             return Ok(judge_again(number, other, edit));
         }
-        if let Some(refusal) = self.inputs.refusal(edit) {
+        let place = self.inputs.place(edit.site);
+        if let Some(refusal) = self.inputs.refusal_at(place, edit) {
             return Ok(Judged::Refused(refusal));
         }
-        let days = reach(self.alloc, &self.inputs, edit, steps)?;
+        let days = reach_at(self.alloc, &self.inputs, place, edit, steps)?;
         Ok(match self.lacks_room(edit, days.as_slice()) {
             Some(refusal) => Judged::Refused(refusal),
-            None => Judged::Accepted(days),
+            None => Judged::Accepted(days, place),
         })
     }
 
@@ -141,6 +143,7 @@ fn block_len(edit: &Edit) -> u64
 fn judge_again(number: u64, other: &Edit, edit: &Edit) -> Judged
     ensures verdict { verdict_told result ≡ (if is_same other.now edit.now then Repeats number else Refuses (RefReused number)) }
     ensures changed { (h : History) → TellsChanged h edit.now result }
+    ensures place { (h : History) → TellsPlace h edit.now result }
 {
     if other.is_same(edit) {
         return Judged::Repeated(number);

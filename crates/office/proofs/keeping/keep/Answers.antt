@@ -1,4 +1,5 @@
 use Rattle.std.proofs.Common.{rules, arith, ◌≡◌, ◌++◌, Bool, true, false, List, Ok, Err, Some, is_some, refl, ap, sym, ◌∙◌}
+use Rattle.history.specs.declared.recorded.NotKept.TheVariants as not_kept
 use Rattle.journal.specs.Keeping.{leaves_doubt}
 use Rattle.journal.specs.declared.keeping.AppendFault.{AppendFault}
 use Rattle.journal.specs.declared.keeping.AppendFault.TheVariants.{Full}
@@ -45,7 +46,7 @@ returns-in-Err-Fault-true-clause-calls g c pieces holds =
     let fault : AppendFault = c.in-Err-Fault-true.field-0 in
     let shape = c.in-Err-Fault-true.field-0-is in
     keep_calls pieces c.args.doubt.now c.args.journal.now c.settle.new.journal c.settle.result (sym c.is_err.ensures.value ∙ c.if-is_err.false) holds
-    c.settle.ensures.settled (Unit {0}) c.append.new.self.disk (Err fault) (KeepCalls {T = Unit {0}} (is_some c.args.doubt.now) (Err record { in_doubt = true }))
+    c.settle.ensures.settled (Unit {0}) c.append.new.self.disk (Err fault) (KeepCalls {T = Unit {0}} (is_some c.args.doubt.now) (Err not_kept.Gate))
     c.settle.ensures.calls c.in-Err-Fault-true.ensures.calls c.append.ensures.counted
     (λ calls is. fault_calls (Unit {0}) (is_some c.args.doubt.now) true fault calls (λ (e : fault ≡ Full). cc)
     (ap (λ (x : AppendFault). leaves_doubt {T = Unit {0}} (Err x)) shape ∙ c.in-Err-Fault-true.field-0-0-test) is)
@@ -55,7 +56,7 @@ returns-in-Err-clause-calls g c pieces holds =
     let fault : AppendFault = c.in-Err.field-0 in
     let settled : leaves_doubt {T = Unit {0}} (Err fault) ≡ false = search rules in
     keep_calls pieces c.args.doubt.now c.args.journal.now c.settle.new.journal c.settle.result (sym c.is_err.ensures.value ∙ c.if-is_err.false) holds
-    c.settle.ensures.settled (Unit {0}) c.append.new.self.disk (Err fault) (KeepCalls {T = Unit {0}} (is_some c.args.doubt.now) (Err record { in_doubt = false }))
+    c.settle.ensures.settled (Unit {0}) c.append.new.self.disk (Err fault) (KeepCalls {T = Unit {0}} (is_some c.args.doubt.now) (Err not_kept.Record))
     c.settle.ensures.calls c.in-Err.ensures.calls c.append.ensures.counted
     (λ calls is. fault_calls (Unit {0}) (is_some c.args.doubt.now) false fault calls
     (λ (e : fault ≡ Full). let long = c.in-Err.ensures.full.0 (ap (λ (x : AppendFault). Err x) e) in omega arith) settled is)

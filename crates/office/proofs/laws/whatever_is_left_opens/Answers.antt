@@ -8,10 +8,10 @@ pub returns-clause-any_moment : goal.returns-clause-any_moment
 returns-clause-any_moment c h after image legal same left = may_open_between h after image legal same left
 
 pub returns-clause-header : goal.returns-clause-header
-returns-clause-header c limits known image o = has_header limits known image o
+returns-clause-header c h behind image o = has_header h behind image o
 
 pub returns-clause-undamaged : goal.returns-clause-undamaged
-returns-clause-undamaged c limits known image at o = undamaged limits known image at o
+returns-clause-undamaged c h behind image at o = undamaged h behind image at o
 
 pub returns-clause-repeated : goal.returns-clause-repeated
-returns-clause-repeated c limits known pieces image place edit o found is = told_again limits known pieces image place edit o found is
+returns-clause-repeated c h behind pieces image place edit o found is = told_again h behind pieces image place edit o found is

@@ -1,6 +1,5 @@
-use Rattle.std.proofs.Common.{◌≡◌, ◌≤◌, ◌+◌, IsSome, is_some, length, refl, ap, sym, subst, ◌∙◌}
+use Rattle.std.proofs.Common.{◌≡◌, ◌≤◌, ◌+◌, IsSome, length, refl, ap, sym, subst, ◌∙◌}
 use Rattle.history.specs.Accepted.{stations_at}
-use Rattle.history.specs.After.{doubt}
 use Rattle.history.specs.Verdicts.{Refuses, verdict}
 use Rattle.journal.specs.Moments.{LeavesOnly}
 use Rattle.office.specs.Offices.{Officed}
@@ -73,7 +72,7 @@ returns-in-Ok-Refused-clause-calls g c =
     subst (λ (o : Officed g.row.D.Denot). verdict o.register.history c.args.edit ≡ Refuses c.in-Ok-Refused.refusal) c.self.view_is
     (sym c.in-Ok-Refused.ensures.verdict ∙ ap verdict_told c.in-Ok-Refused.field-0-is) in
     lists_refused (g.D.Disk.content c.args.self.now.disk) (g.D.Disk.calls c.args.self.now.disk) (g.D.Disk.faults c.args.self.now.disk)
-    (is_some (doubt c.args.self.now.register.history)) c.args.self.now.register.history c.args.edit c.in-Ok-Refused.refusal refused
+    c.args.self.now.register.history c.args.edit c.args.self.now.register.history c.in-Ok-Refused.refusal refused
 
 pub returns-in-Ok-Refused-clause-cause : goal.returns-in-Ok-Refused-clause-cause
 returns-in-Ok-Refused-clause-cause g c in_doubt is =
@@ -82,3 +81,8 @@ returns-in-Ok-Refused-clause-cause g c in_doubt is =
     (sym c.in-Ok-Refused.ensures.verdict ∙ ap verdict_told c.in-Ok-Refused.field-0-is) in
     let fault : c.in-Ok-Refused.refusal ≡ JournalFault in_doubt = cc in
     absurd (not_a_fault c.args.self.now.register.history c.args.edit c.in-Ok-Refused.refusal in_doubt refused fault)
+
+pub returns-clause-steps : goal.returns-clause-steps
+returns-clause-steps g c =
+    subst (λ (o : Officed g.row.D.Denot). c.judge.new.steps ≤ c.args.steps.now + length (interval (stations_at o.register.history.events) c.args.edit) + 9)
+    c.self.view_is c.judge.ensures.steps

@@ -1,5 +1,4 @@
-use Rattle.std.proofs.Common.{◌≡◌, Bool, false, List, IsSome, is_some, refl, ap, sym, subst}
-use Rattle.history.specs.After.{doubt}
+use Rattle.std.proofs.Common.{◌≡◌, false, IsSome, refl, ap, sym, subst}
 use Rattle.history.specs.Events.{Accepted, Faulted, History}
 use Rattle.history.specs.Verdicts.{Accepts, verdict}
 use Rattle.journal.specs.Moments.{LeavesOnly}
@@ -8,7 +7,7 @@ use Rattle.office.specs.Edits.{FaultCalls, IsFaulted, IsTaken}
 use Rattle.office.specs.Offices.{Officed}
 use Rattle.office.specs.Standing.{Stands}
 use Rattle.office.specs.Stops.{IsLeftBetween}
-use Rattle.office.proofs.EditLemmas.{does_fit, may_leave, stands_faulted, stands_accepted, is_faulted, is_taken, leaves_between, calls_inside}
+use Rattle.office.proofs.EditLemmas.{does_fit, may_leave, stands_faulted, stands_accepted, is_faulted, is_taken, leaves_between, fault_calls_inside}
 use Rattle.office.proofs.offices.Office.keep_and_accept.Goals as goal
 
 pub keep-requires-clause-fits : goal.keep-requires-clause-fits
@@ -32,11 +31,11 @@ pub returns-in-Err-clause-fault : goal.returns-in-Err-clause-fault
 returns-in-Err-clause-fault g c =
     let lawful = subst (λ (o : Officed g.row.D.Denot). verdict o.register.history c.args.piece.edit ≡ Accepts) (sym c.self.view_is) c.requires.verdict in
     let faulted = is_faulted c.self.inside.register.history c.self.inside.doubt c.self.inside.journal c.self.invariant c.args.piece.edit c.keep.new.doubt
-    c.in-Err.failed lawful c.in-Err.ensures.leaves in (
-      c.in-Err.failed.in_doubt,
+    c.in-Err.failed c.in_doubt.result lawful c.in_doubt.ensures c.in-Err.ensures.leaves in (
+      c.in_doubt.result,
       refl,
-      subst (λ (o : Officed g.row.D.Denot). IsFaulted o.register.history c.args.piece.edit c.fault.new.self.history c.in-Err.failed.in_doubt) c.self.view_is
-          (subst (λ (h : History). IsFaulted c.self.inside.register.history c.args.piece.edit h c.in-Err.failed.in_doubt) (sym c.fault.ensures.history) faulted),
+      subst (λ (o : Officed g.row.D.Denot). IsFaulted o.register.history c.args.piece.edit c.fault.new.self.history c.in_doubt.result) c.self.view_is
+          (subst (λ (h : History). IsFaulted c.self.inside.register.history c.args.piece.edit h c.in_doubt.result) (sym c.fault.ensures.history) faulted),
     )
 
 pub returns-in-Err-clause-any_moment : goal.returns-in-Err-clause-any_moment
@@ -48,10 +47,13 @@ returns-in-Err-clause-any_moment g c =
 
 pub returns-in-Err-clause-calls : goal.returns-in-Err-clause-calls
 returns-in-Err-clause-calls g c =
+    let lawful = subst (λ (o : Officed g.row.D.Denot). verdict o.register.history c.args.piece.edit ≡ Accepts) (sym c.self.view_is) c.requires.verdict in
     subst (λ (o : Officed g.row.D.Denot). Lists (g.D.Disk.content o.disk) (g.D.Disk.calls o.disk) (g.D.Disk.calls c.keep.new.journal.disk)
-    (g.D.Disk.faults c.keep.new.journal.disk) (FaultCalls (is_some (doubt o.register.history)) c.in-Err.failed.in_doubt)) c.self.view_is
-    (calls_inside c.self.inside.register.history c.self.inside.doubt c.self.inside.journal c.self.invariant c.keep.new.journal.disk
-    (λ (doubtful : Bool) (calls : List Bool). FaultCalls doubtful c.in-Err.failed.in_doubt calls) c.in-Err.ensures.calls)
+    (g.D.Disk.faults c.keep.new.journal.disk) (FaultCalls o.register.history c.args.piece.edit c.fault.new.self.history c.in_doubt.result)) c.self.view_is
+    (subst (λ (h : History). Lists (g.D.Disk.content c.self.inside.journal.disk) (g.D.Disk.calls c.self.inside.journal.disk) (g.D.Disk.calls c.keep.new.journal.disk)
+    (g.D.Disk.faults c.keep.new.journal.disk) (FaultCalls c.self.inside.register.history c.args.piece.edit h c.in_doubt.result)) (sym c.fault.ensures.history)
+    (fault_calls_inside c.self.inside.register.history c.self.inside.doubt c.self.inside.journal c.self.invariant c.keep.new.journal.disk c.args.piece.edit
+    c.keep.new.doubt c.in-Err.failed c.in_doubt.result lawful c.in_doubt.ensures c.in-Err.ensures.leaves c.in-Err.ensures.calls))
 
 -- the record is kept
 pub invariant_of-self-2 : goal.invariant_of-self-2

@@ -10,4 +10,4 @@ use Rattle.register.proofs.registers.Register.judge.Goals as goal
 pub returns-clause-steps : goal.returns-clause-steps
 returns-clause-steps g c =
     let same = c.self.invariant.stations ∙ ap (λ (r : Registered). stations_at r.history.events) c.self.view_is in
-    subst (λ (stations : List StationRecord). c.reach.new.steps ≤ c.args.steps.now + length (interval stations c.args.edit.now) + 9) same c.reach.ensures.steps
+    subst (λ (stations : List StationRecord). c.reach_at.new.steps ≤ c.args.steps.now + length (interval stations c.args.edit.now) + 9) same c.reach_at.ensures.steps

@@ -29,6 +29,6 @@ returns-in_err-days-clause-refused g c =
     let lawful : refused_by_stations h edit ≡ None =
     ap (λ (r : Registered). refused_by_stations r.history edit) (sym c.self.view_is)
     ∙ ap (λ (s : List StationRecord). refusals.refusal_of c.self.inside.inputs.limits s edit) (sym c.self.invariant.stations)
-    ∙ sym c.refusal.ensures ∙ c.in_default-refusal.is in
+    ∙ sym c.refusal_at.ensures ∙ c.in_default-refusal_at.is in
     without_memory c.from_residual.result (readmission_refusal h edit) c.from_residual.ensures.1
     (ap (λ (o : Option Numbered). or_else (reused o) (refused_by_stations h edit)) unnamed ∙ lawful)

@@ -24,8 +24,8 @@ invariant_of-self c =
       size_is = c.requires.bytes;
       size_fits = omega arith;
     })
-    c.apply.new.self c.mark.new.self (vec_capacity c.push_reserved.new.self - vec_len c.push_reserved.new.self) (c.len.result + 1) c.record.new.self
-    c.push_reserved.new.self.items c.apply.ensures.stations c.apply.ensures.limits (ap (λ k. k + 1) (c.len.ensures ∙ c.self.inside.pieces.ok.0))
+    c.apply_at.new.self c.mark.new.self (vec_capacity c.push_reserved.new.self - vec_len c.push_reserved.new.self) (c.len.result + 1) c.record.new.self
+    c.push_reserved.new.self.items c.apply_at.ensures.stations c.apply_at.ensures.limits (ap (λ k. k + 1) (c.len.ensures ∙ c.self.inside.pieces.ok.0))
     c.mark.ensures.marks
     (c.record.ensures ∙ ap (λ (e : Event). c.self.inside.past ++ e ∷ []) c.accepted-accepted.ensures)
     c.push_reserved.ensures.items

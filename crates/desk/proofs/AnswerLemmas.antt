@@ -1,5 +1,6 @@
 -- How asks are answered.
-use Rattle.std.proofs.Common.{◌≡◌, ◌⊎◌, ℕ, ◌+◌, Bool, false, List, length, Result, Ok, Err, OnOk, OnErr, refl, sym, ◌∙◌, ap, inl, inr}
+use Rattle.std.proofs.Common.{◌≡◌, ◌⊎◌, ℕ, ◌+◌, Bool, true, false, List, length, get_or, ◌==◌, Result, Ok, Err, OnOk, OnErr, true≢false, refl, sym, ◌∙◌, ap, inl, inr}
+use Rattle.std.specs.Fmt.{digits}
 use Rattle.desk.specs.Answering.{told_bytes}
 use Rattle.desk.specs.Answering as told_of
 use Rattle.desk.specs.Replies.{IsAnswered, IsLeftBy, edit_reply, fault_reply, history_after, history_by, memory_reply, reply_to}
@@ -76,17 +77,38 @@ module _ (h : History) (edit : Edit) (reply : List ℕ) (next : History) where
   refused_by refusals.NoMemory is told fault = forgone (no_memory reply told) is
   refused_by (refusals.JournalFault in_doubt) is told fault = inr (inl (in_doubt, fault in_doubt refl, is))
 
+-- the replies to an edit that was accepted, and of a journal that failed, are not that of want of memory: their statuses differ
+abbrev has_at : ℕ → ℕ → List ℕ → Bool
+has_at place code bytes = get_or bytes place 0 == code
+
+pub accepted_told : (number : ℕ) (repeated : Bool) → bytes_of (replies.Edit number repeated) ≡ memory_reply → ⊥
+unfolding bytes_of digits
+accepted_told number repeated e =
+    let apart : false ≡ true = ap (has_at 9 53) e in
+    true≢false (sym apart)
+
+pub fault_told : (in_doubt : Bool) → fault_reply in_doubt ≡ memory_reply → ⊥
+unfolding bytes_of digits
+fault_told in_doubt e =
+    let apart : false ≡ true = ap (has_at 11 55) e in
+    true≢false (sym apart)
+
+-- so it is not told where an acceptance was made
+pub made_told : {D : Type 0} (told : Told) (reply : List ℕ) (number : ℕ) (repeated : Bool) (old new : D) → told ≡ tells.Made → reply ≡ bytes_of (replies.Edit number repeated)
+    → told_bytes told reply ≡ memory_reply → new ≡ old
+made_told told reply number repeated old new made is none =
+    absurd (accepted_told number repeated (sym is ∙ ap (λ (t : Told). told_bytes t reply) (sym made) ∙ none))
+
 -- want of memory is told of a refused edit only where the disk was not asked
-pub unwritten : {D : Type 0} (refusal : Refusal) (told : Told) (old new : D)
+pub unwritten : {D : Type 0} (refusal : Refusal) (told : Told) (reply : List ℕ) (old new : D)
     → ((in_doubt : Bool) → refusal ≡ refusals.JournalFault in_doubt → told ≡ tells.JournalFault in_doubt) → (is_fault refusal ≡ false → new ≡ old)
-    → told ≡ tells.NoMemory → new ≡ old
-unwritten (refusals.RefReused n) told old new fault stays none = stays refl
-unwritten refusals.NoStation told old new fault stays none = stays refl
-unwritten refusals.StationExists told old new fault stays none = stays refl
-unwritten (refusals.Limit which) told old new fault stays none = stays refl
-unwritten (refusals.HistoryFull full) told old new fault stays none = stays refl
-unwritten refusals.JournalFull told old new fault stays none = stays refl
-unwritten refusals.NoMemory told old new fault stays none = stays refl
-unwritten (refusals.JournalFault in_doubt) told old new fault stays none =
-    let is : told ≡ tells.JournalFault in_doubt = fault in_doubt refl in
-    absurd (cc)
+    → told_bytes told reply ≡ memory_reply → new ≡ old
+unwritten (refusals.RefReused n) told reply old new fault stays none = stays refl
+unwritten refusals.NoStation told reply old new fault stays none = stays refl
+unwritten refusals.StationExists told reply old new fault stays none = stays refl
+unwritten (refusals.Limit which) told reply old new fault stays none = stays refl
+unwritten (refusals.HistoryFull full) told reply old new fault stays none = stays refl
+unwritten refusals.JournalFull told reply old new fault stays none = stays refl
+unwritten refusals.NoMemory told reply old new fault stays none = stays refl
+unwritten (refusals.JournalFault in_doubt) told reply old new fault stays none =
+    absurd (fault_told in_doubt (ap (λ (t : Told). told_bytes t reply) (sym (fault in_doubt refl)) ∙ none))

@@ -13,6 +13,7 @@ use edits::Edit;
 use fixed_units::{Day, NoMemory, Site, Text};
 use http_api::replies::constants_are_replies;
 use http_api::{Ask, DayAnswer, DayReply, Reply, write_reply};
+use json::Scratch;
 use office::laws::an_office_stands_on_its_disk;
 use office::{Answer, Office};
 use office_inputs::{Refusal, Station};
@@ -33,9 +34,11 @@ pub(crate) enum Told {
     NoMemory,
 }
 
-/// The texts that replies are made in, and the replies to a journal that fails, which stand ready before the office is asked.
+/// The scratch that bodies are read with, the texts that replies are made in, and the replies to a journal that fails, which stand
+/// ready before the office is asked.
 #[derive(Drop)]
 pub(crate) struct Texts {
+    pub(crate) scratch: Scratch,
     body: Text,
     reply: Text,
     settled: Text,
@@ -51,6 +54,7 @@ impl Texts {
         let settled = fault_text(alloc, false, &mut body)?;
         let doubtful = fault_text(alloc, true, &mut body)?;
         Ok(Texts {
+            scratch: Scratch::new(alloc),
             body,
             reply: Text::new(alloc),
             settled,
@@ -106,7 +110,7 @@ pub(crate) fn answer<D: Disk>(office: &mut Office<D>, ask: Ask, texts: &mut Text
     ensures answered { IsAnswered office.old.register.history ask (told_bytes result texts.new.reply) office.new.register.history }
     ensures passed { Passes D.Disk office.old.register.history office.new.register.history office.old.disk office.new.disk }
     ensures claims { NoneOut office.new.register }
-    ensures unwritten { result ≡ Told.NoMemory → office.new.disk ≡ office.old.disk }
+    ensures unwritten { told_bytes result texts.new.reply ≡ memory_reply → office.new.disk ≡ office.old.disk }
     ensures counted { D.faults office.old.disk ≤ D.faults office.new.disk }
 {
     // this runs nothing: it tells the proof what a stop leaves of the disk that is asked nothing
@@ -127,7 +131,7 @@ fn take_edit<D: Disk>(office: &mut Office<D>, edit: Edit, texts: &mut Texts) -> 
     ensures answered { IsAnswered office.old.register.history (asks.Edit edit) (told_bytes result texts.new.reply) office.new.register.history }
     ensures passed { Passes D.Disk office.old.register.history office.new.register.history office.old.disk office.new.disk }
     ensures claims { NoneOut office.new.register }
-    ensures unwritten { result ≡ Told.NoMemory → office.new.disk ≡ office.old.disk }
+    ensures unwritten { told_bytes result texts.new.reply ≡ memory_reply → office.new.disk ≡ office.old.disk }
     ensures counted { D.faults office.old.disk ≤ D.faults office.new.disk }
 {
     take_edit_counted::<D, Brand>(office, edit, texts, Blank::new(1))
@@ -148,7 +152,7 @@ fn take_edit_counted<D: Disk, L: Ledger>(
     ensures answered { IsAnswered office.old.register.history (asks.Edit edit) (told_bytes result texts.new.reply) office.new.register.history }
     ensures passed { Passes D.Disk office.old.register.history office.new.register.history office.old.disk office.new.disk }
     ensures claims { NoneOut office.new.register }
-    ensures unwritten { result ≡ Told.NoMemory → office.new.disk ≡ office.old.disk }
+    ensures unwritten { told_bytes result texts.new.reply ≡ memory_reply → office.new.disk ≡ office.old.disk }
     ensures counted { D.faults office.old.disk ≤ D.faults office.new.disk }
 {
     // this runs nothing: it tells the proof what a stop leaves where there is no memory for the acceptance's text

@@ -4,7 +4,7 @@ ghost use Rattle.std.specs.Prelude.{◌≡◌, ◌≢◌, ◌<◌, ◌≤◌, �
 ghost use Rattle.desk.specs.Answering.{told_bytes};
 ghost use Rattle.desk.specs.Endings.{is_malformed};
 ghost use Rattle.desk.specs.Passing.{Passes};
-ghost use Rattle.desk.specs.Replies.{IsReplied};
+ghost use Rattle.desk.specs.Replies.{IsReplied, memory_reply};
 ghost use Rattle.desk.specs.Sessions.{GoesOn, HasCause, IsEndOf, IsFinished, IsServed, IsUnderWay};
 ghost use Rattle.devices.specs.Faults.{Rose};
 ghost use Rattle.devices.specs.Sinks.{AreWritten};
@@ -155,7 +155,8 @@ fn end_malformed<K: Sink>(at: u64, sink: &mut K) -> SessionEnd
     }
 }
 
-/// Replies to a message, in the texts; the end of the session, where the message is none that is replied to.
+/// Replies to a message, in the texts; the end of the session, where the message is none that is replied to. Where the reply is that
+/// of want of memory, the disk is as it was.
 fn reply_on<D: Disk>(
     alloc: Global,
     office: &mut Office<D>,
@@ -167,6 +168,7 @@ fn reply_on<D: Disk>(
     ensures replied { IfOk result (λ told. IsReplied office.old.register.history message (told_bytes told texts.new.reply) office.new.register.history) }
     ensures ended { IfErr result (IsEndOf message) }
     ensures kept { OnErr result (office.new.register.history ≡ office.old.register.history) }
+    ensures unwritten { IfOk result (λ told. told_bytes told texts.new.reply ≡ memory_reply → office.new.disk ≡ office.old.disk) }
     ensures passed { Passes D.Disk office.old.register.history office.new.register.history office.old.disk office.new.disk }
     ensures claims { NoneOut office.new.register }
     ensures counted { D.faults office.old.disk ≤ D.faults office.new.disk }
@@ -196,7 +198,7 @@ fn reply_on<D: Disk>(
     }
 }
 
-/// Answers a request, in the texts.
+/// Answers a request, in the texts. Where the reply is that of want of memory, the disk is as it was.
 fn reply_to<D: Disk>(
     alloc: Global,
     office: &mut Office<D>,
@@ -208,13 +210,14 @@ fn reply_to<D: Disk>(
 ) -> Told
     requires { NoneOut office.old.register }
     ensures replied { IsReplied office.old.register.history (messages.Request verb target.now body.now) (told_bytes result texts.new.reply) office.new.register.history }
+    ensures unwritten { told_bytes result texts.new.reply ≡ memory_reply → office.new.disk ≡ office.old.disk }
     ensures passed { Passes D.Disk office.old.register.history office.new.register.history office.old.disk office.new.disk }
     ensures claims { NoneOut office.new.register }
     ensures counted { D.faults office.old.disk ≤ D.faults office.new.disk }
 {
     // this runs nothing: it tells the proof what passes where the office is not asked
     stands_still(office);
-    match router.read(alloc, verb, target, body) {
+    match router.read(alloc, verb, target, body, &mut texts.scratch) {
         Ok(ask) => answer(office, ask, texts),
         Err(denied) => texts.tell(&Reply::Denied(denied)),
     }

@@ -1,11 +1,10 @@
 -- From the members of an object to what is answered for the body.
-use Rattle.std.proofs.Common.{◌≡◌, ℕ, List, Option, Some, None, Result, Ok, Err, IfOk, refl, sym, ap, ◌∙◌, subst}
+use Rattle.std.proofs.Common.{◌≡◌, ℕ, List, Option, Some, None, Result, Ok, Err, IfOk, ap, ◌∙◌, subst}
 use Rattle.edit_bodies.specs.Answers.{IsMade}
 use Rattle.edit_bodies.specs.Bodies.{Parts, parts, value_of, edit_of, edit_of_value, edit_in, refused}
 use Rattle.edit_bodies.specs.declared.faults.BodyFault.{BodyFault}
-use Rattle.edit_bodies.specs.declared.faults.BodyFault.TheVariants.{Json, Body, NoMemory}
+use Rattle.edit_bodies.specs.declared.faults.BodyFault.TheVariants.{Json, Body}
 use Rattle.edit_bodies.specs.declared.members.Member.{Member}
-use Rattle.edit_bodies.specs.declared.members.Member.TheVariants.{Kind}
 use Rattle.edits.specs.declared.content.Edit.{Edit}
 use Rattle.serde_json.specs.Data.{Data, Members}
 use Rattle.serde_json.specs.Find.{as_object}

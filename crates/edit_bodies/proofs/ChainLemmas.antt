@@ -1,5 +1,5 @@
 -- Members that are read one after another.
-use Rattle.std.proofs.Common.{◌≡◌, Bool, true, false, Some, Result, Ok, Err, if◌then◌else◌, refl, sym, ap, ◌∙◌, subst}
+use Rattle.std.proofs.Common.{◌≡◌, Bool, true, false, Some, Result, Ok, Err, if◌then◌else◌, sym, ap, ◌∙◌, subst}
 use Rattle.edit_bodies.specs.Answers.{IsRead, IsMade}
 use Rattle.edit_bodies.specs.Bodies.{Parts, edit_row, edit_in}
 use Rattle.edit_bodies.specs.Members.{Reader, and_then, ◌>>=◌, closed, is_none_left}

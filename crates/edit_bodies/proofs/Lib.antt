@@ -1,7 +1,9 @@
 pub mod AnswerLemmas
 pub mod ChainLemmas
+pub mod FieldLemmas
 pub mod MemberLemmas
 pub mod RowLemmas
 pub mod SiteLemmas
 pub mod TextLemmas
+pub mod TreeLemmas
 pub mod ZoneLemmas

@@ -1,35 +1,30 @@
--- Members that are taken out of a map, and strings that are read of them.
-use Rattle.std.proofs.Common.{◌≡◌, ℕ, List, [], ◌∷◌, Option, Some, None, option_map, option_and_then, Result, Ok, Err, String, Global, string_bytes, nat_cmp, is_eq, cond, Bool, true, false, bytes_eq, ◌↔◌, length, refl, sym, ap, ◌∙◌, arith}
-use Rattle.std.proofs.lemmas.Map.Text.{is_eq-slice_cmp}
-use Rattle.std.specs.BTreeMap.{is_at}
-use Rattle.std.specs.Cmp.Lexicographic.{slice_cmp}
-use Rattle.std.specs.Map.{remove_entry}
+-- Members that are taken out of an object, and strings that are read of them.
+use Rattle.std.proofs.Common.{◌≡◌, ℕ, List, Option, Some, None, option_and_then, option_map, Bor, Ok, Err, refl, sym, ap, ◌∙◌}
 use Rattle.std.specs.Option.{ok_or}
-use Rattle.edit_bodies.specs.Answers.{IsRead}
+use Rattle.edit_bodies.specs.Answers.{IsRead, text_of}
 use Rattle.edit_bodies.specs.Grammars.{string_of}
-use Rattle.edit_bodies.specs.Members.{without, found_or, required, member_text, is_none_left}
+use Rattle.edit_bodies.specs.Members.{without, found_or, required, member_text}
 use Rattle.edit_bodies.specs.declared.faults.BodyFault.{BodyFault}
 use Rattle.edit_bodies.specs.declared.faults.BodyFault.TheVariants.{Json, Body, NoMemory}
 use Rattle.edit_bodies.specs.declared.members.Member.{Member}
-use Rattle.serde_json.specs.Data.{Data, Members, member}
+use Rattle.serde_json.specs.Data.{Data, Members}
 use Rattle.serde_json.specs.Find.{as_str, get_member}
-use Rattle.serde_json.specs.View.{view, members_view}
-use Rattle.serde_json.specs.declared.value.Value.{Value}
 
-abbrev pub Entry : Type 0
-Entry = String Global × Value
+-- what a grammar finds of a member is what is read of it
+module _ {A : Type 0} (which : Member) (grammar : Data → Option A) (before after : Members) (rest : after ≡ without (member_text which) before) where
+  abbrev there : Option A
+  there = option_and_then grammar (get_member (member_text which) before)
 
-members_view-cond : (b : Bool) (x y : List Entry) → members_view (cond b x y) ≡ cond b (members_view x) (members_view y)
-members_view-cond true x y = refl
-members_view-cond false x y = refl
+  pub taken : (found : Option A) → found ≡ there → IsRead (required which grammar) before (ok_or found (Body which)) after
+  taken None is = ap (λ (o : Option A). found_or which o (without (member_text which) before)) (sym is)
+  taken (Some x) is = ap (λ (o : Option A). found_or which o (without (member_text which) before)) (sym is) ∙ ap (λ (ms : Members). Ok (x, ms)) (sym rest)
 
--- what a map is without a name
-pub members_view-remove_entry : (name : List ℕ) (es : List Entry) → members_view (remove_entry (is_at (λ k. slice_cmp nat_cmp name (string_bytes k))) es) ≡ without name (members_view es)
-members_view-remove_entry name [] = refl
-members_view-remove_entry name (e ∷ es) =
-    members_view-cond (is_eq (slice_cmp nat_cmp name (string_bytes e.0))) es (e ∷ remove_entry (is_at (λ k. slice_cmp nat_cmp name (string_bytes k))) es)
-    ∙ ap (λ (ms : Members). cond (is_eq (slice_cmp nat_cmp name (string_bytes e.0))) (members_view es) (member (string_bytes e.0) (view e.1) ms)) (members_view-remove_entry name es)
-    ∙ ap (λ (b : Bool). cond b (members_view es) (member (string_bytes e.0) (view e.1) (without name (members_view es)))) (is_eq-slice_cmp name (string_bytes e.0))
+-- a string likewise
+pub text_taken : (which : Member) (before after : Members) → after ≡ without (member_text which) before → (found : Option (Bor (List ℕ)))
+    → option_map (λ (text : Bor (List ℕ)). text.now) found ≡ option_and_then as_str (get_member (member_text which) before)
+    → IsRead (required which as_str) before (text_of (ok_or found (Body which))) after
+text_taken which before after rest None is = taken which as_str before after rest None is
+text_taken which before after rest (Some text) is = taken which as_str before after rest (Some text.now) is
 
 module _ {A : Type 0} (which : Member) (read : List ℕ → Option A) where
   string_found : (p : Option (List ℕ)) (rest : Members) (text : List ℕ) (after : Members) → found_or which p rest ≡ Ok (text, after) → found_or which (option_and_then read p) rest ≡ found_or which (read text) after
@@ -68,9 +63,3 @@ module _ {A : Type 0} (which : Member) (read : List ℕ → Option A) where
   string_not_read before after NoMemory e = e
   string_not_read before after (Body other) e =
       ap (λ o. found_or which o (without (member_text which) before)) (of_value (value_at before)) ∙ string_missing (option_and_then as_str (value_at before)) (without (member_text which) before) other e
-
-pub none_left : (none : Bool) (es : List Entry) → none ≡ true ↔ length es ≡ 0 → none ≡ is_none_left (members_view es)
-none_left true [] told = refl
-none_left false [] told = told.1 refl
-none_left true (e ∷ es) told = absurd (omega (arith, told.0 refl))
-none_left false (e ∷ es) told = refl

@@ -1,14 +1,13 @@
 -- Rows of readings.
-use Rattle.std.proofs.Common.{◌≡◌, ℕ, List, [], ◌∷◌, length, Option, Some, None, option_map, option_and_then, Bool, true, false, ◌&&◌, nat_le, if◌then◌else◌, ap, refl, arith}
+use Rattle.std.proofs.Common.{◌≡◌, List, [], ◌∷◌, length, Option, Some, None, option_map, option_and_then, Bool, true, false, ◌&&◌, nat_le, if◌then◌else◌, ap, refl, arith}
 use Rattle.std.proofs.lemmas.Bool.{lt-leb}
 use Rattle.edit_bodies.specs.Grammars.{kept_if, are_put, are_rising, readings_of_rows, reading_of, reading_of_row}
 use Rattle.edits.specs.Lawful.{most_readings}
 use Rattle.fixed_units.specs.declared.readings.Reading.{Reading}
-use Rattle.serde_json.specs.View.{view, items_view}
-use Rattle.serde_json.specs.declared.value.Value.{Value}
+use Rattle.edit_bodies.specs.Trees.{Tree, stated, items_stated}
 
 -- a row of other than two strings has no reading
-pub wrong_row : (vs : List Value) → (length vs ≡ 2 → ⊥) → reading_of_row (items_view vs) ≡ None
+pub wrong_row : (vs : List Tree) → (length vs ≡ 2 → ⊥) → reading_of_row (items_stated vs) ≡ None
 wrong_row [] other = refl
 wrong_row (a ∷ []) other = refl
 wrong_row (a ∷ b ∷ []) other = absurd (other refl)
@@ -29,7 +28,7 @@ two_rows (Some x) (Some y) (Some ys) =
     ap (λ (b : Bool). if b then Some (x ∷ y ∷ ys) else None) not_put
 
 -- other than one row puts nothing
-pub wrong_rows : (vs : List Value) → (length vs ≡ 1 → ⊥) → option_and_then (kept_if are_put) (readings_of_rows (items_view vs)) ≡ None
+pub wrong_rows : (vs : List Tree) → (length vs ≡ 1 → ⊥) → option_and_then (kept_if are_put) (readings_of_rows (items_stated vs)) ≡ None
 wrong_rows [] other = refl
 wrong_rows (a ∷ []) other = absurd (other refl)
-wrong_rows (a ∷ b ∷ vs) other = two_rows (reading_of (view a)) (reading_of (view b)) (readings_of_rows (items_view vs))
+wrong_rows (a ∷ b ∷ vs) other = two_rows (reading_of (stated a)) (reading_of (stated b)) (readings_of_rows (items_stated vs))

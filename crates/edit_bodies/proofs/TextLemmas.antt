@@ -1,6 +1,6 @@
 -- The tests of texts, and what they test.
-use Rattle.std.proofs.Common.{◌≡◌, ◌↔◌, ℕ, ◌≤◌, Bool, true, false, ◌&&◌, List, length, All, Option, Some, None, IsSome, IfSome, if◌then◌else◌, Result, IfOk, refl, sym, ap, ◌∙◌, subst}
-use Rattle.std.proofs.lemmas.Bool.{and_parts, and_from, leb-true, le-leb, cases_Bool}
+use Rattle.std.proofs.Common.{◌≡◌, ◌↔◌, ℕ, ◌≤◌, Bool, true, false, ◌&&◌, List, length, Option, Some, None, IsSome, IfSome, if◌then◌else◌, IfOk, refl, sym, ap, subst}
+use Rattle.std.proofs.lemmas.Bool.{and_parts, and_from, leb-true, le-leb}
 use Rattle.std.proofs.lemmas.List.Sums.{AllPass-from_list_all, list_all-from_AllPass}
 use Rattle.std.specs.List.{list_all}
 use Rattle.std.specs.Option.{ok_or}

@@ -1,5 +1,5 @@
 -- The edit that a body is, or what refuses it.
-use Rattle.std.specs.Prelude.{ℕ, List, Option, Some, None, option_and_then, Result, Ok, Err, if◌then◌else◌}
+use Rattle.std.specs.Prelude.{ℕ, List, Option, Some, None, Result, Ok, Err, if◌then◌else◌}
 use Rattle.std.specs.Str.{is_utf8}
 use Rattle.edit_bodies.specs.Grammars.{by_of, reference_of, site_of}
 use Rattle.edit_bodies.specs.Kinds.{kind_of, row}

@@ -4,4 +4,5 @@ pub mod Grammars
 pub mod Kinds
 pub mod Members
 pub mod Texts
+pub mod Trees
 pub mod Zones

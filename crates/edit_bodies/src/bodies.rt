@@ -3,18 +3,20 @@
 ghost use Rattle.std.specs.Prelude.{◌≡◌, ◌≢◌, IfOk, Ok, Err, Some, None, option_map};
 ghost use Rattle.edit_bodies.specs.Bodies.{edit_of, edit_in, parts, value_of};
 ghost use Rattle.edit_bodies.specs.Answers.{IsMade};
+ghost use Rattle.edit_bodies.specs.Trees.{left, stated};
 ghost use Rattle.serde_json.specs.Find.{as_object};
-ghost use Rattle.serde_json.specs.View.{view, members_view};
 
 use crate::faults::BodyFault;
 use crate::grammars::{take_by, take_reference, take_site};
 use crate::kinds::{take_kind, take_what};
 use crate::members::{Fields, Member, is_none_left};
+use crate::trees::read_tree;
 use edits::Edit;
-use serde_json::Value;
+use json::{Error, Scratch, Value};
 use std::alloc::Global;
 
-/// The edit that a body is.
+/// The edit that a body is. The scratch is what strings with escapes are written to: one serves all bodies that are read one after
+/// another, and grows to the longest of them.
 ///
 /// # Errors
 ///
@@ -22,12 +24,12 @@ use std::alloc::Global;
 /// and [`BodyFault::Body`] with the first member that is missing or ill formed: kind, initials, reference, site, then those
 /// of the kind; the kind also where the body is no object, and a further member where all of them are good. Of a member that
 /// comes twice the last counts. [`BodyFault::NoMemory`] may come in place of each answer.
-pub fn read_edit(alloc: Global, body: &[u8]) -> Result<Edit, BodyFault>
+pub fn read_edit(alloc: Global, body: &[u8], scratch: &mut Scratch) -> Result<Edit, BodyFault>
     ensures edit { IfOk result (λ edit. edit_of body.now ≡ Ok (parts edit)) }
     ensures json { result ≡ Err BodyFault.Json → edit_of body.now ≡ Err BodyFault.Json }
     ensures member { (name : Member) → result ≡ Err (BodyFault.Body name) → edit_of body.now ≡ Err (BodyFault.Body name) }
 {
-    let value = value_of(alloc, body)?;
+    let value = value_of(alloc, body, scratch)?;
     let Some(mut members) = members_in(value) else {
         return Err(BodyFault::Body(Member::Kind));
     };
@@ -35,26 +37,28 @@ pub fn read_edit(alloc: Global, body: &[u8]) -> Result<Edit, BodyFault>
 }
 
 /// The value that a text states.
-fn value_of(alloc: Global, body: &[u8]) -> Result<Value, BodyFault>
-    ensures value { IfOk result (λ value. value_of body.now ≡ Some (view value)) }
+fn value_of<'a>(
+    alloc: Global,
+    body: &'a [u8],
+    scratch: &'a mut Scratch,
+) -> Result<Value<'a>, BodyFault>
+    ensures value { IfOk result (λ value. value_of body.now ≡ Some (stated value)) }
     ensures json { result ≡ Err BodyFault.Json → value_of body.now ≡ None }
     ensures only { (name : Member) → result ≢ Err (BodyFault.Body name) }
 {
-    match Value::from_slice(alloc, body) {
+    let Ok(text) = str::from_utf8(body) else {
+        return Err(BodyFault::Json);
+    };
+    match read_tree(alloc, text, scratch) {
         Ok(value) => Ok(value),
-        Err(error) => {
-            if error.is_memory() {
-                Err(BodyFault::NoMemory)
-            } else {
-                Err(BodyFault::Json)
-            }
-        }
+        Err(Error::Invalid) => Err(BodyFault::Json),
+        Err(_) => Err(BodyFault::NoMemory),
     }
 }
 
 /// The members of an object.
-fn members_in(value: Value) -> Option<Fields>
-    ensures { option_map (λ members. members_view members.entries) result ≡ as_object (view value) }
+fn members_in<'a>(value: Value<'a>) -> Option<Fields<'a>>
+    ensures { option_map left result ≡ as_object (stated value.entry) }
 {
     match value {
         Value::Object(members) => Some(members),
@@ -63,8 +67,8 @@ fn members_in(value: Value) -> Option<Fields>
 }
 
 /// The edit that the members of an object make.
-fn edit_from(alloc: Global, fields: &mut Fields) -> Result<Edit, BodyFault>
-    ensures { IsMade (edit_in (Some (members_view fields.old.entries))) result }
+fn edit_from(alloc: Global, fields: &mut Fields<'_>) -> Result<Edit, BodyFault>
+    ensures { IsMade (edit_in (Some (left fields.old))) result }
 {
     let kind = take_kind(fields)?;
     let by = take_by(fields)?;

@@ -25,11 +25,11 @@ pub enum Kind {
 }
 
 /// Takes the kind out of the members.
-pub(crate) fn take_kind(fields: &mut Fields) -> Result<Kind, BodyFault>
+pub(crate) fn take_kind(fields: &mut Fields<'_>) -> Result<Kind, BodyFault>
     ensures { IsTaken (required Member.Kind kind_of) fields.old result fields.new }
 {
     let text = take_text(fields, Member::Kind)?;
-    kind_named(text.as_slice()).ok_or(BodyFault::Body(Member::Kind))
+    kind_named(text.as_bytes()).ok_or(BodyFault::Body(Member::Kind))
 }
 
 /// The kind of that name, or `None` exactly where there is no such kind.
@@ -48,23 +48,27 @@ fn kind_named(text: &[u8]) -> Option<Kind>
 }
 
 /// What an edit of that kind changes, by its members, which are taken out.
-pub(crate) fn take_what(alloc: Global, kind: Kind, fields: &mut Fields) -> Result<What, BodyFault>
+pub(crate) fn take_what(
+    alloc: Global,
+    kind: Kind,
+    fields: &mut Fields<'_>,
+) -> Result<What, BodyFault>
     ensures read { IsTaken (row kind) fields.old result fields.new }
     ensures lawful { IfOk result IsLawful }
 {
     match kind {
         Kind::AddStation => take_addition(alloc, fields),
-        Kind::SetStation => take_setting(fields),
+        Kind::SetStation => take_setting(alloc, fields),
         Kind::PutReadings => take_put(alloc, fields),
     }
 }
 
 /// The addition of a station.
-fn take_addition(alloc: Global, fields: &mut Fields) -> Result<What, BodyFault>
+fn take_addition(alloc: Global, fields: &mut Fields<'_>) -> Result<What, BodyFault>
     ensures read { IsTaken (row Kind.AddStation) fields.old result fields.new }
     ensures lawful { IfOk result IsLawful }
 {
-    let name = take_name(fields)?;
+    let name = take_name(alloc, fields)?;
     let zone = take_zone(alloc, fields)?;
     let gap = take_gap(fields)?;
     let stage_array = take_array(fields, Member::StageArray)?;
@@ -79,11 +83,11 @@ fn take_addition(alloc: Global, fields: &mut Fields) -> Result<What, BodyFault>
 }
 
 /// The setting of a station.
-fn take_setting(fields: &mut Fields) -> Result<What, BodyFault>
+fn take_setting(alloc: Global, fields: &mut Fields<'_>) -> Result<What, BodyFault>
     ensures read { IsTaken (row Kind.SetStation) fields.old result fields.new }
     ensures lawful { IfOk result IsLawful }
 {
-    let name = take_name(fields)?;
+    let name = take_name(alloc, fields)?;
     let gap = take_gap(fields)?;
     let stage_array = take_array(fields, Member::StageArray)?;
     let discharge_array = take_array(fields, Member::DischargeArray)?;
@@ -96,7 +100,7 @@ fn take_setting(fields: &mut Fields) -> Result<What, BodyFault>
 }
 
 /// The put of readings.
-fn take_put(alloc: Global, fields: &mut Fields) -> Result<What, BodyFault>
+fn take_put(alloc: Global, fields: &mut Fields<'_>) -> Result<What, BodyFault>
     ensures read { IsTaken (row Kind.PutReadings) fields.old result fields.new }
     ensures lawful { IfOk result IsLawful }
 {

@@ -6,8 +6,10 @@ pub mod faults;
 mod grammars;
 pub mod kinds;
 pub mod members;
+mod numbers;
 mod reading_rows;
 pub mod sites;
+mod trees;
 
 pub use bodies::read_edit;
 pub use faults::BodyFault;

@@ -2,10 +2,10 @@
 
 ghost use Rattle.std.specs.Prelude.{◌≡◌, option_map};
 ghost use Rattle.edit_bodies.specs.Members.{member_text, without, is_none_left};
+ghost use Rattle.edit_bodies.specs.Trees.{left, stated};
 ghost use Rattle.serde_json.specs.Find.{get_member};
-ghost use Rattle.serde_json.specs.View.{view, members_view};
 
-use serde_json::{Map, Value};
+use json::Value;
 use std::fmt;
 
 /// A member of the body of an edit, or any further one.
@@ -62,20 +62,34 @@ impl fmt::Display for Member {
     }
 }
 
-/// The members of an object that were not taken out yet.
-pub(crate) type Fields = Map<String, Value>;
+/// The members of an object that were not taken out yet, as they stand in the text.
+pub(crate) type Fields<'a> = Vec<(&'a str, Value<'a>)>;
 
-/// Takes out a member, or `None` exactly where it is missing.
-pub(crate) fn take(fields: &mut Fields, member: Member) -> Option<Value>
-    ensures value { option_map view result ≡ get_member (member_text member) (members_view fields.old.entries) }
-    ensures rest { members_view fields.new.entries ≡ without (member_text member) (members_view fields.old.entries) }
+/// The value of a member, the last where it comes twice, or `None` exactly where it is missing.
+pub(crate) fn value_at<'v, 'a>(fields: &'v Fields<'a>, member: Member) -> Option<&'v Value<'a>>
+    ensures { option_map (λ value. stated value.now) result ≡ get_member (member_text member) (left fields.now) }
 {
-    fields.remove(member.text())
+    let name = member.text();
+    let mut found = None;
+    for field in fields {
+        if field.0 == name {
+            found = Some(&field.1);
+        }
+    }
+    found
+}
+
+/// Takes out a member, each time that it comes.
+pub(crate) fn remove(fields: &mut Fields<'_>, member: Member)
+    ensures { left fields.new ≡ without (member_text member) (left fields.old) }
+{
+    let name = member.text();
+    fields.retain(|field| field.0 != name);
 }
 
 /// Whether no member is left.
-pub(crate) fn is_none_left(fields: &Fields) -> bool
-    ensures { result ≡ is_none_left (members_view fields.now.entries) }
+pub(crate) fn is_none_left(fields: &Fields<'_>) -> bool
+    ensures { result ≡ is_none_left (left fields.now) }
 {
     fields.is_empty()
 }

@@ -8,6 +8,7 @@ use crate::routes::{Router, Target};
 use edit_bodies::{BodyFault, Member, read_edit};
 use edits::Edit;
 use fixed_units::{Day, Site};
+use json::Scratch;
 use std::alloc::Global;
 use thiserror::Error;
 use wire::Verb;
@@ -51,31 +52,44 @@ pub enum Denied {
 
 impl Router {
     /// What a request asks: by its target as it stands, without decoding, then by its method, then by its body. The body of
-    /// what is no edit is ignored.
+    /// what is no edit is ignored. The scratch is the one that the bodies of edits are read with ([`read_edit`]).
     ///
     /// # Errors
     ///
     /// Each cause exactly where it is the first; [`Denied::NoMemory`] only in place of what the body of an edit states.
     #[tactic(auto, unfolding(crate::specs::Asks::ask_of))]
-    pub fn read(&self, alloc: Global, verb: Verb, target: &[u8], body: &[u8]) -> Result<Ask, Denied>
+    pub fn read(
+        &self,
+        alloc: Global,
+        verb: Verb,
+        target: &[u8],
+        body: &[u8],
+        scratch: &mut Scratch,
+    ) -> Result<Ask, Denied>
         ensures ask { IfOk result (λ ask. ask_of verb target.now body.now ≡ Ok (question ask)) }
         ensures denied { IfErr result (IsDenial verb target.now body.now) }
     {
         match self.target(target) {
-            Some(named) => ask_at(alloc, verb, named, body),
+            Some(named) => ask_at(alloc, verb, named, body, scratch),
             None => Err(Denied::NoRoute),
         }
     }
 }
 
 /// What a request asks, by what its target names.
-fn ask_at(alloc: Global, verb: Verb, target: Target, body: &[u8]) -> Result<Ask, Denied>
+fn ask_at(
+    alloc: Global,
+    verb: Verb,
+    target: Target,
+    body: &[u8],
+    scratch: &mut Scratch,
+) -> Result<Ask, Denied>
     ensures ask { IfOk result (λ ask. asked_at verb (Some target) body.now ≡ Ok (question ask)) }
     ensures denied { IfErr result (IsDenialAt verb target body.now) }
 {
     let due = target.verb();
     if is_verb(due, verb) {
-        ask_by(alloc, target, body)
+        ask_by(alloc, target, body, scratch)
     } else {
         Err(Denied::NotAllowed(due))
     }
@@ -92,12 +106,12 @@ fn is_verb(due: Verb, verb: Verb) -> bool
 }
 
 /// What a request with the right method asks, by what its target names.
-fn ask_by(alloc: Global, target: Target, body: &[u8]) -> Result<Ask, Denied>
+fn ask_by(alloc: Global, target: Target, body: &[u8], scratch: &mut Scratch) -> Result<Ask, Denied>
     ensures ask { IfOk result (λ ask. asked_by target body.now ≡ Ok (question ask)) }
     ensures denied { IfErr result (IsDenialBy target body.now) }
 {
     match target {
-        Target::Edits => edit_in(alloc, body),
+        Target::Edits => edit_in(alloc, body, scratch),
         Target::Turns(count) => Ok(Ask::Turns(count)),
         Target::Settle => Ok(Ask::Settle),
         Target::Status => Ok(Ask::Counts),
@@ -107,11 +121,11 @@ fn ask_by(alloc: Global, target: Target, body: &[u8]) -> Result<Ask, Denied>
 }
 
 /// The edit of a body.
-fn edit_in(alloc: Global, body: &[u8]) -> Result<Ask, Denied>
+fn edit_in(alloc: Global, body: &[u8], scratch: &mut Scratch) -> Result<Ask, Denied>
     ensures ask { IfOk result (λ ask. asked_by targets.Edits body.now ≡ Ok (question ask)) }
     ensures denied { IfErr result (IsDenialBy targets.Edits body.now) }
 {
-    match read_edit(alloc, body) {
+    match read_edit(alloc, body, scratch) {
         Ok(edit) => Ok(Ask::Edit(edit)),
         Err(BodyFault::Json) => Err(Denied::Json),
         Err(BodyFault::Body(member)) => Err(Denied::Body(member)),

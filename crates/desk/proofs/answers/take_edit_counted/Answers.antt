@@ -1,9 +1,11 @@
-use Rattle.std.proofs.Common.{Err, ap}
+use Rattle.std.proofs.Common.{◌≡◌, Err, ap, false, rules}
 use Rattle.desk.specs.Answering.{told_bytes}
 use Rattle.desk.specs.declared.answers.Told.{Told}
-use Rattle.desk.proofs.AnswerLemmas.{refused_by, unwritten}
+use Rattle.desk.proofs.AnswerLemmas.{made_told, refused_by, unwritten}
 use Rattle.desk.proofs.PassingLemmas.{passes_published, passes_refused, passes_taken, publishes_none}
 use Rattle.desk.proofs.answers.take_edit_counted.Goals as goal
+use Rattle.http_api.specs.Replies.{bytes_of}
+use Rattle.http_api.specs.declared.replies.Reply.TheVariants as replies
 
 -- there was no memory for the reply, and the office was not asked
 pub returns-then-is_err-clause-passed : goal.returns-then-is_err-clause-passed
@@ -25,10 +27,15 @@ returns-clause-answered g c =
 
 pub returns-clause-unwritten : goal.returns-clause-unwritten
 returns-clause-unwritten g c =
-    unwritten c.in-Err.refusal c.refuse.result c.args.office.now.disk c.edit.new.self.disk c.refuse.ensures.fault c.in-Err.ensures.disk
+    unwritten c.in-Err.refusal c.refuse.result c.refuse.new.self.reply c.args.office.now.disk c.edit.new.self.disk c.refuse.ensures.fault c.in-Err.ensures.disk
 
 pub returns-clause-passed : goal.returns-clause-passed
 returns-clause-passed g c =
     passes_refused g.D.Disk c.args.office.now.register.history c.edit.new.self.register.history c.args.edit c.in-Err.refusal
     c.args.office.now.disk c.edit.new.self.disk c.in-Err.ensures.edited c.in-Err.ensures.counted
     (λ in_doubt is. c.in-Err.ensures.cause in_doubt (ap Err is)) c.in-Err.ensures.any_moment c.in-Err.ensures.told
+
+pub returns-in-Ok-2-clause-unwritten : goal.returns-in-Ok-2-clause-unwritten
+returns-in-Ok-2-clause-unwritten g c =
+    let made : c.make.new.self.reply ≡ bytes_of (replies.Edit c.saturating_add.result false) = search rules in
+    made_told c.made_for.result c.make.new.self.reply c.saturating_add.result false c.args.office.now.disk c.edit.new.self.disk c.made_for.ensures.made made

@@ -9,7 +9,7 @@ use Rattle.edit_bodies.specs.declared.kinds.Kind.{Kind}
 use Rattle.edit_bodies.specs.declared.members.Member.TheVariants as named
 use Rattle.edits.specs.declared.content.What.{What}
 use Rattle.fixed_units.specs.Quantities.{SiteNumber}
-use Rattle.serde_json.specs.View.{members_view}
+use Rattle.edit_bodies.specs.Trees.{left}
 
 -- what is read after each member
 abbrev after_what : Kind → List ℕ → List ℕ → SiteNumber → What → Reader Parts
@@ -30,63 +30,63 @@ after_kind kind = required named.By by_of >>= after_by kind
 pub returns-in_err-kind : goal.returns-in_err-kind
 returns-in_err-kind c =
     let same : c.from_residual.result ≡ Err c.in_err-kind.field-0.0 = search rules in
-    not_made (members_view c.args.fields.now.entries) (members_view c.take_kind.new.fields.entries) c.in_err-kind.field-0.0 c.from_residual.result same
-    (stopped (required named.Kind kind_of) after_kind (members_view c.args.fields.now.entries) (members_view c.take_kind.new.fields.entries) (members_view c.take_kind.new.fields.entries) c.in_err-kind.field-0.0 c.in_err-kind.ensures)
+    not_made (left c.args.fields.now) (left c.take_kind.new.fields) c.in_err-kind.field-0.0 c.from_residual.result same
+    (stopped (required named.Kind kind_of) after_kind (left c.args.fields.now) (left c.take_kind.new.fields) (left c.take_kind.new.fields) c.in_err-kind.field-0.0 c.in_err-kind.ensures)
 
 pub returns-in_err-by : goal.returns-in_err-by
 returns-in_err-by c =
     let same : c.from_residual-in_err-by.result ≡ Err c.in_err-by.field-0.0 = search rules in
-    not_made (members_view c.args.fields.now.entries) (members_view c.take_by.new.fields.entries) c.in_err-by.field-0.0 c.from_residual-in_err-by.result same
-    (read_on (required named.Kind kind_of) after_kind (members_view c.args.fields.now.entries) (members_view c.take_kind.new.fields.entries) (members_view c.take_by.new.fields.entries) c.in_ok-kind.kind (Err c.in_err-by.field-0.0) c.in_ok-kind.ensures
-    (stopped (required named.By by_of) (after_by c.in_ok-kind.kind) (members_view c.take_kind.new.fields.entries) (members_view c.take_by.new.fields.entries) (members_view c.take_by.new.fields.entries) c.in_err-by.field-0.0 c.in_err-by.ensures))
+    not_made (left c.args.fields.now) (left c.take_by.new.fields) c.in_err-by.field-0.0 c.from_residual-in_err-by.result same
+    (read_on (required named.Kind kind_of) after_kind (left c.args.fields.now) (left c.take_kind.new.fields) (left c.take_by.new.fields) c.in_ok-kind.kind (Err c.in_err-by.field-0.0) c.in_ok-kind.ensures
+    (stopped (required named.By by_of) (after_by c.in_ok-kind.kind) (left c.take_kind.new.fields) (left c.take_by.new.fields) (left c.take_by.new.fields) c.in_err-by.field-0.0 c.in_err-by.ensures))
 
 pub returns-in_err-reference : goal.returns-in_err-reference
 returns-in_err-reference c =
     let same : c.from_residual-in_err-reference.result ≡ Err c.in_err-reference.field-0.0 = search rules in
-    not_made (members_view c.args.fields.now.entries) (members_view c.take_reference.new.fields.entries) c.in_err-reference.field-0.0 c.from_residual-in_err-reference.result same
-    (read_on (required named.Kind kind_of) after_kind (members_view c.args.fields.now.entries) (members_view c.take_kind.new.fields.entries) (members_view c.take_reference.new.fields.entries) c.in_ok-kind.kind (Err c.in_err-reference.field-0.0) c.in_ok-kind.ensures
-    (read_on (required named.By by_of) (after_by c.in_ok-kind.kind) (members_view c.take_kind.new.fields.entries) (members_view c.take_by.new.fields.entries) (members_view c.take_reference.new.fields.entries) c.in_ok-by.by (Err c.in_err-reference.field-0.0) c.in_ok-by.ensures
-    (stopped (required named.Ref reference_of) (after_reference c.in_ok-kind.kind c.in_ok-by.by) (members_view c.take_by.new.fields.entries) (members_view c.take_reference.new.fields.entries) (members_view c.take_reference.new.fields.entries) c.in_err-reference.field-0.0 c.in_err-reference.ensures)))
+    not_made (left c.args.fields.now) (left c.take_reference.new.fields) c.in_err-reference.field-0.0 c.from_residual-in_err-reference.result same
+    (read_on (required named.Kind kind_of) after_kind (left c.args.fields.now) (left c.take_kind.new.fields) (left c.take_reference.new.fields) c.in_ok-kind.kind (Err c.in_err-reference.field-0.0) c.in_ok-kind.ensures
+    (read_on (required named.By by_of) (after_by c.in_ok-kind.kind) (left c.take_kind.new.fields) (left c.take_by.new.fields) (left c.take_reference.new.fields) c.in_ok-by.by (Err c.in_err-reference.field-0.0) c.in_ok-by.ensures
+    (stopped (required named.Ref reference_of) (after_reference c.in_ok-kind.kind c.in_ok-by.by) (left c.take_by.new.fields) (left c.take_reference.new.fields) (left c.take_reference.new.fields) c.in_err-reference.field-0.0 c.in_err-reference.ensures)))
 
 pub returns-in_err-site : goal.returns-in_err-site
 returns-in_err-site c =
     let same : c.from_residual-in_err-site.result ≡ Err c.in_err-site.field-0.0 = search rules in
-    not_made (members_view c.args.fields.now.entries) (members_view c.take_site.new.fields.entries) c.in_err-site.field-0.0 c.from_residual-in_err-site.result same
-    (read_on (required named.Kind kind_of) after_kind (members_view c.args.fields.now.entries) (members_view c.take_kind.new.fields.entries) (members_view c.take_site.new.fields.entries) c.in_ok-kind.kind (Err c.in_err-site.field-0.0) c.in_ok-kind.ensures
-    (read_on (required named.By by_of) (after_by c.in_ok-kind.kind) (members_view c.take_kind.new.fields.entries) (members_view c.take_by.new.fields.entries) (members_view c.take_site.new.fields.entries) c.in_ok-by.by (Err c.in_err-site.field-0.0) c.in_ok-by.ensures
-    (read_on (required named.Ref reference_of) (after_reference c.in_ok-kind.kind c.in_ok-by.by) (members_view c.take_by.new.fields.entries) (members_view c.take_reference.new.fields.entries) (members_view c.take_site.new.fields.entries) c.in_ok-reference.reference (Err c.in_err-site.field-0.0) c.in_ok-reference.ensures
-    (stopped (required named.Site site_of) (after_site c.in_ok-kind.kind c.in_ok-by.by c.in_ok-reference.reference) (members_view c.take_reference.new.fields.entries) (members_view c.take_site.new.fields.entries) (members_view c.take_site.new.fields.entries) c.in_err-site.field-0.0 c.in_err-site.ensures))))
+    not_made (left c.args.fields.now) (left c.take_site.new.fields) c.in_err-site.field-0.0 c.from_residual-in_err-site.result same
+    (read_on (required named.Kind kind_of) after_kind (left c.args.fields.now) (left c.take_kind.new.fields) (left c.take_site.new.fields) c.in_ok-kind.kind (Err c.in_err-site.field-0.0) c.in_ok-kind.ensures
+    (read_on (required named.By by_of) (after_by c.in_ok-kind.kind) (left c.take_kind.new.fields) (left c.take_by.new.fields) (left c.take_site.new.fields) c.in_ok-by.by (Err c.in_err-site.field-0.0) c.in_ok-by.ensures
+    (read_on (required named.Ref reference_of) (after_reference c.in_ok-kind.kind c.in_ok-by.by) (left c.take_by.new.fields) (left c.take_reference.new.fields) (left c.take_site.new.fields) c.in_ok-reference.reference (Err c.in_err-site.field-0.0) c.in_ok-reference.ensures
+    (stopped (required named.Site site_of) (after_site c.in_ok-kind.kind c.in_ok-by.by c.in_ok-reference.reference) (left c.take_reference.new.fields) (left c.take_site.new.fields) (left c.take_site.new.fields) c.in_err-site.field-0.0 c.in_err-site.ensures))))
 
 pub returns-in_err-what : goal.returns-in_err-what
 returns-in_err-what c =
     let same : c.from_residual-in_err-what.result ≡ Err c.in_err-what.field-0.0 = search rules in
-    not_made (members_view c.args.fields.now.entries) (members_view c.take_what.new.fields.entries) c.in_err-what.field-0.0 c.from_residual-in_err-what.result same
-    (read_on (required named.Kind kind_of) after_kind (members_view c.args.fields.now.entries) (members_view c.take_kind.new.fields.entries) (members_view c.take_what.new.fields.entries) c.in_ok-kind.kind (Err c.in_err-what.field-0.0) c.in_ok-kind.ensures
-    (read_on (required named.By by_of) (after_by c.in_ok-kind.kind) (members_view c.take_kind.new.fields.entries) (members_view c.take_by.new.fields.entries) (members_view c.take_what.new.fields.entries) c.in_ok-by.by (Err c.in_err-what.field-0.0) c.in_ok-by.ensures
-    (read_on (required named.Ref reference_of) (after_reference c.in_ok-kind.kind c.in_ok-by.by) (members_view c.take_by.new.fields.entries) (members_view c.take_reference.new.fields.entries) (members_view c.take_what.new.fields.entries) c.in_ok-reference.reference (Err c.in_err-what.field-0.0) c.in_ok-reference.ensures
-    (read_on (required named.Site site_of) (after_site c.in_ok-kind.kind c.in_ok-by.by c.in_ok-reference.reference) (members_view c.take_reference.new.fields.entries) (members_view c.take_site.new.fields.entries) (members_view c.take_what.new.fields.entries) c.in_ok-site.site (Err c.in_err-what.field-0.0) c.in_ok-site.ensures
-    (stopped (row c.in_ok-kind.kind) (after_what c.in_ok-kind.kind c.in_ok-by.by c.in_ok-reference.reference c.in_ok-site.site) (members_view c.take_site.new.fields.entries) (members_view c.take_what.new.fields.entries) (members_view c.take_what.new.fields.entries) c.in_err-what.field-0.0 c.in_err-what.ensures.read)))))
+    not_made (left c.args.fields.now) (left c.take_what.new.fields) c.in_err-what.field-0.0 c.from_residual-in_err-what.result same
+    (read_on (required named.Kind kind_of) after_kind (left c.args.fields.now) (left c.take_kind.new.fields) (left c.take_what.new.fields) c.in_ok-kind.kind (Err c.in_err-what.field-0.0) c.in_ok-kind.ensures
+    (read_on (required named.By by_of) (after_by c.in_ok-kind.kind) (left c.take_kind.new.fields) (left c.take_by.new.fields) (left c.take_what.new.fields) c.in_ok-by.by (Err c.in_err-what.field-0.0) c.in_ok-by.ensures
+    (read_on (required named.Ref reference_of) (after_reference c.in_ok-kind.kind c.in_ok-by.by) (left c.take_by.new.fields) (left c.take_reference.new.fields) (left c.take_what.new.fields) c.in_ok-reference.reference (Err c.in_err-what.field-0.0) c.in_ok-reference.ensures
+    (read_on (required named.Site site_of) (after_site c.in_ok-kind.kind c.in_ok-by.by c.in_ok-reference.reference) (left c.take_reference.new.fields) (left c.take_site.new.fields) (left c.take_what.new.fields) c.in_ok-site.site (Err c.in_err-what.field-0.0) c.in_ok-site.ensures
+    (stopped (row c.in_ok-kind.kind) (after_what c.in_ok-kind.kind c.in_ok-by.by c.in_ok-reference.reference c.in_ok-site.site) (left c.take_site.new.fields) (left c.take_what.new.fields) (left c.take_what.new.fields) c.in_err-what.field-0.0 c.in_err-what.ensures.read)))))
 
 pub returns-then-not-is_none_left : goal.returns-then-not-is_none_left
 returns-then-not-is_none_left c =
-    let left : c.is_none_left.result ≡ false = grind arith in
-    further (members_view c.args.fields.now.entries) (members_view c.take_what.new.fields.entries) (record { by = c.in_ok-by.by; reference = c.in_ok-reference.reference; site = c.in_ok-site.site; what = c.in_ok-what.what })
-    (read_on (required named.Kind kind_of) after_kind (members_view c.args.fields.now.entries) (members_view c.take_kind.new.fields.entries) (members_view c.take_what.new.fields.entries) c.in_ok-kind.kind (Ok (record { by = c.in_ok-by.by; reference = c.in_ok-reference.reference; site = c.in_ok-site.site; what = c.in_ok-what.what })) c.in_ok-kind.ensures
-    (read_on (required named.By by_of) (after_by c.in_ok-kind.kind) (members_view c.take_kind.new.fields.entries) (members_view c.take_by.new.fields.entries) (members_view c.take_what.new.fields.entries) c.in_ok-by.by (Ok (record { by = c.in_ok-by.by; reference = c.in_ok-reference.reference; site = c.in_ok-site.site; what = c.in_ok-what.what })) c.in_ok-by.ensures
-    (read_on (required named.Ref reference_of) (after_reference c.in_ok-kind.kind c.in_ok-by.by) (members_view c.take_by.new.fields.entries) (members_view c.take_reference.new.fields.entries) (members_view c.take_what.new.fields.entries) c.in_ok-reference.reference (Ok (record { by = c.in_ok-by.by; reference = c.in_ok-reference.reference; site = c.in_ok-site.site; what = c.in_ok-what.what })) c.in_ok-reference.ensures
-    (read_on (required named.Site site_of) (after_site c.in_ok-kind.kind c.in_ok-by.by c.in_ok-reference.reference) (members_view c.take_reference.new.fields.entries) (members_view c.take_site.new.fields.entries) (members_view c.take_what.new.fields.entries) c.in_ok-site.site (Ok (record { by = c.in_ok-by.by; reference = c.in_ok-reference.reference; site = c.in_ok-site.site; what = c.in_ok-what.what })) c.in_ok-site.ensures
-    (read_on (row c.in_ok-kind.kind) (after_what c.in_ok-kind.kind c.in_ok-by.by c.in_ok-reference.reference c.in_ok-site.site) (members_view c.take_site.new.fields.entries) (members_view c.take_what.new.fields.entries) (members_view c.take_what.new.fields.entries) c.in_ok-what.what (Ok (record { by = c.in_ok-by.by; reference = c.in_ok-reference.reference; site = c.in_ok-site.site; what = c.in_ok-what.what })) c.in_ok-what.ensures.read
+    let remains : c.is_none_left.result ≡ false = grind arith in
+    further (left c.args.fields.now) (left c.take_what.new.fields) (record { by = c.in_ok-by.by; reference = c.in_ok-reference.reference; site = c.in_ok-site.site; what = c.in_ok-what.what })
+    (read_on (required named.Kind kind_of) after_kind (left c.args.fields.now) (left c.take_kind.new.fields) (left c.take_what.new.fields) c.in_ok-kind.kind (Ok (record { by = c.in_ok-by.by; reference = c.in_ok-reference.reference; site = c.in_ok-site.site; what = c.in_ok-what.what })) c.in_ok-kind.ensures
+    (read_on (required named.By by_of) (after_by c.in_ok-kind.kind) (left c.take_kind.new.fields) (left c.take_by.new.fields) (left c.take_what.new.fields) c.in_ok-by.by (Ok (record { by = c.in_ok-by.by; reference = c.in_ok-reference.reference; site = c.in_ok-site.site; what = c.in_ok-what.what })) c.in_ok-by.ensures
+    (read_on (required named.Ref reference_of) (after_reference c.in_ok-kind.kind c.in_ok-by.by) (left c.take_by.new.fields) (left c.take_reference.new.fields) (left c.take_what.new.fields) c.in_ok-reference.reference (Ok (record { by = c.in_ok-by.by; reference = c.in_ok-reference.reference; site = c.in_ok-site.site; what = c.in_ok-what.what })) c.in_ok-reference.ensures
+    (read_on (required named.Site site_of) (after_site c.in_ok-kind.kind c.in_ok-by.by c.in_ok-reference.reference) (left c.take_reference.new.fields) (left c.take_site.new.fields) (left c.take_what.new.fields) c.in_ok-site.site (Ok (record { by = c.in_ok-by.by; reference = c.in_ok-reference.reference; site = c.in_ok-site.site; what = c.in_ok-what.what })) c.in_ok-site.ensures
+    (read_on (row c.in_ok-kind.kind) (after_what c.in_ok-kind.kind c.in_ok-by.by c.in_ok-reference.reference c.in_ok-site.site) (left c.take_site.new.fields) (left c.take_what.new.fields) (left c.take_what.new.fields) c.in_ok-what.what (Ok (record { by = c.in_ok-by.by; reference = c.in_ok-reference.reference; site = c.in_ok-site.site; what = c.in_ok-what.what })) c.in_ok-what.ensures.read
     refl)))))
-    (sym c.is_none_left.ensures ∙ left)
+    (sym c.is_none_left.ensures ∙ remains)
 
 pub returns : goal.returns
 returns c =
-    let left : c.is_none_left.result ≡ true = grind arith in
-    made (members_view c.args.fields.now.entries) (members_view c.take_what.new.fields.entries) (record { by = c.in_ok-by.by; reference = c.in_ok-reference.reference; site = c.in_ok-site.site; what = c.in_ok-what.what })
-    (read_on (required named.Kind kind_of) after_kind (members_view c.args.fields.now.entries) (members_view c.take_kind.new.fields.entries) (members_view c.take_what.new.fields.entries) c.in_ok-kind.kind (Ok (record { by = c.in_ok-by.by; reference = c.in_ok-reference.reference; site = c.in_ok-site.site; what = c.in_ok-what.what })) c.in_ok-kind.ensures
-    (read_on (required named.By by_of) (after_by c.in_ok-kind.kind) (members_view c.take_kind.new.fields.entries) (members_view c.take_by.new.fields.entries) (members_view c.take_what.new.fields.entries) c.in_ok-by.by (Ok (record { by = c.in_ok-by.by; reference = c.in_ok-reference.reference; site = c.in_ok-site.site; what = c.in_ok-what.what })) c.in_ok-by.ensures
-    (read_on (required named.Ref reference_of) (after_reference c.in_ok-kind.kind c.in_ok-by.by) (members_view c.take_by.new.fields.entries) (members_view c.take_reference.new.fields.entries) (members_view c.take_what.new.fields.entries) c.in_ok-reference.reference (Ok (record { by = c.in_ok-by.by; reference = c.in_ok-reference.reference; site = c.in_ok-site.site; what = c.in_ok-what.what })) c.in_ok-reference.ensures
-    (read_on (required named.Site site_of) (after_site c.in_ok-kind.kind c.in_ok-by.by c.in_ok-reference.reference) (members_view c.take_reference.new.fields.entries) (members_view c.take_site.new.fields.entries) (members_view c.take_what.new.fields.entries) c.in_ok-site.site (Ok (record { by = c.in_ok-by.by; reference = c.in_ok-reference.reference; site = c.in_ok-site.site; what = c.in_ok-what.what })) c.in_ok-site.ensures
-    (read_on (row c.in_ok-kind.kind) (after_what c.in_ok-kind.kind c.in_ok-by.by c.in_ok-reference.reference c.in_ok-site.site) (members_view c.take_site.new.fields.entries) (members_view c.take_what.new.fields.entries) (members_view c.take_what.new.fields.entries) c.in_ok-what.what (Ok (record { by = c.in_ok-by.by; reference = c.in_ok-reference.reference; site = c.in_ok-site.site; what = c.in_ok-what.what })) c.in_ok-what.ensures.read
+    let remains : c.is_none_left.result ≡ true = grind arith in
+    made (left c.args.fields.now) (left c.take_what.new.fields) (record { by = c.in_ok-by.by; reference = c.in_ok-reference.reference; site = c.in_ok-site.site; what = c.in_ok-what.what })
+    (read_on (required named.Kind kind_of) after_kind (left c.args.fields.now) (left c.take_kind.new.fields) (left c.take_what.new.fields) c.in_ok-kind.kind (Ok (record { by = c.in_ok-by.by; reference = c.in_ok-reference.reference; site = c.in_ok-site.site; what = c.in_ok-what.what })) c.in_ok-kind.ensures
+    (read_on (required named.By by_of) (after_by c.in_ok-kind.kind) (left c.take_kind.new.fields) (left c.take_by.new.fields) (left c.take_what.new.fields) c.in_ok-by.by (Ok (record { by = c.in_ok-by.by; reference = c.in_ok-reference.reference; site = c.in_ok-site.site; what = c.in_ok-what.what })) c.in_ok-by.ensures
+    (read_on (required named.Ref reference_of) (after_reference c.in_ok-kind.kind c.in_ok-by.by) (left c.take_by.new.fields) (left c.take_reference.new.fields) (left c.take_what.new.fields) c.in_ok-reference.reference (Ok (record { by = c.in_ok-by.by; reference = c.in_ok-reference.reference; site = c.in_ok-site.site; what = c.in_ok-what.what })) c.in_ok-reference.ensures
+    (read_on (required named.Site site_of) (after_site c.in_ok-kind.kind c.in_ok-by.by c.in_ok-reference.reference) (left c.take_reference.new.fields) (left c.take_site.new.fields) (left c.take_what.new.fields) c.in_ok-site.site (Ok (record { by = c.in_ok-by.by; reference = c.in_ok-reference.reference; site = c.in_ok-site.site; what = c.in_ok-what.what })) c.in_ok-site.ensures
+    (read_on (row c.in_ok-kind.kind) (after_what c.in_ok-kind.kind c.in_ok-by.by c.in_ok-reference.reference c.in_ok-site.site) (left c.take_site.new.fields) (left c.take_what.new.fields) (left c.take_what.new.fields) c.in_ok-what.what (Ok (record { by = c.in_ok-by.by; reference = c.in_ok-reference.reference; site = c.in_ok-site.site; what = c.in_ok-what.what })) c.in_ok-what.ensures.read
     refl)))))
-    (sym c.is_none_left.ensures ∙ left)
+    (sym c.is_none_left.ensures ∙ remains)

@@ -1,9 +1,9 @@
-use Rattle.std.proofs.Common.{◌≡◌, Some, None, Err, sym, ap, ◌∙◌, rules}
+use Rattle.std.proofs.Common.{◌≡◌, None, Err, sym, ap, ◌∙◌, rules}
 use Rattle.edit_bodies.proofs.AnswerLemmas.{no_value, of_value, edit_told, json_told, member_told}
 use Rattle.edit_bodies.proofs.bodies.read_edit.Goals as goal
 use Rattle.edit_bodies.specs.declared.faults.BodyFault.TheVariants.{Json, Body}
 use Rattle.edit_bodies.specs.declared.members.Member.TheVariants.{Kind}
-use Rattle.serde_json.specs.View.{view}
+use Rattle.edit_bodies.specs.Trees.{stated}
 
 pub returns-in_err-value-clause-json : goal.returns-in_err-value-clause-json
 returns-in_err-value-clause-json c is =
@@ -22,16 +22,16 @@ returns-in_err-value-clause-member c which is =
 pub returns-in_default-clause-member : goal.returns-in_default-clause-member
 returns-in_default-clause-member c which is =
     let named : Kind ≡ which = cc in
-    of_value c.args.body.now (view c.in_ok-value.value) None c.in_ok-value.ensures.value (sym c.in_default.ensures) ∙ ap (λ m. Err (Body m)) named
+    of_value c.args.body.now (stated c.in_ok-value.value) None c.in_ok-value.ensures.value (sym c.in_default.ensures) ∙ ap (λ m. Err (Body m)) named
 
 pub returns-clause-edit : goal.returns-clause-edit
 returns-clause-edit c =
-    edit_told c.args.body.now _ c.edit_from.result (of_value c.args.body.now (view c.in_ok-value.value) _ c.in_ok-value.ensures.value (sym c.in-Some.ensures)) c.edit_from.ensures
+    edit_told c.args.body.now _ c.edit_from.result (of_value c.args.body.now (stated c.in_ok-value.value) _ c.in_ok-value.ensures.value (sym c.in-Some.ensures)) c.edit_from.ensures
 
 pub returns-clause-json : goal.returns-clause-json
 returns-clause-json c =
-    json_told c.args.body.now _ c.edit_from.result (of_value c.args.body.now (view c.in_ok-value.value) _ c.in_ok-value.ensures.value (sym c.in-Some.ensures)) c.edit_from.ensures
+    json_told c.args.body.now _ c.edit_from.result (of_value c.args.body.now (stated c.in_ok-value.value) _ c.in_ok-value.ensures.value (sym c.in-Some.ensures)) c.edit_from.ensures
 
 pub returns-clause-member : goal.returns-clause-member
 returns-clause-member c =
-    member_told c.args.body.now _ c.edit_from.result (of_value c.args.body.now (view c.in_ok-value.value) _ c.in_ok-value.ensures.value (sym c.in-Some.ensures)) c.edit_from.ensures
+    member_told c.args.body.now _ c.edit_from.result (of_value c.args.body.now (stated c.in_ok-value.value) _ c.in_ok-value.ensures.value (sym c.in-Some.ensures)) c.edit_from.ensures

@@ -8,7 +8,7 @@ use Rattle.edit_bodies.specs.declared.kinds.Kind.TheVariants as kinds
 use Rattle.edit_bodies.specs.declared.members.Member.TheVariants.{Name, Gap, StageArray, DischargeArray}
 use Rattle.edits.specs.declared.content.What.{What}
 use Rattle.edits.specs.declared.content.What.TheVariants.{SetStation}
-use Rattle.serde_json.specs.View.{members_view}
+use Rattle.edit_bodies.specs.Trees.{left}
 
 -- what is read after each member
 abbrev after_discharge_array : List ℕ → ℕ → List ℕ → List ℕ → Reader What
@@ -26,37 +26,37 @@ after_name name = required Gap gap_of >>= after_gap name
 pub returns-in_err-name-clause-read : goal.returns-in_err-name-clause-read
 returns-in_err-name-clause-read c =
     let same : c.from_residual.result ≡ Err c.in_err-name.field-0.0 = search rules in
-    same_answer (row kinds.SetStation) (members_view c.args.fields.now.entries) (members_view c.take_name.new.fields.entries) c.in_err-name.field-0.0 c.from_residual.result same
-    (stopped (required Name name_of) after_name (members_view c.args.fields.now.entries) (members_view c.take_name.new.fields.entries) (members_view c.take_name.new.fields.entries) c.in_err-name.field-0.0 c.in_err-name.ensures.read)
+    same_answer (row kinds.SetStation) (left c.args.fields.now) (left c.take_name.new.fields) c.in_err-name.field-0.0 c.from_residual.result same
+    (stopped (required Name name_of) after_name (left c.args.fields.now) (left c.take_name.new.fields) (left c.take_name.new.fields) c.in_err-name.field-0.0 c.in_err-name.ensures.read)
 
 pub returns-in_err-gap-clause-read : goal.returns-in_err-gap-clause-read
 returns-in_err-gap-clause-read c =
     let same : c.from_residual-in_err-gap.result ≡ Err c.in_err-gap.field-0.0 = search rules in
-    same_answer (row kinds.SetStation) (members_view c.args.fields.now.entries) (members_view c.take_gap.new.fields.entries) c.in_err-gap.field-0.0 c.from_residual-in_err-gap.result same
-    (read_on (required Name name_of) after_name (members_view c.args.fields.now.entries) (members_view c.take_name.new.fields.entries) (members_view c.take_gap.new.fields.entries) c.in_ok-name.name (Err c.in_err-gap.field-0.0) c.in_ok-name.ensures.read
-    (stopped (required Gap gap_of) (after_gap c.in_ok-name.name) (members_view c.take_name.new.fields.entries) (members_view c.take_gap.new.fields.entries) (members_view c.take_gap.new.fields.entries) c.in_err-gap.field-0.0 c.in_err-gap.ensures.read))
+    same_answer (row kinds.SetStation) (left c.args.fields.now) (left c.take_gap.new.fields) c.in_err-gap.field-0.0 c.from_residual-in_err-gap.result same
+    (read_on (required Name name_of) after_name (left c.args.fields.now) (left c.take_name.new.fields) (left c.take_gap.new.fields) c.in_ok-name.name (Err c.in_err-gap.field-0.0) c.in_ok-name.ensures.read
+    (stopped (required Gap gap_of) (after_gap c.in_ok-name.name) (left c.take_name.new.fields) (left c.take_gap.new.fields) (left c.take_gap.new.fields) c.in_err-gap.field-0.0 c.in_err-gap.ensures.read))
 
 pub returns-in_err-stage_array-clause-read : goal.returns-in_err-stage_array-clause-read
 returns-in_err-stage_array-clause-read c =
     let same : c.from_residual-in_err-stage_array.result ≡ Err c.in_err-stage_array.field-0.0 = search rules in
-    same_answer (row kinds.SetStation) (members_view c.args.fields.now.entries) (members_view c.take_array.new.fields.entries) c.in_err-stage_array.field-0.0 c.from_residual-in_err-stage_array.result same
-    (read_on (required Name name_of) after_name (members_view c.args.fields.now.entries) (members_view c.take_name.new.fields.entries) (members_view c.take_array.new.fields.entries) c.in_ok-name.name (Err c.in_err-stage_array.field-0.0) c.in_ok-name.ensures.read
-    (read_on (required Gap gap_of) (after_gap c.in_ok-name.name) (members_view c.take_name.new.fields.entries) (members_view c.take_gap.new.fields.entries) (members_view c.take_array.new.fields.entries) c.in_ok-gap.gap (Err c.in_err-stage_array.field-0.0) c.in_ok-gap.ensures.read
-    (stopped (required StageArray array_of) (after_stage_array c.in_ok-name.name c.in_ok-gap.gap) (members_view c.take_gap.new.fields.entries) (members_view c.take_array.new.fields.entries) (members_view c.take_array.new.fields.entries) c.in_err-stage_array.field-0.0 c.in_err-stage_array.ensures.read)))
+    same_answer (row kinds.SetStation) (left c.args.fields.now) (left c.take_array.new.fields) c.in_err-stage_array.field-0.0 c.from_residual-in_err-stage_array.result same
+    (read_on (required Name name_of) after_name (left c.args.fields.now) (left c.take_name.new.fields) (left c.take_array.new.fields) c.in_ok-name.name (Err c.in_err-stage_array.field-0.0) c.in_ok-name.ensures.read
+    (read_on (required Gap gap_of) (after_gap c.in_ok-name.name) (left c.take_name.new.fields) (left c.take_gap.new.fields) (left c.take_array.new.fields) c.in_ok-gap.gap (Err c.in_err-stage_array.field-0.0) c.in_ok-gap.ensures.read
+    (stopped (required StageArray array_of) (after_stage_array c.in_ok-name.name c.in_ok-gap.gap) (left c.take_gap.new.fields) (left c.take_array.new.fields) (left c.take_array.new.fields) c.in_err-stage_array.field-0.0 c.in_err-stage_array.ensures.read)))
 
 pub returns-in_err-discharge_array-clause-read : goal.returns-in_err-discharge_array-clause-read
 returns-in_err-discharge_array-clause-read c =
     let same : c.from_residual-in_err-discharge_array.result ≡ Err c.in_err-discharge_array.field-0.0 = search rules in
-    same_answer (row kinds.SetStation) (members_view c.args.fields.now.entries) (members_view c.take_array-2.new.fields.entries) c.in_err-discharge_array.field-0.0 c.from_residual-in_err-discharge_array.result same
-    (read_on (required Name name_of) after_name (members_view c.args.fields.now.entries) (members_view c.take_name.new.fields.entries) (members_view c.take_array-2.new.fields.entries) c.in_ok-name.name (Err c.in_err-discharge_array.field-0.0) c.in_ok-name.ensures.read
-    (read_on (required Gap gap_of) (after_gap c.in_ok-name.name) (members_view c.take_name.new.fields.entries) (members_view c.take_gap.new.fields.entries) (members_view c.take_array-2.new.fields.entries) c.in_ok-gap.gap (Err c.in_err-discharge_array.field-0.0) c.in_ok-gap.ensures.read
-    (read_on (required StageArray array_of) (after_stage_array c.in_ok-name.name c.in_ok-gap.gap) (members_view c.take_gap.new.fields.entries) (members_view c.take_array.new.fields.entries) (members_view c.take_array-2.new.fields.entries) c.in_ok-stage_array.stage_array (Err c.in_err-discharge_array.field-0.0) c.in_ok-stage_array.ensures.read
-    (stopped (required DischargeArray array_of) (after_discharge_array c.in_ok-name.name c.in_ok-gap.gap c.in_ok-stage_array.stage_array) (members_view c.take_array.new.fields.entries) (members_view c.take_array-2.new.fields.entries) (members_view c.take_array-2.new.fields.entries) c.in_err-discharge_array.field-0.0 c.in_err-discharge_array.ensures.read))))
+    same_answer (row kinds.SetStation) (left c.args.fields.now) (left c.take_array-2.new.fields) c.in_err-discharge_array.field-0.0 c.from_residual-in_err-discharge_array.result same
+    (read_on (required Name name_of) after_name (left c.args.fields.now) (left c.take_name.new.fields) (left c.take_array-2.new.fields) c.in_ok-name.name (Err c.in_err-discharge_array.field-0.0) c.in_ok-name.ensures.read
+    (read_on (required Gap gap_of) (after_gap c.in_ok-name.name) (left c.take_name.new.fields) (left c.take_gap.new.fields) (left c.take_array-2.new.fields) c.in_ok-gap.gap (Err c.in_err-discharge_array.field-0.0) c.in_ok-gap.ensures.read
+    (read_on (required StageArray array_of) (after_stage_array c.in_ok-name.name c.in_ok-gap.gap) (left c.take_gap.new.fields) (left c.take_array.new.fields) (left c.take_array-2.new.fields) c.in_ok-stage_array.stage_array (Err c.in_err-discharge_array.field-0.0) c.in_ok-stage_array.ensures.read
+    (stopped (required DischargeArray array_of) (after_discharge_array c.in_ok-name.name c.in_ok-gap.gap c.in_ok-stage_array.stage_array) (left c.take_array.new.fields) (left c.take_array-2.new.fields) (left c.take_array-2.new.fields) c.in_err-discharge_array.field-0.0 c.in_err-discharge_array.ensures.read))))
 
 pub returns-clause-read : goal.returns-clause-read
 returns-clause-read c =
-    (read_on (required Name name_of) after_name (members_view c.args.fields.now.entries) (members_view c.take_name.new.fields.entries) (members_view c.take_array-2.new.fields.entries) c.in_ok-name.name (Ok (SetStation c.in_ok-name.name c.in_ok-gap.gap c.in_ok-stage_array.stage_array c.in_ok-discharge_array.discharge_array)) c.in_ok-name.ensures.read
-    (read_on (required Gap gap_of) (after_gap c.in_ok-name.name) (members_view c.take_name.new.fields.entries) (members_view c.take_gap.new.fields.entries) (members_view c.take_array-2.new.fields.entries) c.in_ok-gap.gap (Ok (SetStation c.in_ok-name.name c.in_ok-gap.gap c.in_ok-stage_array.stage_array c.in_ok-discharge_array.discharge_array)) c.in_ok-gap.ensures.read
-    (read_on (required StageArray array_of) (after_stage_array c.in_ok-name.name c.in_ok-gap.gap) (members_view c.take_gap.new.fields.entries) (members_view c.take_array.new.fields.entries) (members_view c.take_array-2.new.fields.entries) c.in_ok-stage_array.stage_array (Ok (SetStation c.in_ok-name.name c.in_ok-gap.gap c.in_ok-stage_array.stage_array c.in_ok-discharge_array.discharge_array)) c.in_ok-stage_array.ensures.read
-    (read_on (required DischargeArray array_of) (after_discharge_array c.in_ok-name.name c.in_ok-gap.gap c.in_ok-stage_array.stage_array) (members_view c.take_array.new.fields.entries) (members_view c.take_array-2.new.fields.entries) (members_view c.take_array-2.new.fields.entries) c.in_ok-discharge_array.discharge_array (Ok (SetStation c.in_ok-name.name c.in_ok-gap.gap c.in_ok-stage_array.stage_array c.in_ok-discharge_array.discharge_array)) c.in_ok-discharge_array.ensures.read
+    (read_on (required Name name_of) after_name (left c.args.fields.now) (left c.take_name.new.fields) (left c.take_array-2.new.fields) c.in_ok-name.name (Ok (SetStation c.in_ok-name.name c.in_ok-gap.gap c.in_ok-stage_array.stage_array c.in_ok-discharge_array.discharge_array)) c.in_ok-name.ensures.read
+    (read_on (required Gap gap_of) (after_gap c.in_ok-name.name) (left c.take_name.new.fields) (left c.take_gap.new.fields) (left c.take_array-2.new.fields) c.in_ok-gap.gap (Ok (SetStation c.in_ok-name.name c.in_ok-gap.gap c.in_ok-stage_array.stage_array c.in_ok-discharge_array.discharge_array)) c.in_ok-gap.ensures.read
+    (read_on (required StageArray array_of) (after_stage_array c.in_ok-name.name c.in_ok-gap.gap) (left c.take_gap.new.fields) (left c.take_array.new.fields) (left c.take_array-2.new.fields) c.in_ok-stage_array.stage_array (Ok (SetStation c.in_ok-name.name c.in_ok-gap.gap c.in_ok-stage_array.stage_array c.in_ok-discharge_array.discharge_array)) c.in_ok-stage_array.ensures.read
+    (read_on (required DischargeArray array_of) (after_discharge_array c.in_ok-name.name c.in_ok-gap.gap c.in_ok-stage_array.stage_array) (left c.take_array.new.fields) (left c.take_array-2.new.fields) (left c.take_array-2.new.fields) c.in_ok-discharge_array.discharge_array (Ok (SetStation c.in_ok-name.name c.in_ok-gap.gap c.in_ok-stage_array.stage_array c.in_ok-discharge_array.discharge_array)) c.in_ok-discharge_array.ensures.read
     refl))))

@@ -1,11 +1,11 @@
 use Rattle.std.proofs.Common.{◌≡◌, length, option_and_then, sym, ap, ◌∙◌, arith}
 use Rattle.edit_bodies.proofs.RowLemmas.{wrong_row}
 use Rattle.edit_bodies.proofs.reading_rows.reading_in.Goals as goal
-use Rattle.edit_bodies.proofs.reading_rows.reading_in.Goals.{in_default-via-then-as_slice-lt2, in_default-via-else-as_slice-lt2+else-this-lt3}
+use Rattle.edit_bodies.proofs.reading_rows.reading_in.Goals.{in_default-via-then-branch-lt2, in_default-via-else-branch-lt2+else-this-lt3}
 use Rattle.edit_bodies.specs.Grammars.{reading_of_row}
 
 pub returns-in_default-clause-value : goal.returns-in_default-clause-value
 returns-in_default-clause-value c =
-    let other : length c.as_slice.result.now ≡ 2 → ⊥ =
-    elim c.in_default.branch [ in_default-via-then-as_slice-lt2 w ↦ λ e. grind arith | in_default-via-else-as_slice-lt2+else-this-lt3 w ↦ λ e. grind arith ] in
-    sym (ap (option_and_then reading_of_row) (sym c.in_ok-as_array.ensures) ∙ wrong_row c.in_ok-as_array.field-0.now.items (λ e. other (ap length c.as_slice.ensures.value ∙ e)))
+    let other : length c.in_ok-items_in.field-0.now ≡ 2 → ⊥ =
+    elim c.in_default.branch [ in_default-via-then-branch-lt2 w ↦ λ e. grind arith | in_default-via-else-branch-lt2+else-this-lt3 w ↦ λ e. grind arith ] in
+    sym (ap (option_and_then reading_of_row) (sym c.in_ok-items_in.ensures) ∙ wrong_row c.in_ok-items_in.field-0.now other)

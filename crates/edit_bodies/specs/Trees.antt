@@ -1,0 +1,74 @@
+-- What serde_json states of a tree over borrowed text, where floats hold all its numbers.
+use Rattle.std.specs.Prelude.{ℕ, List, Bool, true, ◌&&◌, Option, Some, None, is_some, Vec}
+use Rattle.std.specs.Borrow.{Bor}
+use Rattle.std.specs.declared.alloc.Global.{Global}
+use Rattle.json.specs.Json as json
+use Rattle.json.specs.Value.{value_view, items_view, members_view}
+use Rattle.json.specs.declared.value.Value.{Value}
+use Rattle.serde_json.specs.Data.{Num, Data, null, boolean, number, string, array, object, Items, no_items, item, Members, no_members, put}
+use Rattle.serde_json.specs.Read.{number_of}
+
+-- a number, if a float holds it
+abbrev pub number_or_null : Option Num → Data
+number_or_null (Some n) = number n
+number_or_null None = null
+
+-- the value of a tree; of members of one name the last stays
+abbrev mutual
+  pub data_of : json.Json → Data
+  data_of json.null = null
+  data_of (json.boolean b) = boolean b
+  data_of (json.number s) = number_or_null (number_of s)
+  data_of (json.string s) = string s
+  data_of (json.array js) = array (items_of js)
+  data_of (json.object ms) = object (members_of ms no_members)
+
+  pub items_of : json.Items → Items
+  items_of json.no_items = no_items
+  items_of (json.item j js) = item (data_of j) (items_of js)
+
+  pub members_of : json.Members → Members → Members
+  members_of json.no_members found = found
+  members_of (json.member k j ms) found = members_of ms (put k (data_of j) found)
+
+-- floats hold all numbers of a tree
+abbrev mutual
+  pub is_held : json.Json → Bool
+  is_held json.null = true
+  is_held (json.boolean b) = true
+  is_held (json.number s) = is_some (number_of s)
+  is_held (json.string s) = true
+  is_held (json.array js) = are_items_held js
+  is_held (json.object ms) = are_members_held ms
+
+  pub are_items_held : json.Items → Bool
+  are_items_held json.no_items = true
+  are_items_held (json.item j js) = is_held j && are_items_held js
+
+  pub are_members_held : json.Members → Bool
+  are_members_held json.no_members = true
+  are_members_held (json.member k j ms) = is_held j && are_members_held ms
+
+-- a tree over borrowed text, and the members of one
+abbrev pub Tree : Type 0
+Tree = Value Global
+
+abbrev pub Field : Type 0
+Field = Bor (List ℕ) × Tree
+
+abbrev pub Fields : Type 0
+Fields = Vec Field Global
+
+-- what serde_json states of them
+abbrev pub stated : Tree → Data
+stated tree = data_of (value_view tree)
+
+abbrev pub items_stated : List Tree → Items
+items_stated trees = items_of (items_view trees)
+
+abbrev pub members_stated : List Field → Members
+members_stated fields = members_of (members_view fields) no_members
+
+-- the members that were not taken out yet
+abbrev pub left : Fields → Members
+left fields = members_stated fields.items

@@ -1,94 +1,87 @@
 //! Edits to compare with, and refusals.
 
 use civil_days::read_instant;
-use edit_bodies::{BodyFault, Member, read_edit};
+use edit_bodies::{BodyFault, read_edit};
 use edits::{By, Edit, Name, Ref, What};
 use fixed_units::{Flag, Micro, Reading, RoundingArray, Site, Text};
+use json::Scratch;
 use readings::ReadingList;
 use std::alloc::Global;
-use std::test::Fail;
 
-fn name(alloc: Global, bytes: &[u8]) -> Result<Name, Fail> {
-    let mut text = Text::new(alloc);
-    match text.push_slice(bytes) {
-        Ok(()) => Ok(Name::new(text).ok_or("a name")?),
-        Err(_) => Err("there is memory for a text".into()),
-    }
+/// What an edit by `AB` under `a-1` at the site 01646500 changes.
+#[derive(Clone, Copy)]
+pub enum Sent {
+    /// Adds a station of this name, five hours behind UTC, with this gap tolerance in minutes.
+    Addition(&'static str, u32),
+    /// Sets a station's name and gap tolerance.
+    Setting(&'static str, u32),
+    /// Puts a reading of so many millionths of a foot at an instant.
+    Put(&'static str, i64),
 }
 
-fn array(digits: &[u8]) -> Result<RoundingArray, Fail> {
-    Ok(RoundingArray::read(digits).ok_or("a rounding array")?)
+fn name(alloc: Global, text: &str) -> Option<Name> {
+    Name::new(Text::from_vec(text.as_bytes().to_vec(alloc).ok()?))
 }
 
-/// What adds a station, five hours behind UTC.
-pub fn addition(alloc: Global, called: &[u8], gap: u32) -> Result<What, Fail> {
-    Ok(What::AddStation {
+fn addition(alloc: Global, called: &str, gap: u32) -> Option<What> {
+    let zone = name(alloc, "-05:00")?;
+    Some(What::AddStation {
         name: name(alloc, called)?,
-        zone: name(alloc, b"-05:00")?,
+        zone,
         gap,
-        stage_array: array(b"9999999992")?,
-        discharge_array: array(b"9999999992")?,
+        stage_array: RoundingArray::STAGES,
+        discharge_array: RoundingArray::STAGES,
     })
 }
 
-/// What sets a station.
-pub fn setting(alloc: Global, called: &[u8], gap: u32) -> Result<What, Fail> {
-    Ok(What::SetStation {
+fn setting(alloc: Global, called: &str, gap: u32) -> Option<What> {
+    Some(What::SetStation {
         name: name(alloc, called)?,
         gap,
-        stage_array: array(b"9999999992")?,
-        discharge_array: array(b"9999999992")?,
+        stage_array: RoundingArray::STAGES,
+        discharge_array: RoundingArray::STAGES,
     })
 }
 
-/// What puts a reading of so many millionths of a foot.
-pub fn put(alloc: Global, at: &[u8], millionths: i64) -> Result<What, Fail> {
-    let mut list = Vec::new(alloc);
+fn put(alloc: Global, at: &str, millionths: i64) -> Option<What> {
     let reading = Reading {
-        at: read_instant(at).ok_or("a stamp")?,
-        raw: Micro::new(millionths).ok_or("a quantity")?,
+        at: read_instant(at.as_bytes())?,
+        raw: Micro::new(millionths)?,
         flag: Flag::Usable,
     };
-    match list.push(reading) {
-        Ok(()) => Ok(What::PutReadings {
-            readings: ReadingList::from_vec(list),
-        }),
-        Err(_) => Err("there is memory for a reading".into()),
+    Some(What::PutReadings {
+        readings: ReadingList::from_vec([reading].to_vec(alloc).ok()?),
+    })
+}
+
+fn what(alloc: Global, sent: &Sent) -> Option<What> {
+    match *sent {
+        Sent::Addition(called, gap) => addition(alloc, called, gap),
+        Sent::Setting(called, gap) => setting(alloc, called, gap),
+        Sent::Put(at, millionths) => put(alloc, at, millionths),
     }
 }
 
-/// The edit by `AB` under `a-1` at the site 01646500.
-fn edit(alloc: Global, what: What) -> Result<Edit, Fail> {
-    match Edit::new(
-        alloc,
-        By::new(b"AB").ok_or("initials")?,
-        Ref::new(b"a-1").ok_or("a reference")?,
-        Site::new(8, 1_646_500).ok_or("a site")?,
-        what,
-    ) {
-        Ok(edit) => Ok(edit),
-        Err(_) => Err("a lawful edit, and memory to test it".into()),
-    }
+fn edit(alloc: Global, sent: &Sent) -> Option<Edit> {
+    let by = By::new(b"AB")?;
+    let reference = Ref::new(b"a-1")?;
+    let site = Site::new(8, 1_646_500)?;
+    Edit::new(alloc, by, reference, site, what(alloc, sent)?).ok()
 }
 
-/// Whether the body is the edit by `AB` under `a-1` at the site 01646500 that changes this.
-pub fn is_read(alloc: Global, body: &[u8], what: What) -> Result<bool, Fail> {
-    let wanted = edit(alloc, what)?;
-    match read_edit(alloc, body) {
-        Ok(found) => Ok(found.is_same(&wanted)),
-        Err(_) => Ok(false),
+/// Whether the body is the edit that is sent.
+pub fn is_read(alloc: Global, body: &[u8], sent: &Sent) -> Option<bool> {
+    let wanted = edit(alloc, sent)?;
+    match read_edit(alloc, body, &mut Scratch::new(alloc)) {
+        Ok(found) => Some(found.is_same(&wanted)),
+        Err(_) => Some(false),
     }
 }
 
 /// Whether this refuses the body.
 pub fn is_refused(alloc: Global, body: &[u8], fault: BodyFault) -> bool {
-    match read_edit(alloc, body) {
+    match read_edit(alloc, body, &mut Scratch::new(alloc)) {
         Ok(_) => false,
         Err(found) => found == fault,
     }
-}
-
-/// Whether this member refuses the body.
-pub fn names(alloc: Global, body: &[u8], member: Member) -> bool {
-    is_refused(alloc, body, BodyFault::Body(member))
 }

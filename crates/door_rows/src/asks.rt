@@ -1,9 +1,9 @@
 //! Which targets there are, and their methods.
 
+use crate::dues::COUNTS;
 use std::test::Fail;
 use whole_runs::{
-    ADDED, BATCH, Due, Exchange, GET_ALONE, LENGTH_REQUIRED, NOT_FOUND, OK, POST_ALONE, expect,
-    new_journal, pass_anew, replies, run,
+    ADDED, Batch, Due, Exchange, GET_ALONE, NOT_FOUND, OK, POST_ALONE, pass_anew, pass_batches,
 };
 
 const NO_ROUTE: &str = r#"{"code":"NoRoute"}"#;
@@ -36,84 +36,57 @@ const METHODS: [Exchange; 12] = [
     ("GET /status", "", OK, r#"{"edits":0,"pending":0}"#),
 ];
 
-#[test]
-fn other_methods_are_not_allowed(rt: HostRuntime) -> Result<(), Fail> {
-    pass_anew(rt.alloc(), &METHODS)
-}
-
 /// Targets that there are not, whatever the method.
-const TARGETS: [&str; 33] = [
-    "GET /nothing",
-    "DELETE /nothing",
-    "POST /nothing",
-    "GET /",
-    "GET *",
-    "GET /first/19727",
-    "GET /status/",
-    "GET /status?",
-    "GET /status?edits",
-    "GET //status",
-    "GET /Status",
-    "GET /%73tatus",
-    "POST /edits/",
-    "POST /turns",
-    "POST /turns/",
-    "POST /turns/0",
-    "POST /turns/1001",
-    "GET /turns/1001",
-    "POST /turns/+1",
-    "POST /turns/-1",
-    "POST /turns/1.0",
-    "POST /turns/0000000001",
-    "POST /turns/1/1",
-    "GET /stations",
-    "GET /stations/",
-    "GET /stations/1646500",
-    "POST /stations/1646500",
-    "GET /stations/0000000001646500",
-    "GET /stations/0164650A",
-    "GET /stations/01646500/days",
-    "GET /stations/01646500/days/2023-02-29",
-    "DELETE /stations/01646500/days/1899-12-31",
-    "GET /stations/01646500/days/2100-01-01",
+const TARGETS: [Exchange; 33] = [
+    ("GET /nothing", "", NOT_FOUND, NO_ROUTE),
+    ("DELETE /nothing", "", NOT_FOUND, NO_ROUTE),
+    ("POST /nothing", "", NOT_FOUND, NO_ROUTE),
+    ("GET /", "", NOT_FOUND, NO_ROUTE),
+    ("GET *", "", NOT_FOUND, NO_ROUTE),
+    ("GET /first/19727", "", NOT_FOUND, NO_ROUTE),
+    ("GET /status/", "", NOT_FOUND, NO_ROUTE),
+    ("GET /status?", "", NOT_FOUND, NO_ROUTE),
+    ("GET /status?edits", "", NOT_FOUND, NO_ROUTE),
+    ("GET //status", "", NOT_FOUND, NO_ROUTE),
+    ("GET /Status", "", NOT_FOUND, NO_ROUTE),
+    ("GET /%73tatus", "", NOT_FOUND, NO_ROUTE),
+    ("POST /edits/", "", NOT_FOUND, NO_ROUTE),
+    ("POST /turns", "", NOT_FOUND, NO_ROUTE),
+    ("POST /turns/", "", NOT_FOUND, NO_ROUTE),
+    ("POST /turns/0", "", NOT_FOUND, NO_ROUTE),
+    ("POST /turns/1001", "", NOT_FOUND, NO_ROUTE),
+    ("GET /turns/1001", "", NOT_FOUND, NO_ROUTE),
+    ("POST /turns/+1", "", NOT_FOUND, NO_ROUTE),
+    ("POST /turns/-1", "", NOT_FOUND, NO_ROUTE),
+    ("POST /turns/1.0", "", NOT_FOUND, NO_ROUTE),
+    ("POST /turns/0000000001", "", NOT_FOUND, NO_ROUTE),
+    ("POST /turns/1/1", "", NOT_FOUND, NO_ROUTE),
+    ("GET /stations", "", NOT_FOUND, NO_ROUTE),
+    ("GET /stations/", "", NOT_FOUND, NO_ROUTE),
+    ("GET /stations/1646500", "", NOT_FOUND, NO_ROUTE),
+    ("POST /stations/1646500", "", NOT_FOUND, NO_ROUTE),
+    ("GET /stations/0000000001646500", "", NOT_FOUND, NO_ROUTE),
+    ("GET /stations/0164650A", "", NOT_FOUND, NO_ROUTE),
+    ("GET /stations/01646500/days", "", NOT_FOUND, NO_ROUTE),
+    (
+        "GET /stations/01646500/days/2023-02-29",
+        "",
+        NOT_FOUND,
+        NO_ROUTE,
+    ),
+    (
+        "DELETE /stations/01646500/days/1899-12-31",
+        "",
+        NOT_FOUND,
+        NO_ROUTE,
+    ),
+    (
+        "GET /stations/01646500/days/2100-01-01",
+        "",
+        NOT_FOUND,
+        NO_ROUTE,
+    ),
 ];
-
-#[test]
-fn there_is_no_route(rt: HostRuntime) -> Result<(), Fail> {
-    for target in TARGETS {
-        pass_anew(rt.alloc(), &[(target, "", NOT_FOUND, NO_ROUTE)])?;
-    }
-    Ok(())
-}
-
-/// A POST that tells no length is told so, on any target; another method has an empty body then.
-const WITHOUT_LENGTH: &[u8] = b"POST /edits HTTP/1.1\r\n\r\n\
-    POST /nothing HTTP/1.1\r\n\r\n\
-    POST /status HTTP/1.1\r\n\r\n\
-    POST /settle HTTP/1.1\r\n\r\n\
-    DELETE /settle HTTP/1.1\r\n\r\n\
-    GET /nothing HTTP/1.1\r\n\r\n\
-    GET /status HTTP/1.1\r\n\r\n";
-
-const NO_LENGTH: Due = (LENGTH_REQUIRED, r#"{"code":"NoLength"}"#);
-
-const LENGTH_DUES: [Due; 7] = [
-    NO_LENGTH,
-    NO_LENGTH,
-    NO_LENGTH,
-    NO_LENGTH,
-    (POST_ALONE, NOT_ALLOWED),
-    (NOT_FOUND, NO_ROUTE),
-    (OK, r#"{"edits":0,"pending":0}"#),
-];
-
-#[test]
-fn a_length_is_asked_for_first(rt: HostRuntime) -> Result<(), Fail> {
-    let mut cabinet = new_journal(rt.alloc())?;
-    let ran = run(rt.alloc(), &mut cabinet, BATCH, WITHOUT_LENGTH)?;
-    let due = replies(rt.alloc(), &LENGTH_DUES)?;
-    expect(&ran, 0, due.as_slice(), b"")
-}
 
 /// A station whose site has 8 digits, one of 15, and no other.
 const SITES: [Exchange; 5] = [
@@ -139,7 +112,51 @@ const SITES: [Exchange; 5] = [
     ("GET /stations/9999999999999990", "", NOT_FOUND, NO_ROUTE),
 ];
 
+const ASKS: [&[Exchange]; 3] = [&METHODS, &TARGETS, &SITES];
+
 #[test]
-fn sites_have_8_to_15_digits(rt: HostRuntime) -> Result<(), Fail> {
-    pass_anew(rt.alloc(), &SITES)
+fn targets_and_their_methods(rt: HostRuntime) -> Result<(), Fail> {
+    pass_anew(rt.alloc(), &ASKS)
+}
+
+/// A POST that tells no length is told so, on any target; another method has an empty body then.
+const WITHOUT_LENGTH: &[u8] = b"POST /edits HTTP/1.1\r\n\r\n\
+    POST /nothing HTTP/1.1\r\n\r\n\
+    POST /status HTTP/1.1\r\n\r\n\
+    POST /settle HTTP/1.1\r\n\r\n\
+    DELETE /settle HTTP/1.1\r\n\r\n\
+    GET /nothing HTTP/1.1\r\n\r\n\
+    GET /status HTTP/1.1\r\n\r\n";
+
+const NO_LENGTH: &[u8] =
+    b"HTTP/1.1 411 Length Required\r\nContent-Type: application/json\r\nContent-Length: 19\r\n\r\n{\"code\":\"NoLength\"}";
+
+const POST_ALONE_REPLY: &[u8] =
+    b"HTTP/1.1 405 Method Not Allowed\r\nContent-Type: application/json\r\nAllow: POST\r\nContent-Length: 21\r\n\r\n{\"code\":\"NotAllowed\"}";
+
+const NO_ROUTE_REPLY: &[u8] =
+    b"HTTP/1.1 404 Not Found\r\nContent-Type: application/json\r\nContent-Length: 18\r\n\r\n{\"code\":\"NoRoute\"}";
+
+/// The replies to these.
+const LENGTH_REQUIRED: Due = Due {
+    status: 0,
+    written: &[
+        NO_LENGTH,
+        NO_LENGTH,
+        NO_LENGTH,
+        NO_LENGTH,
+        POST_ALONE_REPLY,
+        NO_ROUTE_REPLY,
+        COUNTS,
+    ],
+    told: b"",
+    is_read: true,
+    left: None,
+};
+
+const LENGTHS: [Batch; 1] = [(&[WITHOUT_LENGTH], &LENGTH_REQUIRED)];
+
+#[test]
+fn a_length_is_asked_for_first(rt: HostRuntime) -> Result<(), Fail> {
+    pass_batches(rt.alloc(), &LENGTHS)
 }

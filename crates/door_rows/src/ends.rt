@@ -1,158 +1,240 @@
 //! The words of a run, and how it ends.
 
-use devices::MemoryCabinet;
-use fixed_units::{NoMemory, Text};
-use std::alloc::Global;
+use crate::dues::{COUNTED, SILENT};
 use std::test::Fail;
 use whole_runs::{
-    ADDITION, BATCH, EMPTY_JOURNAL, INIT, Ways, cabinet, expect, left, new_journal, push_message,
-    run, run_by, same,
+    BATCH, Due, INIT, NO_RECORDS, Opening, Parts, Run, STATUS, Turn, Ways, pass_in_turn,
+    pass_openings, pass_runs,
 };
 
-const WORDS: [(&[&str], u8); 17] = [
-    (BATCH, 0),
-    (&["batch", "--journal=J"], 0),
-    (&["batch", "--journal=K=J"], 5),
-    (&["batch", "--journal=-J"], 5),
-    (&["batch", "--journal=J", "--journal", "J"], 1),
-    (&["batch", "--journal", "-J"], 1),
-    (&["batch", "--journal", ""], 1),
-    (&["batch", "--journal="], 1),
-    (&["batch", "--journal"], 1),
-    (&["batch", "--journal", "J", "J"], 1),
-    (&["batch", "-journal", "J"], 1),
-    (&["batch"], 1),
-    (&["Batch", "--journal", "J"], 1),
-    (&["--journal", "J", "batch"], 1),
-    (&["--help"], 1),
-    (&[""], 1),
-    (&[], 1),
-];
+/// What is told where the run ends before it asks for input, and the status.
+const USAGE: Due = Due {
+    status: 1,
+    written: &[],
+    told: b"streamoffice: usage: init, batch, serve, stations or trial\n",
+    is_read: false,
+    left: None,
+};
 
-/// What is told of a status.
-fn told_of(status: u8) -> &'static [u8] {
-    match status {
-        0 => b"",
-        5 => b"streamoffice: not a journal\n",
-        _ => b"streamoffice: usage: init, batch, serve, stations or trial\n",
-    }
-}
+const DISK_FAULT: Due = Due {
+    status: 4,
+    written: &[],
+    told: b"streamoffice: disk fault\n",
+    is_read: false,
+    left: None,
+};
+
+const NOT_A_JOURNAL: Due = Due {
+    status: 5,
+    written: &[],
+    told: b"streamoffice: not a journal\n",
+    is_read: false,
+    left: None,
+};
+
+const JOURNAL_EXISTS: Due = Due {
+    status: 8,
+    written: &[],
+    told: b"streamoffice: journal exists\n",
+    is_read: false,
+    left: None,
+};
+
+const MADE: Due = Due {
+    status: 0,
+    written: &[],
+    told: b"",
+    is_read: false,
+    left: None,
+};
+
+/// Words, over a journal of no records.
+const WORDS: [Opening; 17] = [
+    (BATCH, NO_RECORDS, &COUNTED),
+    (&["batch", "--journal=J"], NO_RECORDS, &COUNTED),
+    (&["batch", "--journal=K=J"], NO_RECORDS, &NOT_A_JOURNAL),
+    (&["batch", "--journal=-J"], NO_RECORDS, &NOT_A_JOURNAL),
+    (
+        &["batch", "--journal=J", "--journal", "J"],
+        NO_RECORDS,
+        &USAGE,
+    ),
+    (&["batch", "--journal", "-J"], NO_RECORDS, &USAGE),
+    (&["batch", "--journal", ""], NO_RECORDS, &USAGE),
+    (&["batch", "--journal="], NO_RECORDS, &USAGE),
+    (&["batch", "--journal"], NO_RECORDS, &USAGE),
+    (&["batch", "--journal", "J", "J"], NO_RECORDS, &USAGE),
+    (&["batch", "-journal", "J"], NO_RECORDS, &USAGE),
+    (&["batch"], NO_RECORDS, &USAGE),
+    (&["Batch", "--journal", "J"], NO_RECORDS, &USAGE),
+    (&["--journal", "J", "batch"], NO_RECORDS, &USAGE),
+    (&["--help"], NO_RECORDS, &USAGE),
+    (&[""], NO_RECORDS, &USAGE),
+    (&[], NO_RECORDS, &USAGE),
+];
 
 #[test]
 fn words(rt: HostRuntime) -> Result<(), Fail> {
-    for (words, status) in WORDS {
-        let mut cabinet = new_journal(rt.alloc())?;
-        let ran = run(rt.alloc(), &mut cabinet, words, b"")?;
-        expect(&ran, status, b"", told_of(status))?;
-        same(status, &left(&cabinet), &Some(EMPTY_JOURNAL))?;
-    }
-    Ok(())
+    pass_openings(rt.alloc(), &WORDS)
 }
 
 /// A name under which nothing stands, a journal made under it, and the runs behind it.
+const MAKING: [Turn; 4] = [
+    (BATCH, b"", &NOT_A_JOURNAL),
+    (INIT, b"", &MADE),
+    (INIT, b"", &JOURNAL_EXISTS),
+    (BATCH, b"", &SILENT),
+];
+
 #[test]
 fn a_journal_is_made_and_served(rt: HostRuntime) -> Result<(), Fail> {
-    let mut cabinet = MemoryCabinet::new(rt.alloc(), Vec::new(rt.alloc()));
-    let runs: [(&[&str], u8, &[u8]); 4] = [
-        (BATCH, 5, b"streamoffice: not a journal\n"),
-        (INIT, 0, b""),
-        (INIT, 8, b"streamoffice: journal exists\n"),
-        (BATCH, 0, b""),
-    ];
-    for (words, status, told) in runs {
-        let ran = run(rt.alloc(), &mut cabinet, words, b"")?;
-        expect(&ran, status, b"", told)?;
-    }
-    same("left", &left(&cabinet), &Some(EMPTY_JOURNAL))
+    pass_in_turn(rt.alloc(), &[], &MAKING, Some(b"STREAMOFFICE-J1\n\0"))
 }
+
+/// A cabinet that gives no disk.
+const NO_DISK: [Turn; 2] = [(INIT, STATUS, &DISK_FAULT), (BATCH, STATUS, &DISK_FAULT)];
 
 #[test]
 fn a_cabinet_fails(rt: HostRuntime) -> Result<(), Fail> {
-    let alloc = rt.alloc();
-    let mut failing = MemoryCabinet::new(alloc, vec![in alloc; 1, 2]?);
-    for words in [INIT, BATCH] {
-        let ran = run(rt.alloc(), &mut failing, words, b"GET / HTTP/1.1\r\n\r\n")?;
-        expect(&ran, 4, b"", b"streamoffice: disk fault\n")?;
-        same("reads", &ran.reads, &0)?;
-    }
-    Ok(())
+    pass_in_turn(rt.alloc(), &[1, 2], &NO_DISK, None)
 }
 
-/// The words, what stands under the name, and the call of the disk that fails.
-const DISK_FAULTS: [(&[&str], &[u8], u64); 6] = [
-    (INIT, b"", 1),
-    (INIT, b"", 2),
-    (INIT, b"", 3),
-    (INIT, EMPTY_JOURNAL, 1),
-    (BATCH, EMPTY_JOURNAL, 1),
-    (BATCH, EMPTY_JOURNAL, 2),
+/// The first, the second and the third call of the disk fail.
+const FIRST_FAILS: Ways = Ways {
+    input: &[],
+    output: &[],
+    faults: &[],
+    disk: &[1],
+    piece: 10_000_000,
+};
+
+const SECOND_FAILS: Ways = Ways {
+    input: &[],
+    output: &[],
+    faults: &[],
+    disk: &[2],
+    piece: 10_000_000,
+};
+
+const THIRD_FAILS: Ways = Ways {
+    input: &[],
+    output: &[],
+    faults: &[],
+    disk: &[3],
+    piece: 10_000_000,
+};
+
+/// Calls that fail before the input is read.
+const DISK_FAULTS: [Run; 6] = [
+    (INIT, &[], &FIRST_FAILS, &[STATUS], &DISK_FAULT),
+    (INIT, &[], &SECOND_FAILS, &[STATUS], &DISK_FAULT),
+    (INIT, &[], &THIRD_FAILS, &[STATUS], &DISK_FAULT),
+    (INIT, NO_RECORDS, &FIRST_FAILS, &[STATUS], &DISK_FAULT),
+    (BATCH, NO_RECORDS, &FIRST_FAILS, &[STATUS], &DISK_FAULT),
+    (BATCH, NO_RECORDS, &SECOND_FAILS, &[STATUS], &DISK_FAULT),
 ];
 
 #[test]
 fn a_disk_fails_before_the_input_is_read(rt: HostRuntime) -> Result<(), Fail> {
-    for (words, bytes, call) in DISK_FAULTS {
-        let mut cabinet = cabinet(rt.alloc(), bytes, &[call])?;
-        let ran = run(rt.alloc(), &mut cabinet, words, b"GET / HTTP/1.1\r\n\r\n")?;
-        expect(&ran, 4, b"", b"streamoffice: disk fault\n")?;
-        same("reads", &ran.reads, &0)?;
-        same("faults", &cabinet.fault_count(), &1)?;
-    }
-    Ok(())
+    pass_runs(rt.alloc(), &DISK_FAULTS)
 }
 
 /// The message of the first edit.
-fn addition(alloc: Global) -> Result<Text, NoMemory> {
-    let mut input = Text::new(alloc);
-    push_message("POST /edits", ADDITION.as_bytes(), &mut input)?;
-    Ok(input)
-}
+const ADDITION: &[u8] = b"POST /edits HTTP/1.1\r\nContent-Length: 161\r\n\r\n\
+    {\"kind\":\"AddStation\",\"by\":\"AB\",\"ref\":\"a1\",\"site\":\"01646500\",\"name\":\"POTOMAC\",\"zone\":\"-05:00\",\"gap\":720,\"stage_array\":\"9999999992\",\"discharge_array\":\"9999999992\"}";
 
-/// The whole reply to the first edit.
-const ACCEPTED: &[u8] =
-    b"HTTP/1.1 200 OK\r\nContent-Type: application/json\r\nContent-Length: 27\r\n\r\n{\"edit\":1,\"repeated\":false}";
+/// The journal behind it.
+const KEPT: Parts = &[
+    b"STREAMOFFICE-J1\n\x01\x37\0\0\0\x01\x02AB\x02a1\x08\xa4\x1f\x19\0\0\0\0\0\x07POTOMAC\x06-05:00\xd0\x02\0\099999999929999999992\0",
+];
 
-/// Which calls of the input, the output and the sink of faults fail, the greatest piece of a call, the status, what is
-/// written and what is told.
-const PIECES: [(&[u64], &[u64], &[u64], usize, u8, &[u8], &[u8]); 5] = [
-    // every byte alone
-    (&[], &[], &[], 1, 0, ACCEPTED, b""),
-    // the input fails at once, and within the first head
-    (&[1], &[], &[], 1, 2, b"", b"streamoffice: input fault\n"),
-    (&[9], &[], &[], 1, 2, b"", b"streamoffice: input fault\n"),
-    // the output fails within the reply
-    (
-        &[],
-        &[3],
-        &[],
-        10,
-        3,
-        b"HTTP/1.1 200 OK\r\nCon",
-        b"streamoffice: output fault\n",
-    ),
-    // the sink of faults fails within the line
-    (&[], &[1], &[2], 10, 3, b"", b"streamoffi"),
+/// Every byte comes and goes alone.
+const BYTE_BY_BYTE: Ways = Ways {
+    input: &[],
+    output: &[],
+    faults: &[],
+    disk: &[],
+    piece: 1,
+};
+
+const ACCEPTED: Due = Due {
+    status: 0,
+    written: &[
+        b"HTTP/1.1 200 OK\r\nContent-Type: application/json\r\nContent-Length: 27\r\n\r\n{\"edit\":1,\"repeated\":false}",
+    ],
+    told: b"",
+    is_read: true,
+    left: Some(KEPT),
+};
+
+/// The input fails at once, and within the first head.
+const NO_INPUT: Ways = Ways {
+    input: &[1],
+    output: &[],
+    faults: &[],
+    disk: &[],
+    piece: 1,
+};
+
+const CUT_INPUT: Ways = Ways {
+    input: &[9],
+    output: &[],
+    faults: &[],
+    disk: &[],
+    piece: 1,
+};
+
+const INPUT_FAULT: Due = Due {
+    status: 2,
+    written: &[],
+    told: b"streamoffice: input fault\n",
+    is_read: true,
+    left: None,
+};
+
+/// The output fails within the reply.
+const CUT_OUTPUT: Ways = Ways {
+    input: &[],
+    output: &[3],
+    faults: &[],
+    disk: &[],
+    piece: 10,
+};
+
+const OUTPUT_FAULT: Due = Due {
+    status: 3,
+    written: &[b"HTTP/1.1 200 OK\r\nCon"],
+    told: b"streamoffice: output fault\n",
+    is_read: true,
+    left: Some(KEPT),
+};
+
+/// The output fails at once, and the sink of faults within the line.
+const CUT_FAULTS: Ways = Ways {
+    input: &[],
+    output: &[1],
+    faults: &[2],
+    disk: &[],
+    piece: 10,
+};
+
+const CUT_LINE: Due = Due {
+    status: 3,
+    written: &[],
+    told: b"streamoffi",
+    is_read: true,
+    left: Some(KEPT),
+};
+
+const PIECES: [Run; 5] = [
+    (BATCH, NO_RECORDS, &BYTE_BY_BYTE, &[ADDITION], &ACCEPTED),
+    (BATCH, NO_RECORDS, &NO_INPUT, &[ADDITION], &INPUT_FAULT),
+    (BATCH, NO_RECORDS, &CUT_INPUT, &[ADDITION], &INPUT_FAULT),
+    (BATCH, NO_RECORDS, &CUT_OUTPUT, &[ADDITION], &OUTPUT_FAULT),
+    (BATCH, NO_RECORDS, &CUT_FAULTS, &[ADDITION], &CUT_LINE),
 ];
 
 #[test]
 fn pieces_and_faults(rt: HostRuntime) -> Result<(), Fail> {
-    let message = addition(rt.alloc())?;
-    for (input, output, faults, piece, status, written, told) in PIECES {
-        assert!(rt; 0 < piece);
-        let ways = Ways {
-            input,
-            output,
-            faults,
-            piece,
-        };
-        let mut cabinet = new_journal(rt.alloc())?;
-        let ran = run_by(rt.alloc(), &mut cabinet, BATCH, message.as_slice(), &ways)?;
-        expect(&ran, status, written, told)?;
-        let length = if status == 2 { 17 } else { 77 };
-        same(
-            status,
-            &left(&cabinet).map(|bytes| bytes.len()),
-            &Some(length),
-        )?;
-    }
-    Ok(())
+    pass_runs(rt.alloc(), &PIECES)
 }

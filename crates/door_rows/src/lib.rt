@@ -6,7 +6,11 @@ mod asks;
 #[cfg(test)]
 mod bodies;
 #[cfg(test)]
+mod dues;
+#[cfg(test)]
 mod ends;
+#[cfg(test)]
+mod members;
 #[cfg(test)]
 mod messages;
 #[cfg(test)]

@@ -1,7 +1,7 @@
 //! A whole run, every byte of it written out: a station, three readings, a day that is pending, turns, and the day that was computed.
 
 use std::test::Fail;
-use whole_runs::{BATCH, expect, new_journal, run};
+use whole_runs::pass_bytes;
 
 const REQUESTS: &[u8] = b"POST /edits HTTP/1.1\r\nContent-Length: 161\r\n\r\n\
     {\"kind\":\"AddStation\",\"by\":\"AB\",\"ref\":\"a1\",\"site\":\"01646500\",\"name\":\"POTOMAC\",\"zone\":\"-05:00\",\"gap\":720,\"stage_array\":\"9999999992\",\"discharge_array\":\"9999999992\"}\
@@ -26,7 +26,5 @@ const REPLIES: &[u8] =
 
 #[test]
 fn a_whole_run(rt: HostRuntime) -> Result<(), Fail> {
-    let mut cabinet = new_journal(rt.alloc())?;
-    let ran = run(rt.alloc(), &mut cabinet, BATCH, REQUESTS)?;
-    expect(&ran, 0, REPLIES, b"")
+    pass_bytes(rt.alloc(), REQUESTS.to_vec(rt.alloc())?, REPLIES)
 }

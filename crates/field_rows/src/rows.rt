@@ -8,3 +8,4 @@ mod fixtures;
 mod quantities;
 mod ratings_rows;
 mod readings_rows;
+mod units_rows;

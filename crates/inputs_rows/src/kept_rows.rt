@@ -1,103 +1,184 @@
 //! What is in force of a station, which of its days have inputs, and which keep them.
 
 use crate::fixtures::{
-    FIRST, LATE, POTOMAC, SECOND, Sent, Stage, day, edit, is_kept, send, site, station,
+    ADDITION, FIRST, LATE, POTOMAC, SECOND, Sent, Span, accept, days, edit, inputs_after, is_kept,
+    send,
 };
-use fixed_units::Day;
-use office_inputs::{Inputs, Limits};
+use civil_days::read_day;
+use edits::Edit;
+use fixed_units::{Day, Site};
+use office_inputs::Inputs;
 use std::alloc::Global;
-use std::test::Fail;
 
-/// Whether a station is kept once room is made for it, and once it is added.
-fn kept_by_steps(alloc: Global) -> Result<[bool; 2], Fail> {
-    let mut inputs = Inputs::new(alloc, Limits::usual());
-    let added = edit(alloc, Sent::Addition(POTOMAC))?;
-    inputs.prepare(&added)?;
-    let prepared = inputs.station(site(POTOMAC)?).is_some();
-    send(alloc, &mut inputs, Sent::Addition(POTOMAC))?;
-    Ok([prepared, inputs.station(site(POTOMAC)?).is_some()])
+/// Whether a station is kept once room is made for it, and once it is added; `None` where memory is short.
+fn is_kept_by_steps(inputs: &mut Inputs, edit: &Edit) -> Option<[bool; 2]> {
+    inputs.prepare(edit).ok()?;
+    let is_kept = inputs.station(edit.site).is_some();
+    accept(inputs, edit);
+    Some([is_kept, inputs.station(edit.site).is_some()])
+}
+
+fn is_added_by_steps(alloc: Global) -> Option<[bool; 2]> {
+    let edit = edit(alloc, ADDITION)?;
+    is_kept_by_steps(&mut inputs_after(alloc, &[]), &edit)
 }
 
 #[test]
-fn room_alone_adds_no_station(rt: HostRuntime) -> Result<(), Fail> {
-    assert_eq!(rt; kept_by_steps(rt.alloc())?, [false, true]);
-    Ok(())
+fn room_alone_adds_no_station(rt: HostRuntime) {
+    assert!(rt; is_added_by_steps(rt.alloc()) == Some([false, true]));
 }
 
-/// The gap tolerance of a station in minutes, and whether its zone is five hours behind UTC.
-fn settings(inputs: &Inputs) -> Result<(u32, bool), Fail> {
-    let kept = inputs.station(site(POTOMAC)?).ok_or("a station")?;
-    Ok((kept.gap(), kept.zone_text() == b"-05:00".as_slice()))
+/// What was sent, and the first and the last day of the station that have inputs then.
+type Used = (&'static str, &'static [&'static Sent], Span);
+
+const USED: [Used; 3] = [
+    (
+        "two readings, the later one first",
+        &[ADDITION, LATE, FIRST],
+        Some(("2024-01-05", "2024-01-07")),
+    ),
+    ("no reading", &[ADDITION], None),
+    (
+        "a station that was set",
+        &SET,
+        Some(("2024-01-05", "2024-01-05")),
+    ),
+];
+
+fn used(alloc: Global, sent: &[&Sent]) -> Option<(Day, Day)> {
+    let site = Site::new(8, POTOMAC)?;
+    inputs_after(alloc, sent).used_span(site)
 }
 
-/// The first and the last day of the station that have inputs.
-fn used(alloc: Global, readings: &[Stage]) -> Result<Option<(Day, Day)>, Fail> {
-    let inputs = station(alloc, readings)?;
-    Ok(inputs.used_span(site(POTOMAC)?))
+fn first_used_otherwise(alloc: Global, rows: &[Used]) -> Option<&'static str> {
+    for (row, sent, span) in rows {
+        if used(alloc, sent) != days(*span) {
+            return Some(row);
+        }
+    }
+    None
 }
 
 #[test]
-fn used_days_go_from_the_first_reading_to_the_last(rt: HostRuntime) -> Result<(), Fail> {
-    let days = (day(b"2024-01-05")?, day(b"2024-01-07")?);
-    assert_eq!(rt; used(rt.alloc(), &[LATE, FIRST])?, Some(days));
-    assert_eq!(rt; used(rt.alloc(), &[])?, None);
-    Ok(())
+fn used_days_go_from_the_first_reading_to_the_last(rt: HostRuntime) {
+    let otherwise = first_used_otherwise(rt.alloc(), &USED);
+    assert!(rt; otherwise.is_none(), "{otherwise:?}");
 }
 
-/// The settings of the station once it was set, and the days that have inputs then.
-type Set = ((u32, bool), Option<(Day, Day)>);
+const SET: [&Sent; 3] = [ADDITION, FIRST, &Sent::Setting(60)];
 
-fn set(alloc: Global, gap: u32) -> Result<Set, Fail> {
-    let mut inputs = station(alloc, &[FIRST])?;
-    send(alloc, &mut inputs, Sent::Setting(gap))?;
-    Ok((settings(&inputs)?, inputs.used_span(site(POTOMAC)?)))
+/// The gap tolerance in minutes of the station once it was set, and whether its zone is still five hours behind UTC.
+fn settings(inputs: &Inputs) -> Option<(u32, bool)> {
+    let station = inputs.station(Site::new(8, POTOMAC)?)?;
+    Some((station.gap(), station.zone_text() == b"-05:00".as_slice()))
+}
+
+fn settings_once_set(alloc: Global) -> Option<(u32, bool)> {
+    settings(&inputs_after(alloc, &SET))
 }
 
 #[test]
-fn a_station_that_is_set_keeps_zone_and_readings(rt: HostRuntime) -> Result<(), Fail> {
-    let own = day(b"2024-01-05")?;
-    assert_eq!(rt; set(rt.alloc(), 60)?, ((60, true), Some((own, own))));
-    Ok(())
+fn a_station_that_is_set_keeps_its_zone(rt: HostRuntime) {
+    assert!(rt; settings_once_set(rt.alloc()) == Some((60, true)));
 }
 
-/// Whether what is sent to the station with one reading keeps the inputs of a day.
-fn keeps(alloc: Global, sent: Sent, text: &[u8]) -> Result<bool, Fail> {
-    let inputs = station(alloc, &[FIRST])?;
+/// What was sent, what is sent then, a day, and whether that keeps its inputs.
+type Kept = (
+    &'static str,
+    &'static [&'static Sent],
+    &'static Sent,
+    &'static str,
+    bool,
+);
+
+const KEPT: [Kept; 7] = [
+    (
+        "a reading, the day before it",
+        &[ADDITION, FIRST],
+        SECOND,
+        "2024-01-04",
+        true,
+    ),
+    (
+        "a reading, its day",
+        &[ADDITION, FIRST],
+        SECOND,
+        "2024-01-05",
+        false,
+    ),
+    (
+        "another gap, the day of the reading",
+        &[ADDITION, FIRST],
+        &Sent::Setting(60),
+        "2024-01-05",
+        false,
+    ),
+    (
+        "another gap, a day without a reading",
+        &[ADDITION, FIRST],
+        &Sent::Setting(60),
+        "2024-01-06",
+        true,
+    ),
+    (
+        "the same gap",
+        &[ADDITION, FIRST],
+        &Sent::Setting(720),
+        "2024-01-05",
+        true,
+    ),
+    (
+        "a reading two days later",
+        &[ADDITION, FIRST],
+        LATE,
+        "2024-01-05",
+        true,
+    ),
+    (
+        "a reading of the day behind a later one",
+        &[ADDITION, FIRST, LATE],
+        SECOND,
+        "2024-01-05",
+        false,
+    ),
+];
+
+/// Whether an edit keeps the inputs of a day, as it is told before the edit is accepted.
+fn keeps(inputs: &Inputs, edit: &Edit, day: Day) -> Option<bool> {
+    if inputs.refusal(edit).is_some() {
+        return None;
+    }
+    Some(is_kept(inputs, edit, day))
+}
+
+/// Whether the inputs of a day are those from before an edit, once it is accepted.
+fn stay(inputs: &mut Inputs, edit: &Edit, day: Day) -> Option<bool> {
+    let before = inputs.day_inputs(edit.site, day).ok()?;
+    if !accept(inputs, edit) {
+        return None;
+    }
+    Some(inputs.is_day_inputs(edit.site, day, &before))
+}
+
+fn both(alloc: Global, before: &[&Sent], sent: &Sent, day: &str) -> Option<[Option<bool>; 2]> {
+    let day = read_day(day.as_bytes())?;
     let edit = edit(alloc, sent)?;
-    if inputs.refusal(&edit).is_some() {
-        return Err("the edit is not refused".into());
+    let mut inputs = inputs_after(alloc, before);
+    let keeps = keeps(&inputs, &edit, day);
+    Some([keeps, stay(&mut inputs, &edit, day)])
+}
+
+fn first_kept_otherwise(alloc: Global, rows: &[Kept]) -> Option<&'static str> {
+    for (row, before, sent, day, kept) in rows {
+        if both(alloc, before, sent, day) != Some([Some(*kept); 2]) {
+            return Some(row);
+        }
     }
-    Ok(is_kept(&inputs, &edit, day(text)?))
+    None
 }
 
 #[test]
-fn an_edit_keeps_the_inputs_of_other_days(rt: HostRuntime) -> Result<(), Fail> {
-    let rows: [(Sent, &[u8], bool); 5] = [
-        (Sent::Put(POTOMAC, SECOND), b"2024-01-04", true),
-        (Sent::Put(POTOMAC, SECOND), b"2024-01-05", false),
-        (Sent::Setting(60), b"2024-01-05", false),
-        (Sent::Setting(60), b"2024-01-06", true),
-        (Sent::Setting(720), b"2024-01-05", true),
-    ];
-    for (sent, text, kept) in rows {
-        assert_eq!(rt; keeps(rt.alloc(), sent, text)?, kept, "{sent:?} {text:?}");
-    }
-    Ok(())
-}
-
-/// Whether the inputs of 2024-01-05 are those from before what is sent.
-fn stays(alloc: Global, inputs: &mut Inputs, sent: Sent) -> Result<bool, Fail> {
-    let day = day(b"2024-01-05")?;
-    let before = inputs.day_inputs(site(POTOMAC)?, day)?;
-    send(alloc, inputs, sent)?;
-    Ok(inputs.is_day_inputs(site(POTOMAC)?, day, &before))
-}
-
-#[test]
-fn inputs_stay_until_a_reading_is_near(rt: HostRuntime) -> Result<(), Fail> {
-    let mut inputs = station(rt.alloc(), &[FIRST])?;
-    let late = stays(rt.alloc(), &mut inputs, Sent::Put(POTOMAC, LATE))?;
-    let near = stays(rt.alloc(), &mut inputs, Sent::Put(POTOMAC, SECOND))?;
-    assert!(rt; late && !near);
-    Ok(())
+fn an_edit_keeps_the_inputs_of_other_days(rt: HostRuntime) {
+    let otherwise = first_kept_otherwise(rt.alloc(), &KEPT);
+    assert!(rt; otherwise.is_none(), "{otherwise:?}");
 }

@@ -1,136 +1,196 @@
 //! Which days an edit changes, and between which days it is compared.
 
+ghost use Rattle.std.specs.Prelude.{◌≡◌, true};
+ghost use Rattle.office_inputs.specs.Kept.{in_force};
+ghost use Rattle.office_inputs.specs.Stations.{stations_after};
+
 use crate::fixtures::{
-    FIRST, LATE, NEXT, POTOMAC, SECOND, Sent, Stage, accept, day, edit, reached, station,
+    ADDITION, FIRST, LATE, NEXT, POTOMAC, SECOND, Sent, Span, accept, days, edit, inputs_after,
+    reached,
 };
-use depend::compared_days;
+use civil_days::read_day;
 use depend::from_scratch::changed_days;
+use depend::{DayList, compared_days};
 use edits::Edit;
 use fixed_units::Day;
 use office_inputs::{Inputs, Limits};
 use std::alloc::Global;
-use std::test::Fail;
+
+/// Puts a stage twelve hours after the end of 2024-01-05, and a second later.
+const TWELVE_HOURS_AFTER: &Sent = &Sent::Put(POTOMAC, ("2024-01-06T17:00:00Z", 1_000_000));
+
+const A_SECOND_LATER: &Sent = &Sent::Put(POTOMAC, ("2024-01-06T17:00:01Z", 1_000_000));
+
+/// What was sent, what is sent then, and the days that it changes.
+type Change = (
+    &'static str,
+    &'static [&'static Sent],
+    &'static Sent,
+    &'static [&'static str],
+);
+
+const CHANGES: [Change; 8] = [
+    ("a station", &[], ADDITION, &[]),
+    ("the first reading", &[ADDITION], FIRST, &["2024-01-05"]),
+    (
+        "the second reading of a day",
+        &[ADDITION, FIRST],
+        SECOND,
+        &["2024-01-05"],
+    ),
+    (
+        "a reading at the end of a day",
+        &[ADDITION, FIRST, SECOND],
+        NEXT,
+        &["2024-01-05", "2024-01-06"],
+    ),
+    (
+        "a reading twelve hours after a day",
+        &[ADDITION, FIRST],
+        TWELVE_HOURS_AFTER,
+        &["2024-01-05", "2024-01-06"],
+    ),
+    (
+        "a reading a second later",
+        &[ADDITION, FIRST],
+        A_SECOND_LATER,
+        &["2024-01-06"],
+    ),
+    (
+        "another gap",
+        &[ADDITION, FIRST, LATE],
+        &Sent::Setting(60),
+        &["2024-01-05", "2024-01-07"],
+    ),
+    (
+        "the same gap",
+        &[ADDITION, FIRST, LATE],
+        &Sent::Setting(720),
+        &[],
+    ),
+];
 
 /// Whether days are those of these texts.
-fn are_days(days: &[Day], texts: &[&[u8]]) -> Result<bool, Fail> {
-    if days.len() != texts.len() {
-        return Ok(false);
-    }
-    for (found, text) in days.iter().zip(texts) {
-        if *found != day(text)? {
-            return Ok(false);
+fn are_days(days: &[Day], texts: &[&str]) -> bool {
+    for (day, text) in days.iter().zip(texts) {
+        if read_day(text.as_bytes()) != Some(*day) {
+            return false;
         }
     }
-    Ok(true)
+    days.len() == texts.len()
+}
+
+/// The days that an edit changes, where nothing refuses it.
+fn changed(alloc: Global, inputs: &Inputs, edit: &Edit) -> Option<DayList> {
+    if inputs.refusal(edit).is_some() {
+        return None;
+    }
+    reached(alloc, inputs, edit).ok()
 }
 
 /// Whether an edit changes exactly these days.
-fn changes_of(alloc: Global, inputs: &Inputs, edit: &Edit, texts: &[&[u8]]) -> Result<bool, Fail> {
-    if inputs.refusal(edit).is_some() {
-        return Err("the edit is not refused".into());
+fn are_changed(alloc: Global, inputs: &Inputs, edit: &Edit, days: &[&str]) -> Option<bool> {
+    let found = changed(alloc, inputs, edit)?;
+    Some(are_days(found.as_slice(), days))
+}
+
+fn changes(alloc: Global, before: &[&Sent], sent: &Sent, days: &[&str]) -> Option<bool> {
+    let edit = edit(alloc, sent)?;
+    are_changed(alloc, &inputs_after(alloc, before), &edit, days)
+}
+
+fn first_changed_otherwise(alloc: Global, rows: &[Change]) -> Option<&'static str> {
+    for (row, before, sent, days) in rows {
+        if changes(alloc, before, sent, days) != Some(true) {
+            return Some(row);
+        }
     }
-    let days = reached(alloc, inputs, edit)?;
-    are_days(days.as_slice(), texts)
+    None
 }
 
-/// Whether what is sent to the station with these readings changes exactly these days.
-fn changes(alloc: Global, readings: &[Stage], sent: Sent, texts: &[&[u8]]) -> Result<bool, Fail> {
-    let inputs = station(alloc, readings)?;
+#[test]
+fn an_edit_changes_the_days_near_it(rt: HostRuntime) {
+    let otherwise = first_changed_otherwise(rt.alloc(), &CHANGES);
+    assert!(rt; otherwise.is_none(), "{otherwise:?}");
+}
+
+/// What was sent, what is sent then, and the first and the last of the days that are compared for it.
+type Compared = (&'static str, &'static [&'static Sent], &'static Sent, Span);
+
+const COMPARED: [Compared; 4] = [
+    ("a station", &[], ADDITION, None),
+    (
+        "the first reading",
+        &[ADDITION],
+        FIRST,
+        Some(("2024-01-04", "2024-01-06")),
+    ),
+    (
+        "a reading at the end of a day",
+        &[ADDITION, FIRST, SECOND],
+        NEXT,
+        Some(("2024-01-05", "2024-01-07")),
+    ),
+    (
+        "another gap",
+        &[ADDITION, FIRST, LATE],
+        &Sent::Setting(60),
+        Some(("2024-01-05", "2024-01-07")),
+    ),
+];
+
+fn compared(alloc: Global, before: &[&Sent], sent: &Sent) -> Option<Option<(Day, Day)>> {
     let edit = edit(alloc, sent)?;
-    changes_of(alloc, &inputs, &edit, texts)
+    Some(compared_days(&inputs_after(alloc, before), &edit))
 }
 
-/// The first and the last of the days that are compared for what is sent to the station with these readings.
-fn compared(alloc: Global, readings: &[Stage], sent: Sent) -> Result<Option<(Day, Day)>, Fail> {
-    let inputs = station(alloc, readings)?;
-    let edit = edit(alloc, sent)?;
-    Ok(compared_days(&inputs, &edit))
-}
-
-/// Whether a station that is added changes no day, and none is compared for it.
-fn is_added_without_a_day(alloc: Global) -> Result<bool, Fail> {
-    let inputs = Inputs::new(alloc, Limits::usual());
-    let edit = edit(alloc, Sent::Addition(POTOMAC))?;
-    Ok(compared_days(&inputs, &edit).is_none() && changes_of(alloc, &inputs, &edit, &[])?)
+fn first_compared_otherwise(alloc: Global, rows: &[Compared]) -> Option<&'static str> {
+    for (row, before, sent, span) in rows {
+        if compared(alloc, before, sent) != Some(days(*span)) {
+            return Some(row);
+        }
+    }
+    None
 }
 
 #[test]
-fn a_station_that_is_added_changes_no_day(rt: HostRuntime) -> Result<(), Fail> {
-    assert!(rt; is_added_without_a_day(rt.alloc())?);
-    Ok(())
+fn days_about_an_edit_are_compared(rt: HostRuntime) {
+    let otherwise = first_compared_otherwise(rt.alloc(), &COMPARED);
+    assert!(rt; otherwise.is_none(), "{otherwise:?}");
 }
 
-#[test]
-fn first_reading_changes_its_own_day(rt: HostRuntime) -> Result<(), Fail> {
-    let sent = Sent::Put(POTOMAC, FIRST);
-    assert!(rt; changes(rt.alloc(), &[], sent, &[b"2024-01-05"])?);
-    let days = (day(b"2024-01-04")?, day(b"2024-01-06")?);
-    assert_eq!(rt; compared(rt.alloc(), &[], sent)?, Some(days));
-    Ok(())
+/// Accepts the station before, and the station and the reading after.
+fn accept_each(before: &mut Inputs, after: &mut Inputs, added: &Edit, put: &Edit) -> bool
+    requires { in_force before.old ≡ in_force after.old }
+    ensures { result ≡ true → in_force after.new ≡ stations_after (in_force before.new) put.now }
+{
+    accept(before, added) && accept(after, added) && accept(after, put)
 }
 
-#[test]
-fn second_reading_of_a_day_changes_that_day(rt: HostRuntime) -> Result<(), Fail> {
-    let sent = Sent::Put(POTOMAC, SECOND);
-    assert!(rt; changes(rt.alloc(), &[FIRST], sent, &[b"2024-01-05"])?);
-    Ok(())
-}
-
-#[test]
-fn reading_at_the_end_of_a_day_changes_it_too(rt: HostRuntime) -> Result<(), Fail> {
-    let sent = Sent::Put(POTOMAC, NEXT);
-    let readings = [FIRST, SECOND];
-    assert!(rt; changes(rt.alloc(), &readings, sent, &[b"2024-01-05", b"2024-01-06"])?);
-    let days = (day(b"2024-01-05")?, day(b"2024-01-07")?);
-    assert_eq!(rt; compared(rt.alloc(), &readings, sent)?, Some(days));
-    Ok(())
-}
-
-#[test]
-fn reading_twelve_hours_after_a_day_changes_it(rt: HostRuntime) -> Result<(), Fail> {
-    let sent = Sent::Put(POTOMAC, (b"2024-01-06T17:00:00Z", 1_000_000));
-    assert!(rt; changes(rt.alloc(), &[FIRST], sent, &[b"2024-01-05", b"2024-01-06"])?);
-    Ok(())
-}
-
-#[test]
-fn reading_a_second_later_leaves_it(rt: HostRuntime) -> Result<(), Fail> {
-    let sent = Sent::Put(POTOMAC, (b"2024-01-06T17:00:01Z", 1_000_000));
-    assert!(rt; changes(rt.alloc(), &[FIRST], sent, &[b"2024-01-06"])?);
-    Ok(())
-}
-
-#[test]
-fn another_gap_changes_the_days_that_have_readings(rt: HostRuntime) -> Result<(), Fail> {
-    let sent = Sent::Setting(60);
-    let readings = [FIRST, LATE];
-    assert!(rt; changes(rt.alloc(), &readings, sent, &[b"2024-01-05", b"2024-01-07"])?);
-    let days = (day(b"2024-01-05")?, day(b"2024-01-07")?);
-    assert_eq!(rt; compared(rt.alloc(), &readings, sent)?, Some(days));
-    Ok(())
-}
-
-#[test]
-fn the_same_gap_changes_no_day(rt: HostRuntime) -> Result<(), Fail> {
-    assert!(rt; changes(rt.alloc(), &[FIRST, LATE], Sent::Setting(720), &[])?);
-    Ok(())
-}
-
-/// Whether every day of the calendar, compared by itself, gives the day of the first reading alone.
-fn is_found_by_the_plain_program(alloc: Global) -> Result<bool, Fail> {
-    let added = edit(alloc, Sent::Addition(POTOMAC))?;
-    let put = edit(alloc, Sent::Put(POTOMAC, FIRST))?;
+/// The days that a reading changes at a station that is added, as every day of the calendar is compared by itself.
+fn changed_by_all(alloc: Global, added: &Edit, put: &Edit) -> Option<DayList> {
     let mut before = Inputs::new(alloc, Limits::usual());
-    accept(&mut before, &added)?;
     let mut after = Inputs::new(alloc, Limits::usual());
-    accept(&mut after, &added)?;
-    accept(&mut after, &put)?;
-    let days = changed_days(alloc, &before, &after, &put)?;
-    are_days(days.as_slice(), &[b"2024-01-05"])
+    if accept_each(&mut before, &mut after, added, put) {
+        changed_days(alloc, &before, &after, put).ok()
+    } else {
+        None
+    }
+}
+
+/// Whether the first reading is found to change its own day alone.
+fn changes_its_own_day(alloc: Global, added: &Edit, put: &Edit) -> Option<bool> {
+    let days = changed_by_all(alloc, added, put)?;
+    Some(are_days(days.as_slice(), &["2024-01-05"]))
+}
+
+fn is_found_by_all(alloc: Global) -> Option<bool> {
+    let added = edit(alloc, ADDITION)?;
+    let put = edit(alloc, FIRST)?;
+    changes_its_own_day(alloc, &added, &put)
 }
 
 #[test]
-fn every_day_compared_gives_the_same(rt: HostRuntime) -> Result<(), Fail> {
-    assert!(rt; is_found_by_the_plain_program(rt.alloc())?);
-    Ok(())
+fn every_day_compared_gives_the_same(rt: HostRuntime) {
+    assert!(rt; is_found_by_all(rt.alloc()) == Some(true));
 }

@@ -1,24 +1,102 @@
 //! Which edits the inputs in force refuse, and for which cause: the first that holds. A count that is exactly at its limit is
 //! allowed.
 
-use crate::fixtures::{FIRST, LAST, LATE, NEXT, POTOMAC, SECOND, Sent, send};
+use crate::fixtures::{ADDITION, FIRST, LAST, LATE, NEXT, POTOMAC, SECOND, Sent, Stage, send};
 use office_inputs::{Inputs, Limits, Refusal, Which};
 use std::alloc::Global;
-use std::test::Fail;
 
-/// An edit, and why it is refused.
-type Row = (Sent, Option<Refusal>);
+/// What is sent, and why it is refused. What is not refused is accepted.
+type Row = (&'static Sent, Option<Refusal>);
 
 const NO_STATION: Option<Refusal> = Some(Refusal::NoStation);
 
 const STATION_EXISTS: Option<Refusal> = Some(Refusal::StationExists);
 
 /// A count that would pass its limit.
-fn passes(which: Which) -> Option<Refusal> {
-    Some(Refusal::Limit(which))
-}
+const STATIONS: Option<Refusal> = Some(Refusal::Limit(Which::Stations));
 
-/// The limits of the stations, of all readings and of the readings of a local day.
+const READINGS: Option<Refusal> = Some(Refusal::Limit(Which::Readings));
+
+const DAY_READINGS: Option<Refusal> = Some(Refusal::Limit(Which::DayReadings));
+
+const STATIONS_FIRST: [Row; 6] = [
+    (FIRST, NO_STATION),
+    (&Sent::Setting(60), NO_STATION),
+    (ADDITION, None),
+    (ADDITION, STATION_EXISTS),
+    (&Sent::Setting(60), None),
+    (FIRST, READINGS),
+];
+
+/// A stage, and another one at its instant.
+const STAGE: Stage = ("2024-01-05T05:00:00Z", 1_000_000);
+
+const IN_ITS_PLACE: Stage = ("2024-01-05T05:00:00Z", 3_000_000);
+
+/// A stage two days later.
+const LATER: Stage = ("2024-01-07T05:00:00Z", 2_000_000);
+
+const TWO_STATIONS: [Row; 5] = [
+    (&Sent::Addition(1), None),
+    (&Sent::Addition(2), None),
+    (&Sent::Addition(3), STATIONS),
+    (&Sent::Addition(2), STATION_EXISTS),
+    (&Sent::Put(3, STAGE), NO_STATION),
+];
+
+const TWO_READINGS: [Row; 6] = [
+    (&Sent::Addition(1), None),
+    (&Sent::Addition(2), None),
+    (&Sent::Put(1, STAGE), None),
+    (&Sent::Put(2, STAGE), None),
+    (&Sent::Put(2, LATER), READINGS),
+    (&Sent::Put(2, IN_ITS_PLACE), None),
+];
+
+const TWO_READINGS_OF_A_DAY: [Row; 7] = [
+    (ADDITION, None),
+    (FIRST, None),
+    (LAST, None),
+    (SECOND, DAY_READINGS),
+    (NEXT, None),
+    (SECOND, READINGS),
+    (LAST, None),
+];
+
+/// The limits of the stations, of all readings and of the readings of a local day, and what is sent under them.
+type History = (&'static str, u32, u64, u32, &'static [Row]);
+
+const HISTORIES: [History; 4] = [
+    (
+        "stations are asked for before limits",
+        1,
+        0,
+        0,
+        &STATIONS_FIRST,
+    ),
+    (
+        "a third station passes a limit of two",
+        2,
+        0,
+        0,
+        &TWO_STATIONS,
+    ),
+    (
+        "the readings of all stations are counted",
+        2,
+        2,
+        1,
+        &TWO_READINGS,
+    ),
+    (
+        "the readings of a local day are counted",
+        1,
+        3,
+        2,
+        &TWO_READINGS_OF_A_DAY,
+    ),
+];
+
 fn limits(stations: u32, readings: u64, day_readings: u32) -> Limits {
     let mut limits = Limits::usual();
     limits.stations = stations;
@@ -27,74 +105,34 @@ fn limits(stations: u32, readings: u64, day_readings: u32) -> Limits {
     limits
 }
 
-/// The first edit, of some that come one after another, to which something else is said than in its row. Each that nothing
-/// refuses is accepted.
-fn first_otherwise(alloc: Global, limits: Limits, rows: &[Row]) -> Result<Option<Sent>, Fail> {
-    let mut inputs = Inputs::new(alloc, limits);
-    for (sent, told) in rows {
-        if send(alloc, &mut inputs, *sent)? != *told {
-            return Ok(Some(*sent));
+/// How many are sent before the first to which something else is said than in its row.
+fn count_right(alloc: Global, inputs: &mut Inputs, rows: &[Row]) -> usize {
+    for (row, (sent, refusal)) in rows.iter().enumerate() {
+        if send(alloc, inputs, sent) != *refusal {
+            return row;
         }
     }
-    Ok(None)
+    rows.len()
+}
+
+fn count_right_under(alloc: Global, limits: Limits, rows: &[Row]) -> usize {
+    count_right(alloc, &mut Inputs::new(alloc, limits), rows)
+}
+
+/// The first history with such an edit, and the number of the edit from 0 on.
+fn first_otherwise(alloc: Global, histories: &[History]) -> Option<(&'static str, usize)> {
+    for (history, stations, readings, day_readings, rows) in histories {
+        let limits = limits(*stations, *readings, *day_readings);
+        let right = count_right_under(alloc, limits, rows);
+        if right < rows.len() {
+            return Some((history, right));
+        }
+    }
+    None
 }
 
 #[test]
-fn stations_are_asked_for_before_limits(rt: HostRuntime) -> Result<(), Fail> {
-    let rows = [
-        (Sent::Put(POTOMAC, FIRST), NO_STATION),
-        (Sent::Setting(60), NO_STATION),
-        (Sent::Addition(POTOMAC), None),
-        (Sent::Addition(POTOMAC), STATION_EXISTS),
-        (Sent::Setting(60), None),
-        (Sent::Put(POTOMAC, FIRST), passes(Which::Readings)),
-    ];
-    let otherwise = first_otherwise(rt.alloc(), limits(1, 0, 0), &rows)?;
+fn edits_are_refused_for_the_first_cause(rt: HostRuntime) {
+    let otherwise = first_otherwise(rt.alloc(), &HISTORIES);
     assert!(rt; otherwise.is_none(), "{otherwise:?}");
-    Ok(())
-}
-
-#[test]
-fn a_third_station_passes_a_limit_of_two(rt: HostRuntime) -> Result<(), Fail> {
-    let rows = [
-        (Sent::Addition(1), None),
-        (Sent::Addition(2), None),
-        (Sent::Addition(3), passes(Which::Stations)),
-        (Sent::Addition(2), STATION_EXISTS),
-        (Sent::Put(3, FIRST), NO_STATION),
-    ];
-    let otherwise = first_otherwise(rt.alloc(), limits(2, 0, 0), &rows)?;
-    assert!(rt; otherwise.is_none(), "{otherwise:?}");
-    Ok(())
-}
-
-#[test]
-fn readings_of_all_stations_are_counted(rt: HostRuntime) -> Result<(), Fail> {
-    let rows = [
-        (Sent::Addition(1), None),
-        (Sent::Addition(2), None),
-        (Sent::Put(1, FIRST), None),
-        (Sent::Put(2, FIRST), None),
-        (Sent::Put(2, LATE), passes(Which::Readings)),
-        (Sent::Put(2, (FIRST.0, 3_000_000)), None),
-    ];
-    let otherwise = first_otherwise(rt.alloc(), limits(2, 2, 1), &rows)?;
-    assert!(rt; otherwise.is_none(), "{otherwise:?}");
-    Ok(())
-}
-
-#[test]
-fn readings_of_a_local_day_are_counted(rt: HostRuntime) -> Result<(), Fail> {
-    let rows = [
-        (Sent::Addition(POTOMAC), None),
-        (Sent::Put(POTOMAC, FIRST), None),
-        (Sent::Put(POTOMAC, LAST), None),
-        (Sent::Put(POTOMAC, SECOND), passes(Which::DayReadings)),
-        (Sent::Put(POTOMAC, NEXT), None),
-        (Sent::Put(POTOMAC, SECOND), passes(Which::Readings)),
-        (Sent::Put(POTOMAC, LAST), None),
-    ];
-    let otherwise = first_otherwise(rt.alloc(), limits(1, 3, 2), &rows)?;
-    assert!(rt; otherwise.is_none(), "{otherwise:?}");
-    Ok(())
 }

@@ -1,7 +1,9 @@
 //! Days that are computed, as they are asked for.
 
 use std::test::Fail;
-use whole_runs::{ADDED, CONFLICT, Exchange, NOT_FOUND, OK, new_journal, pass, pass_anew};
+use whole_runs::{
+    ADDED, CONFLICT, Exchange, NO_RECORDS, NOT_FOUND, OK, Session, pass_anew, pass_sessions,
+};
 
 const READING: &str =
     r#"{"kind":"PutReadings","by":"AB","ref":"a2","site":"01646500","readings":[["2024-01-05T05:00:00Z","1.00"]]}"#;
@@ -66,11 +68,6 @@ const A_SMALLER_GAP: [Exchange; 15] = [
     ("GET /status", "", OK, r#"{"edits":5,"pending":0}"#),
 ];
 
-#[test]
-fn a_smaller_gap_changes_both_days(rt: HostRuntime) -> Result<(), Fail> {
-    pass_anew(rt.alloc(), &A_SMALLER_GAP)
-}
-
 /// A turn publishes the first pending day, and many end where none is left.
 const TURNS: [Exchange; 13] = [
     ADDED,
@@ -98,11 +95,6 @@ const TURNS: [Exchange; 13] = [
     ("POST /settle", "{", OK, r#"{"pending":0,"published":0}"#),
 ];
 
-#[test]
-fn turns_publish_days_in_order(rt: HostRuntime) -> Result<(), Fail> {
-    pass_anew(rt.alloc(), &TURNS)
-}
-
 /// A day that no edit changed is computed and empty at any time.
 const EMPTY_DAYS: [Exchange; 8] = [
     ADDED,
@@ -114,11 +106,6 @@ const EMPTY_DAYS: [Exchange; 8] = [
     (SIXTH, "", OK, EMPTY),
     ("GET /stations/01646500/days/2099-12-31", "", OK, EMPTY),
 ];
-
-#[test]
-fn days_without_readings_are_empty(rt: HostRuntime) -> Result<(), Fail> {
-    pass_anew(rt.alloc(), &EMPTY_DAYS)
-}
 
 /// A station that is not kept is not found, and an edit on it is refused.
 const NO_STATION: [Exchange; 4] = [
@@ -133,10 +120,21 @@ const NO_STATION: [Exchange; 4] = [
     ("GET /status", "", OK, r#"{"edits":0,"pending":0}"#),
 ];
 
+const DAYS: [&[Exchange]; 4] = [&A_SMALLER_GAP, &TURNS, &EMPTY_DAYS, &NO_STATION];
+
 #[test]
-fn there_is_no_station(rt: HostRuntime) -> Result<(), Fail> {
-    pass_anew(rt.alloc(), &NO_STATION)
+fn days_are_pending_computed_or_empty(rt: HostRuntime) -> Result<(), Fail> {
+    pass_anew(rt.alloc(), &DAYS)
 }
+
+const COMPUTED: [Exchange; 6] = [
+    ADDED,
+    FIRST_READING,
+    SECOND_READING,
+    THIRD_READING,
+    SETTLED,
+    ("GET /status", "", OK, r#"{"edits":4,"pending":0}"#),
+];
 
 /// What is known of both days once the journal is opened anew.
 const OPENED_ANEW: [Exchange; 6] = [
@@ -148,18 +146,15 @@ const OPENED_ANEW: [Exchange; 6] = [
     (SIXTH, "", OK, WITHOUT_STAGE),
 ];
 
+const OPENINGS: [Session; 1] = [Session {
+    journal: NO_RECORDS,
+    failing: &[],
+    streams: &[&COMPUTED, &OPENED_ANEW, &OPENED_ANEW],
+    left: None,
+    calls: None,
+}];
+
 #[test]
 fn every_changed_day_is_pending_again(rt: HostRuntime) -> Result<(), Fail> {
-    let mut cabinet = new_journal(rt.alloc())?;
-    let before = [
-        ADDED,
-        FIRST_READING,
-        SECOND_READING,
-        THIRD_READING,
-        SETTLED,
-        ("GET /status", "", OK, r#"{"edits":4,"pending":0}"#),
-    ];
-    pass(rt.alloc(), &mut cabinet, &before)?;
-    pass(rt.alloc(), &mut cabinet, &OPENED_ANEW)?;
-    pass(rt.alloc(), &mut cabinet, &OPENED_ANEW)
+    pass_sessions(rt.alloc(), &OPENINGS)
 }

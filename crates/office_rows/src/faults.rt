@@ -1,38 +1,9 @@
 //! Calls of the disk that fail at an edit, and the mend at the next one.
 
-use std::alloc::Global;
 use std::test::Fail;
 use whole_runs::{
-    ADDED, ADDITION, BATCH, CONFLICT, EMPTY_JOURNAL, Exchange, FIRST, OK, UNAVAILABLE, cabinet,
-    new_journal, pass, run, same,
+    ADDED, ADDITION, CONFLICT, Exchange, FIRST, NO_RECORDS, OK, Session, UNAVAILABLE, pass_sessions,
 };
-
-/// How many calls of its disk the opening of a journal of no records makes.
-fn opening_calls(alloc: Global) -> Result<u64, Fail> {
-    let mut cabinet = new_journal(alloc)?;
-    run(alloc, &mut cabinet, BATCH, b"")?;
-    Ok(cabinet.disk("J").map_or(0, |disk| disk.call_count()))
-}
-
-/// Over a journal of no records the exchanges pass where these calls of the disk fail, counted from the first behind the opening, and
-/// the disk has so many calls then.
-fn pass_failing(
-    alloc: Global,
-    failing: &[u64],
-    exchanges: &[Exchange],
-    calls: u64,
-) -> Result<(), Fail> {
-    let opening = opening_calls(alloc)?;
-    let mut numbers = Vec::new(alloc);
-    for call in failing {
-        numbers.push(opening.saturating_add(*call))?;
-    }
-    let mut cabinet = cabinet(alloc, EMPTY_JOURNAL, &numbers)?;
-    pass(alloc, &mut cabinet, exchanges)?;
-    let made = cabinet.disk("J").map_or(0, |disk| disk.call_count());
-    same("calls", &made, &opening.saturating_add(calls))?;
-    same("faults", &cabinet.fault_count(), &1)
-}
 
 const IN_DOUBT: &str = r#"{"code":"JournalFault","in_doubt":true}"#;
 
@@ -46,53 +17,39 @@ const ANOTHER: &str =
 const A_THIRD: &str =
     r#"{"kind":"AddStation","by":"AB","ref":"a3","site":"01646500","name":"POTOMAC","zone":"-05:00","gap":720,"stage_array":"9999999992","discharge_array":"9999999992"}"#;
 
-/// The calls that fail, what is replied to two edits, and how many calls they make. An append makes four, and a mend two before it.
-const TWO_EDITS: [(&[u64], &str, u64); 4] = [
-    (&[1], NOT_IN_DOUBT, 5),
-    (&[2], NOT_IN_DOUBT, 6),
-    (&[3], IN_DOUBT, 9),
-    (&[4], IN_DOUBT, 10),
-];
+const NO_EDIT: Exchange = ("GET /status", "", OK, r#"{"edits":0,"pending":0}"#);
+
+const ONE_EDIT: Exchange = ("GET /status", "", OK, r#"{"edits":1,"pending":0}"#);
 
 /// The next edit has the number that the failed one would have had.
-#[test]
-fn a_call_fails(rt: HostRuntime) -> Result<(), Fail> {
-    for (failing, first, calls) in TWO_EDITS {
-        let exchanges = [
-            ("POST /edits", ANOTHER, UNAVAILABLE, first),
-            ("GET /status", "", OK, r#"{"edits":0,"pending":0}"#),
-            ADDED,
-            ("GET /status", "", OK, r#"{"edits":1,"pending":0}"#),
-        ];
-        pass_failing(rt.alloc(), failing, &exchanges, calls)?;
-    }
-    Ok(())
-}
-
-/// The calls that fail, what is replied to the second of three edits, and how many calls they make. The mend is the fourth call and the
-/// fifth, an append behind it the sixth to the ninth.
-const THREE_EDITS: [(&[u64], &str, u64); 6] = [
-    (&[3, 4], IN_DOUBT, 10),
-    (&[3, 5], IN_DOUBT, 11),
-    (&[3, 6], NOT_IN_DOUBT, 10),
-    (&[3, 7], NOT_IN_DOUBT, 11),
-    (&[3, 8], IN_DOUBT, 14),
-    (&[3, 9], IN_DOUBT, 15),
+const NOT_KEPT: [Exchange; 4] = [
+    ("POST /edits", ANOTHER, UNAVAILABLE, NOT_IN_DOUBT),
+    NO_EDIT,
+    ADDED,
+    ONE_EDIT,
 ];
 
-#[test]
-fn two_calls_fail(rt: HostRuntime) -> Result<(), Fail> {
-    for (failing, second, calls) in THREE_EDITS {
-        let exchanges = [
-            ("POST /edits", ANOTHER, UNAVAILABLE, IN_DOUBT),
-            ("POST /edits", A_THIRD, UNAVAILABLE, second),
-            ADDED,
-            ("GET /status", "", OK, r#"{"edits":1,"pending":0}"#),
-        ];
-        pass_failing(rt.alloc(), failing, &exchanges, calls)?;
-    }
-    Ok(())
-}
+const LEFT_IN_DOUBT: [Exchange; 4] = [
+    ("POST /edits", ANOTHER, UNAVAILABLE, IN_DOUBT),
+    NO_EDIT,
+    ADDED,
+    ONE_EDIT,
+];
+
+/// Two edits fail before one is accepted; the second may stand in the journal or not.
+const SECOND_IN_DOUBT: [Exchange; 4] = [
+    ("POST /edits", ANOTHER, UNAVAILABLE, IN_DOUBT),
+    ("POST /edits", A_THIRD, UNAVAILABLE, IN_DOUBT),
+    ADDED,
+    ONE_EDIT,
+];
+
+const SECOND_NOT_KEPT: [Exchange; 4] = [
+    ("POST /edits", ANOTHER, UNAVAILABLE, IN_DOUBT),
+    ("POST /edits", A_THIRD, UNAVAILABLE, NOT_IN_DOUBT),
+    ADDED,
+    ONE_EDIT,
+];
 
 const READING: &str =
     r#"{"kind":"PutReadings","by":"AB","ref":"a2","site":"01646500","readings":[["2024-01-05T05:00:00Z","1.00"]]}"#;
@@ -124,30 +81,135 @@ const IN_THE_MEANTIME: [Exchange; 10] = [
     ("GET /status", "", OK, r#"{"edits":2,"pending":1}"#),
 ];
 
-#[test]
-fn a_doubt_stops_nothing(rt: HostRuntime) -> Result<(), Fail> {
-    pass_failing(rt.alloc(), &[7], &IN_THE_MEANTIME, 13)
-}
-
-/// The call that fails, and whether the same edit is a repeated one once the journal is opened anew.
-const OPENED_ANEW: [(u64, &str, &str); 4] = [
-    (1, NOT_IN_DOUBT, FIRST),
-    (2, NOT_IN_DOUBT, FIRST),
-    (3, IN_DOUBT, FIRST),
-    (4, IN_DOUBT, r#"{"edit":1,"repeated":true}"#),
+/// An append makes four calls, and a mend two before it. Behind a fault at the third call the mend is the fourth and the fifth, an append
+/// behind it the sixth to the ninth.
+const FAULTS: [Session; 11] = [
+    Session {
+        journal: NO_RECORDS,
+        failing: &[1],
+        streams: &[&NOT_KEPT],
+        left: None,
+        calls: Some(5),
+    },
+    Session {
+        journal: NO_RECORDS,
+        failing: &[2],
+        streams: &[&NOT_KEPT],
+        left: None,
+        calls: Some(6),
+    },
+    Session {
+        journal: NO_RECORDS,
+        failing: &[3],
+        streams: &[&LEFT_IN_DOUBT],
+        left: None,
+        calls: Some(9),
+    },
+    Session {
+        journal: NO_RECORDS,
+        failing: &[4],
+        streams: &[&LEFT_IN_DOUBT],
+        left: None,
+        calls: Some(10),
+    },
+    Session {
+        journal: NO_RECORDS,
+        failing: &[3, 4],
+        streams: &[&SECOND_IN_DOUBT],
+        left: None,
+        calls: Some(10),
+    },
+    Session {
+        journal: NO_RECORDS,
+        failing: &[3, 5],
+        streams: &[&SECOND_IN_DOUBT],
+        left: None,
+        calls: Some(11),
+    },
+    Session {
+        journal: NO_RECORDS,
+        failing: &[3, 6],
+        streams: &[&SECOND_NOT_KEPT],
+        left: None,
+        calls: Some(10),
+    },
+    Session {
+        journal: NO_RECORDS,
+        failing: &[3, 7],
+        streams: &[&SECOND_NOT_KEPT],
+        left: None,
+        calls: Some(11),
+    },
+    Session {
+        journal: NO_RECORDS,
+        failing: &[3, 8],
+        streams: &[&SECOND_IN_DOUBT],
+        left: None,
+        calls: Some(14),
+    },
+    Session {
+        journal: NO_RECORDS,
+        failing: &[3, 9],
+        streams: &[&SECOND_IN_DOUBT],
+        left: None,
+        calls: Some(15),
+    },
+    Session {
+        journal: NO_RECORDS,
+        failing: &[7],
+        streams: &[&IN_THE_MEANTIME],
+        left: None,
+        calls: Some(13),
+    },
 ];
 
+#[test]
+fn calls_fail_once_and_twice(rt: HostRuntime) -> Result<(), Fail> {
+    pass_sessions(rt.alloc(), &FAULTS)
+}
+
+const REFUSED: [Exchange; 1] = [("POST /edits", ADDITION, UNAVAILABLE, NOT_IN_DOUBT)];
+
+const DOUBTED: [Exchange; 1] = [("POST /edits", ADDITION, UNAVAILABLE, IN_DOUBT)];
+
+/// The same edit, once the journal is opened anew: it is the first, or it was found.
+const AGAIN: [Exchange; 1] = [("POST /edits", ADDITION, OK, FIRST)];
+
+const FOUND: [Exchange; 1] = [("POST /edits", ADDITION, OK, r#"{"edit":1,"repeated":true}"#)];
+
 /// An edit in doubt whose record is found was accepted.
+const OPENED_ANEW: [Session; 4] = [
+    Session {
+        journal: NO_RECORDS,
+        failing: &[1],
+        streams: &[&REFUSED, &AGAIN],
+        left: None,
+        calls: None,
+    },
+    Session {
+        journal: NO_RECORDS,
+        failing: &[2],
+        streams: &[&REFUSED, &AGAIN],
+        left: None,
+        calls: None,
+    },
+    Session {
+        journal: NO_RECORDS,
+        failing: &[3],
+        streams: &[&DOUBTED, &AGAIN],
+        left: None,
+        calls: None,
+    },
+    Session {
+        journal: NO_RECORDS,
+        failing: &[4],
+        streams: &[&DOUBTED, &FOUND],
+        left: None,
+        calls: None,
+    },
+];
+
 #[test]
 fn an_edit_in_doubt_is_found_or_not(rt: HostRuntime) -> Result<(), Fail> {
-    let opening = opening_calls(rt.alloc())?;
-    for (call, first, second) in OPENED_ANEW {
-        let failing = [opening.saturating_add(call)];
-        let mut cabinet = cabinet(rt.alloc(), EMPTY_JOURNAL, &failing)?;
-        let sent = ("POST /edits", ADDED.1, UNAVAILABLE, first);
-        pass(rt.alloc(), &mut cabinet, &[sent])?;
-        let again = ("POST /edits", ADDED.1, OK, second);
-        pass(rt.alloc(), &mut cabinet, &[again])?;
-    }
-    Ok(())
+    pass_sessions(rt.alloc(), &OPENED_ANEW)
 }

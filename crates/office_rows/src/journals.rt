@@ -1,10 +1,9 @@
 //! What stands in a journal behind the edits of a run, and what is no journal.
 
-use std::alloc::Global;
 use std::test::Fail;
 use whole_runs::{
-    ADDED, ADDITION, BATCH, EMPTY_JOURNAL, Exchange, INIT, OK, cabinet, expect, left, new_journal,
-    pass, run, same,
+    ADDED, ADDITION, BATCH, Due, Exchange, INIT, NO_RECORDS, OK, Opening, Parts, Session,
+    pass_openings, pass_sessions,
 };
 
 const HEADER: &[u8] = b"STREAMOFFICE-J1\n";
@@ -24,15 +23,6 @@ const READING: &[u8] =
 /// The station is set under `a3`, with gaps of an hour at most.
 const SETTING: &[u8] =
     b"\x30\0\0\0\x02\x02AB\x02a3\x08\xa4\x1f\x19\0\0\0\0\0\x07POTOMAC\x3c\0\0\099999999929999999992";
-
-/// These parts, one behind another.
-fn joined(alloc: Global, parts: &[&[u8]]) -> Result<Vec<u8>, Fail> {
-    let mut bytes = Vec::new(alloc);
-    for part in parts {
-        bytes.extend_from_slice(part)?;
-    }
-    Ok(bytes)
-}
 
 /// The exchanges that leave those records.
 const EDITS: [Exchange; 6] = [
@@ -54,13 +44,132 @@ const EDITS: [Exchange; 6] = [
     ("GET /status", "", OK, r#"{"edits":3,"pending":0}"#),
 ];
 
+/// Opened anew, the journal has them still.
+const STILL_KEPT: [Exchange; 1] = [("GET /status", "", OK, r#"{"edits":3,"pending":1}"#)];
+
+const KEPT: Parts = &[
+    HEADER,
+    b"\x01",
+    ADDED_RECORD,
+    b"\x01",
+    READING,
+    b"\x01",
+    SETTING,
+    b"\0",
+];
+
+/// A journal of the addition alone.
+const ONE_RECORD: Parts = &[HEADER, b"\x01", ADDED_RECORD, b"\0"];
+
+/// The addition again, where it stands and where it does not.
+const REPEATED: [Exchange; 2] = [
+    ("POST /edits", ADDITION, OK, r#"{"edit":1,"repeated":true}"#),
+    ("GET /status", "", OK, r#"{"edits":1,"pending":0}"#),
+];
+
+const SENT_ANEW: [Exchange; 2] = [ADDED, ("GET /status", "", OK, r#"{"edits":1,"pending":0}"#)];
+
+/// Edits are kept. A stop between the write of a gate and its sync leaves the edit or not: sent again, it has the same number and
+/// stands once.
+const JOURNALS: [Session; 5] = [
+    Session {
+        journal: NO_RECORDS,
+        failing: &[],
+        streams: &[&EDITS],
+        left: Some(KEPT),
+        calls: None,
+    },
+    Session {
+        journal: KEPT,
+        failing: &[],
+        streams: &[&STILL_KEPT],
+        left: Some(KEPT),
+        calls: None,
+    },
+    Session {
+        journal: ONE_RECORD,
+        failing: &[],
+        streams: &[&REPEATED],
+        left: Some(ONE_RECORD),
+        calls: None,
+    },
+    Session {
+        journal: &[HEADER, b"\0", ADDED_RECORD, b"\0"],
+        failing: &[],
+        streams: &[&SENT_ANEW],
+        left: Some(ONE_RECORD),
+        calls: None,
+    },
+    Session {
+        journal: &[HEADER, b"\x02", ADDED_RECORD, b"\0"],
+        failing: &[],
+        streams: &[&SENT_ANEW],
+        left: Some(ONE_RECORD),
+        calls: None,
+    },
+];
+
 #[test]
 fn edits_are_kept(rt: HostRuntime) -> Result<(), Fail> {
-    let alloc = rt.alloc();
-    let mut cabinet = new_journal(alloc)?;
-    pass(rt.alloc(), &mut cabinet, &EDITS)?;
-    let kept = joined(
-        alloc,
+    pass_sessions(rt.alloc(), &JOURNALS)
+}
+
+/// A record of 60 bytes with its gate begins at 16.
+const DAMAGED_AT_16: Due = Due {
+    status: 5,
+    written: &[],
+    told: b"streamoffice: damaged at 16\n",
+    is_read: false,
+    left: None,
+};
+
+const DAMAGED_AT_76: Due = Due {
+    status: 5,
+    written: &[],
+    told: b"streamoffice: damaged at 76\n",
+    is_read: false,
+    left: None,
+};
+
+const DAMAGED_AT_118: Due = Due {
+    status: 5,
+    written: &[],
+    told: b"streamoffice: damaged at 118\n",
+    is_read: false,
+    left: None,
+};
+
+/// Records that are cut, edits on a station that is not kept, and the same edit and the same station again.
+const DAMAGES: [Opening; 12] = [
+    (BATCH, &[HEADER], &DAMAGED_AT_16),
+    (BATCH, &[HEADER, b"\x01"], &DAMAGED_AT_16),
+    (BATCH, &[HEADER, b"\x01\x37\0\0"], &DAMAGED_AT_16),
+    (
+        BATCH,
+        &[HEADER, b"\x01\x37\0\0\0\x01\x02AB"],
+        &DAMAGED_AT_16,
+    ),
+    (BATCH, &[HEADER, b"\x01\0\0\0\0\0"], &DAMAGED_AT_16),
+    (BATCH, &[HEADER, b"\x01", ADDED_RECORD], &DAMAGED_AT_76),
+    (
+        BATCH,
+        &[HEADER, b"\x01", ADDED_RECORD, b"\x01"],
+        &DAMAGED_AT_76,
+    ),
+    (BATCH, &[HEADER, b"\x01", READING, b"\0"], &DAMAGED_AT_16),
+    (BATCH, &[HEADER, b"\x01", SETTING, b"\0"], &DAMAGED_AT_16),
+    (
+        BATCH,
+        &[HEADER, b"\x01", ADDED_RECORD, b"\x01", ADDED_RECORD, b"\0"],
+        &DAMAGED_AT_76,
+    ),
+    (
+        BATCH,
+        &[HEADER, b"\x01", ADDED_RECORD, b"\x01", SECOND_RECORD, b"\0"],
+        &DAMAGED_AT_76,
+    ),
+    (
+        BATCH,
         &[
             HEADER,
             b"\x01",
@@ -68,159 +177,69 @@ fn edits_are_kept(rt: HostRuntime) -> Result<(), Fail> {
             b"\x01",
             READING,
             b"\x01",
-            SETTING,
-            b"\0",
-        ],
-    )?;
-    same("kept", &left(&cabinet), &Some(kept.as_slice()))?;
-    let again = [("GET /status", "", OK, r#"{"edits":3,"pending":1}"#)];
-    pass(rt.alloc(), &mut cabinet, &again)?;
-    same("left", &left(&cabinet), &Some(kept.as_slice()))
-}
-
-/// The gate before a record, and whether the same edit is a repeated one.
-const GATES: [(&[u8], &str); 3] = [
-    (b"\x01", r#"{"edit":1,"repeated":true}"#),
-    (b"\0", r#"{"edit":1,"repeated":false}"#),
-    (b"\x02", r#"{"edit":1,"repeated":false}"#),
-];
-
-/// A stop between the write of a gate and its sync leaves the edit or not. Sent again, it has the same number and stands once.
-#[test]
-fn a_stop_leaves_the_edit_or_not(rt: HostRuntime) -> Result<(), Fail> {
-    let alloc = rt.alloc();
-    let whole = joined(alloc, &[HEADER, b"\x01", ADDED_RECORD, b"\0"])?;
-    for (gate, reply) in GATES {
-        let stopped = joined(alloc, &[HEADER, gate, ADDED_RECORD, b"\0"])?;
-        let mut cabinet = cabinet(alloc, &stopped, &[])?;
-        let again = [
-            ("POST /edits", ADDITION, OK, reply),
-            ("GET /status", "", OK, r#"{"edits":1,"pending":0}"#),
-        ];
-        pass(rt.alloc(), &mut cabinet, &again)?;
-        same(reply, &left(&cabinet), &Some(whole.as_slice()))?;
-    }
-    Ok(())
-}
-
-/// What stands behind the header, and what is told of it. A record of 60 bytes with its gate begins at 16.
-const DAMAGES: [(&[&[u8]], &[u8]); 12] = [
-    (&[], b"streamoffice: damaged at 16\n"),
-    (&[b"\x01"], b"streamoffice: damaged at 16\n"),
-    (&[b"\x01\x37\0\0"], b"streamoffice: damaged at 16\n"),
-    (
-        &[b"\x01\x37\0\0\0\x01\x02AB"],
-        b"streamoffice: damaged at 16\n",
-    ),
-    (&[b"\x01\0\0\0\0\0"], b"streamoffice: damaged at 16\n"),
-    (&[b"\x01", ADDED_RECORD], b"streamoffice: damaged at 76\n"),
-    (
-        &[b"\x01", ADDED_RECORD, b"\x01"],
-        b"streamoffice: damaged at 76\n",
-    ),
-    // the station is not kept
-    (&[b"\x01", READING, b"\0"], b"streamoffice: damaged at 16\n"),
-    (&[b"\x01", SETTING, b"\0"], b"streamoffice: damaged at 16\n"),
-    // the same edit again, and the same station
-    (
-        &[b"\x01", ADDED_RECORD, b"\x01", ADDED_RECORD, b"\0"],
-        b"streamoffice: damaged at 76\n",
-    ),
-    (
-        &[b"\x01", ADDED_RECORD, b"\x01", SECOND_RECORD, b"\0"],
-        b"streamoffice: damaged at 76\n",
-    ),
-    (
-        &[
-            b"\x01",
-            ADDED_RECORD,
-            b"\x01",
-            READING,
-            b"\x01",
             READING,
             b"\0",
         ],
-        b"streamoffice: damaged at 118\n",
+        &DAMAGED_AT_118,
     ),
 ];
 
-/// The input is not read, and the journal stays as it is.
 #[test]
 fn journals_are_damaged(rt: HostRuntime) -> Result<(), Fail> {
-    let alloc = rt.alloc();
-    for (parts, told) in DAMAGES {
-        let mut bytes = HEADER.to_vec(alloc)?;
-        bytes.extend_from_slice(&joined(alloc, parts)?)?;
-        let mut cabinet = cabinet(alloc, &bytes, &[])?;
-        let ran = run(
-            rt.alloc(),
-            &mut cabinet,
-            BATCH,
-            b"GET /status HTTP/1.1\r\n\r\n",
-        )?;
-        expect(&ran, 5, b"", told)?;
-        same("reads", &ran.reads, &0)?;
-        same("left", &left(&cabinet), &Some(bytes.as_slice()))?;
-    }
-    Ok(())
+    pass_openings(rt.alloc(), &DAMAGES)
 }
 
-/// What stands under the name before a journal is made, the status, and what is told.
-const MAKINGS: [(&[u8], u8, &[u8]); 8] = [
-    (b"", 0, b""),
-    (b"S", 0, b""),
-    (b"STREAMOFFICE-J1\n", 0, b""),
-    (b"STREAMOFFICE-J1\n\x01", 0, b""),
-    (b"any 17 other byte", 0, b""),
-    (EMPTY_JOURNAL, 8, b"streamoffice: journal exists\n"),
-    (
-        b"STREAMOFFICE-J1\n\x01\0",
-        8,
-        b"streamoffice: journal exists\n",
-    ),
-    (b"any 18 other bytes", 5, b"streamoffice: not a journal\n"),
+const MADE: Due = Due {
+    status: 0,
+    written: &[],
+    told: b"",
+    is_read: false,
+    left: Some(NO_RECORDS),
+};
+
+const JOURNAL_EXISTS: Due = Due {
+    status: 8,
+    written: &[],
+    told: b"streamoffice: journal exists\n",
+    is_read: false,
+    left: None,
+};
+
+const NOT_A_JOURNAL: Due = Due {
+    status: 5,
+    written: &[],
+    told: b"streamoffice: not a journal\n",
+    is_read: false,
+    left: None,
+};
+
+/// What stands under the name before a journal is made.
+const MAKINGS: [Opening; 8] = [
+    (INIT, &[], &MADE),
+    (INIT, &[b"S"], &MADE),
+    (INIT, &[HEADER], &MADE),
+    (INIT, &[HEADER, b"\x01"], &MADE),
+    (INIT, &[b"any 17 other byte"], &MADE),
+    (INIT, &[HEADER, b"\0"], &JOURNAL_EXISTS),
+    (INIT, &[HEADER, b"\x01\0"], &JOURNAL_EXISTS),
+    (INIT, &[b"any 18 other bytes"], &NOT_A_JOURNAL),
 ];
 
 #[test]
 fn journals_are_made(rt: HostRuntime) -> Result<(), Fail> {
-    for (bytes, status, told) in MAKINGS {
-        let mut cabinet = cabinet(rt.alloc(), bytes, &[])?;
-        let ran = run(
-            rt.alloc(),
-            &mut cabinet,
-            INIT,
-            b"GET /status HTTP/1.1\r\n\r\n",
-        )?;
-        expect(&ran, status, b"", told)?;
-        same("reads", &ran.reads, &0)?;
-        let kept = if status == 0 { EMPTY_JOURNAL } else { bytes };
-        same("left", &left(&cabinet), &Some(kept))?;
-    }
-    Ok(())
+    pass_openings(rt.alloc(), &MAKINGS)
 }
 
 /// What is no journal.
-const NO_JOURNALS: [&[u8]; 5] = [
-    b"",
-    b"S",
-    b"STREAMOFFICE-J1",
-    b"STREAMOFFICE-J2\n\0",
-    b"any other bytes, and some more",
+const NO_JOURNALS: [Opening; 5] = [
+    (BATCH, &[], &NOT_A_JOURNAL),
+    (BATCH, &[b"S"], &NOT_A_JOURNAL),
+    (BATCH, &[b"STREAMOFFICE-J1"], &NOT_A_JOURNAL),
+    (BATCH, &[b"STREAMOFFICE-J2\n\0"], &NOT_A_JOURNAL),
+    (BATCH, &[b"any other bytes, and some more"], &NOT_A_JOURNAL),
 ];
 
 #[test]
 fn there_is_no_journal(rt: HostRuntime) -> Result<(), Fail> {
-    for bytes in NO_JOURNALS {
-        let mut cabinet = cabinet(rt.alloc(), bytes, &[])?;
-        let ran = run(
-            rt.alloc(),
-            &mut cabinet,
-            BATCH,
-            b"GET /status HTTP/1.1\r\n\r\n",
-        )?;
-        expect(&ran, 5, b"", b"streamoffice: not a journal\n")?;
-        same("reads", &ran.reads, &0)?;
-        same("left", &left(&cabinet), &Some(bytes))?;
-    }
-    Ok(())
+    pass_openings(rt.alloc(), &NO_JOURNALS)
 }

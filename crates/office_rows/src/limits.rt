@@ -4,9 +4,7 @@ use civil_days::write_instant;
 use fixed_units::{NoMemory, Second, Text};
 use std::alloc::Global;
 use std::test::Fail;
-use whole_runs::{
-    ADDITION, BATCH, CONFLICT, OK, expect, new_journal, push_message, push_reply, run,
-};
+use whole_runs::{ADDITION, CONFLICT, OK, pass_bytes, push_message, push_reply};
 
 /// The messages and the replies of a stream that grows by edits.
 #[derive(Drop)]
@@ -94,55 +92,73 @@ impl Stream {
     }
 
     /// The stream passes over a new journal.
-    fn pass(&self) -> Result<(), Fail> {
-        let mut cabinet = new_journal(self.alloc)?;
-        let ran = run(self.alloc, &mut cabinet, BATCH, self.input.as_slice())?;
-        expect(&ran, 0, self.due.as_slice(), b"")
+    fn pass(self) -> Result<(), Fail> {
+        pass_bytes(self.alloc, self.input.into_vec(), self.due.as_slice())
     }
 }
 
 const MANY_STATIONS: &str = r#"{"code":"Limit","limit":"Stations"}"#;
 
 /// 500 stations are added, and one more is not.
-#[test]
-fn there_are_500_stations(rt: HostRuntime) -> Result<(), Fail> {
-    let mut stream = Stream::new(rt.alloc());
-    for number in 1..501u32 {
-        stream.add(u64::from(number))?;
-        stream.accepted(u64::from(number))?;
+fn fill_stations(stream: &mut Stream) -> Result<(), NoMemory> {
+    for number in 1..501u64 {
+        stream.add(number)?;
+        stream.accepted(number)?;
     }
     stream.add(501)?;
     stream.refused(MANY_STATIONS)?;
     stream.put(b'a', 1, b"2024-01-05T05:00:00Z")?;
-    stream.accepted(501)?;
+    stream.accepted(501)
+}
+
+#[test]
+fn there_are_500_stations(rt: HostRuntime) -> Result<(), Fail> {
+    let mut stream = Stream::new(rt.alloc());
+    fill_stations(&mut stream)?;
     stream.pass()
 }
 
 /// The stamp of a number: from 2 on they rise by 57 seconds from the beginning of 2024-01-05.
-fn stamp(number: u32) -> Result<Second, Fail> {
+fn stamp(number: u32) -> Option<Second> {
     let at = i64::from(number).saturating_mul(57);
-    Ok(Second::new(at.saturating_add(1_704_430_686)).ok_or("a second")?)
+    Second::new(at.saturating_add(1_704_430_686))
+}
+
+/// Puts a reading under this number and at the stamp of that one.
+fn put_at(stream: &mut Stream, number: u32, stamped: u32) -> Result<(), Fail> {
+    let at = stamp(stamped).ok_or("a second")?;
+    Ok(stream.put_at(u64::from(number), at)?)
 }
 
 const MANY_READINGS: &str = r#"{"code":"Limit","limit":"DayReadings"}"#;
 
-/// A local day has 1,500 readings, and one in the place of another is none more.
-#[test]
-fn a_day_has_1500_readings(rt: HostRuntime) -> Result<(), Fail> {
-    let mut stream = Stream::new(rt.alloc());
+/// 1,500 readings of a local day are put.
+fn fill_day(stream: &mut Stream) -> Result<(), Fail> {
     stream.body.push_slice(ADDITION.as_bytes())?;
     stream.send()?;
     stream.accepted(1)?;
     for number in 2..1_502u32 {
-        stream.put_at(u64::from(number), stamp(number)?)?;
+        put_at(stream, number, number)?;
         stream.accepted(u64::from(number))?;
     }
-    stream.put_at(1_502, stamp(1_502)?)?;
+    Ok(())
+}
+
+/// One more is refused; one in the place of another is none more, nor is one of the next day.
+fn pass_the_day(stream: &mut Stream) -> Result<(), Fail> {
+    put_at(stream, 1_502, 1_502)?;
     stream.refused(MANY_READINGS)?;
-    stream.put_at(1_503, stamp(2)?)?;
+    put_at(stream, 1_503, 2)?;
     stream.accepted(1_502)?;
-    stream.put_at(1_504, stamp(1_518)?)?;
-    stream.accepted(1_503)?;
+    put_at(stream, 1_504, 1_518)?;
+    Ok(stream.accepted(1_503)?)
+}
+
+#[test]
+fn a_day_has_1500_readings(rt: HostRuntime) -> Result<(), Fail> {
+    let mut stream = Stream::new(rt.alloc());
+    fill_day(&mut stream)?;
+    pass_the_day(&mut stream)?;
     stream.pass()
 }
 
@@ -150,29 +166,32 @@ const MANY_CELLS: &str = r#"{"code":"HistoryFull","full":"Cells"}"#;
 
 const FIRST_STAMP: &[u8] = b"1900-01-03T00:00:00Z";
 
+/// Adds a station and puts two readings, so that it has cells from the first stamp's day to the last one's.
+fn span(stream: &mut Stream, number: u64, last: &[u8]) -> Result<(), NoMemory> {
+    let edits = number.saturating_mul(3);
+    stream.add(number)?;
+    stream.accepted(edits.saturating_sub(2))?;
+    stream.put(b'a', number, FIRST_STAMP)?;
+    stream.accepted(edits.saturating_sub(1))?;
+    stream.put(b'b', number, last)?;
+    stream.accepted(edits)
+}
+
 /// 54 stations have 73,044 cells each, and the last the 55,624 that are left of 4,000,000, and no more.
-#[test]
-fn there_are_4_000_000_cells(rt: HostRuntime) -> Result<(), Fail> {
-    let mut stream = Stream::new(rt.alloc());
-    let mut edits = 0u64;
-    for number in 1..56u32 {
-        let number = u64::from(number);
-        let last: &[u8] = if number < 55 {
-            b"2099-12-28T12:00:00Z"
-        } else {
-            b"2052-04-18T12:00:00Z"
-        };
-        stream.add(number)?;
-        stream.accepted(edits.saturating_add(1))?;
-        stream.put(b'a', number, FIRST_STAMP)?;
-        stream.accepted(edits.saturating_add(2))?;
-        stream.put(b'b', number, last)?;
-        stream.accepted(edits.saturating_add(3))?;
-        edits = edits.saturating_add(3);
+fn fill_cells(stream: &mut Stream) -> Result<(), NoMemory> {
+    for number in 1..55u64 {
+        span(stream, number, b"2099-12-28T12:00:00Z")?;
     }
+    span(stream, 55, b"2052-04-18T12:00:00Z")?;
     stream.put(b'c', 55, b"2052-04-19T12:00:00Z")?;
     stream.refused(MANY_CELLS)?;
     stream.put(b'd', 55, b"2024-01-05T05:00:00Z")?;
-    stream.accepted(166)?;
+    stream.accepted(166)
+}
+
+#[test]
+fn there_are_4_000_000_cells(rt: HostRuntime) -> Result<(), Fail> {
+    let mut stream = Stream::new(rt.alloc());
+    fill_cells(&mut stream)?;
     stream.pass()
 }

@@ -42,11 +42,6 @@ const ADDITIONS: [Exchange; 7] = [
     ("GET /status", "", OK, r#"{"edits":1,"pending":0}"#),
 ];
 
-#[test]
-fn an_addition_is_sent_again(rt: HostRuntime) -> Result<(), Fail> {
-    pass_anew(rt.alloc(), &ADDITIONS)
-}
-
 /// An edit is the same where its values are, however its body is spelled.
 const READINGS: [Exchange; 7] = [
     ADDED,
@@ -83,11 +78,6 @@ const READINGS: [Exchange; 7] = [
     ("GET /status", "", OK, r#"{"edits":2,"pending":1}"#),
 ];
 
-#[test]
-fn a_reading_is_sent_again(rt: HostRuntime) -> Result<(), Fail> {
-    pass_anew(rt.alloc(), &READINGS)
-}
-
 /// Zones are the same where their texts are.
 const ZONES: [Exchange; 3] = [
     (
@@ -109,11 +99,6 @@ const ZONES: [Exchange; 3] = [
         REPEATED_1,
     ),
 ];
-
-#[test]
-fn zones_are_compared_as_texts(rt: HostRuntime) -> Result<(), Fail> {
-    pass_anew(rt.alloc(), &ZONES)
-}
 
 /// A repeated edit marks no day, and one that changes no day's inputs marks none either.
 const MARKS: [Exchange; 8] = [
@@ -147,7 +132,9 @@ const MARKS: [Exchange; 8] = [
     ("GET /status", "", OK, r#"{"edits":4,"pending":1}"#),
 ];
 
+const REPEATS: [&[Exchange]; 4] = [&ADDITIONS, &READINGS, &ZONES, &MARKS];
+
 #[test]
-fn days_await_edits_that_change_them(rt: HostRuntime) -> Result<(), Fail> {
-    pass_anew(rt.alloc(), &MARKS)
+fn edits_are_sent_again(rt: HostRuntime) -> Result<(), Fail> {
+    pass_anew(rt.alloc(), &REPEATS)
 }

@@ -66,11 +66,6 @@ const THE_SHORT_DAY: [Exchange; 10] = [
     ("GET /status", "", OK, r#"{"edits":5,"pending":0}"#),
 ];
 
-#[test]
-fn a_day_of_23_hours(rt: HostRuntime) -> Result<(), Fail> {
-    pass_anew(rt.alloc(), &THE_SHORT_DAY)
-}
-
 /// A day of 25 hours that is not covered.
 const THE_LONG_DAY: [Exchange; 4] = [
     ADDED_EAST,
@@ -88,11 +83,6 @@ const THE_LONG_DAY: [Exchange; 4] = [
         r#"{"answer":"computed","covered":0,"discharge":null,"estimated":false,"length":90000,"max":null,"min":null,"stage":null,"status":"working"}"#,
     ),
 ];
-
-#[test]
-fn a_day_of_25_hours(rt: HostRuntime) -> Result<(), Fail> {
-    pass_anew(rt.alloc(), &THE_LONG_DAY)
-}
 
 const BAD_ZONE: &str = r#"{"code":"Body","member":"zone"}"#;
 
@@ -118,11 +108,6 @@ const ZONES: [Exchange; 4] = [
     ),
     ("GET /status", "", OK, r#"{"edits":1,"pending":0}"#),
 ];
-
-#[test]
-fn zones_are_good_or_refused(rt: HostRuntime) -> Result<(), Fail> {
-    pass_anew(rt.alloc(), &ZONES)
-}
 
 const STATION: &str = "GET /stations/01646500";
 
@@ -173,7 +158,9 @@ const STATIONS: [Exchange; 8] = [
     ),
 ];
 
+const ALL: [&[Exchange]; 4] = [&THE_SHORT_DAY, &THE_LONG_DAY, &ZONES, &STATIONS];
+
 #[test]
-fn stations_are_told_as_they_were_given(rt: HostRuntime) -> Result<(), Fail> {
-    pass_anew(rt.alloc(), &STATIONS)
+fn stations_and_their_zones(rt: HostRuntime) -> Result<(), Fail> {
+    pass_anew(rt.alloc(), &ALL)
 }

@@ -1,29 +1,40 @@
-//! How many cells there are.
+//! Days that are marked alone: how many cells there are, and the order of sites.
 
-use crate::fixtures::{Desk, station};
-use std::test::Fail;
+use crate::acts::play;
+use crate::tables::{Act, Place, Row, STATION, Told, Wrong};
+
+/// The days between are counted too, and room grows at both ends.
+static SPANS: Row = &[
+    (Act::CellsWith([-25_567, 47_481]), Told::Cells(73_049)),
+    (Act::Mark(STATION, [10, 20], 1), Told::Done),
+    (Act::Counts, Told::Counts(2, 11)),
+    (Act::Awaited(15), Told::Awaits(None)),
+    (Act::CellsWith([8, 12]), Told::Cells(13)),
+    (Act::Mark(STATION, [-400, 12], 2), Told::Done),
+    (Act::Mark(STATION, [20, 700], 3), Told::Done),
+    (Act::Counts, Told::Counts(5, 1_101)),
+    (Act::Awaited(10), Told::Awaits(Some(1))),
+    (Act::Awaited(20), Told::Awaits(Some(3))),
+];
 
 #[test]
-fn days_between_are_counted(rt: HostRuntime) -> Result<(), Fail> {
-    let b = station()?;
-    let mut desk = Desk::new(rt.alloc());
-    assert_eq!(rt; desk.cells_after(b, -25_567, 47_481)?, 73_049);
-    desk.mark(b, 10, 20, 1)?;
-    assert_eq!(rt; desk.counts(), (2, 11));
-    assert_eq!(rt; desk.cells_after(b, 8, 12)?, 13);
-    assert_eq!(rt; desk.awaited(15)?, None);
-    Ok(())
+fn days_between_are_counted(rt: HostRuntime) -> Result<(), Wrong> {
+    play(rt.alloc(), &[SPANS])
 }
 
+const SHORT: Place = (8, 99_999_999);
+
+const LONG: Place = (9, 0);
+
+static SITES: Row = &[
+    (Act::Mark(LONG, [1, 2], 1), Told::Done),
+    (Act::Mark(SHORT, [3, 4], 2), Told::Done),
+    (Act::Look, Told::Job(SHORT, 3, 2)),
+    (Act::LookBehind(SHORT, 4), Told::Job(LONG, 1, 1)),
+    (Act::LookBehind(LONG, 2), Told::NoJob),
+];
+
 #[test]
-fn room_grows_at_both_ends(rt: HostRuntime) -> Result<(), Fail> {
-    let b = station()?;
-    let mut desk = Desk::new(rt.alloc());
-    desk.mark(b, 10, 20, 1)?;
-    desk.mark(b, -400, 12, 2)?;
-    desk.mark(b, 20, 700, 3)?;
-    assert_eq!(rt; desk.counts(), (5, 1_101));
-    assert_eq!(rt; desk.awaited(10)?, Some(1));
-    assert_eq!(rt; desk.awaited(20)?, Some(3));
-    Ok(())
+fn fewer_digits_come_first(rt: HostRuntime) -> Result<(), Wrong> {
+    play(rt.alloc(), &[SITES])
 }

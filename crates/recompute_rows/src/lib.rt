@@ -1,11 +1,13 @@
-//! Worked rows of the cells and the jobs: a station with two days that one edit and then another changes.
+//! Worked rows of the cells and the jobs: days of a station that edits change, one after another, and cells that are marked alone.
 #![tactic(auto)]
 
 #[cfg(test)]
-mod fixtures;
-#[cfg(test)]
-mod jobs;
+mod acts;
 #[cfg(test)]
 mod kept_cells;
 #[cfg(test)]
+mod publications;
+#[cfg(test)]
 mod sent;
+#[cfg(test)]
+mod tables;

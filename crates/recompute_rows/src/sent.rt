@@ -1,61 +1,34 @@
-//! The edits of the rows.
+//! The edits of the rows, as records of a journal.
 
-use civil_days::read_instant;
-use edits::{By, Edit, Name, Ref, What};
-use fixed_units::{Flag, Micro, Reading, RoundingArray, Site, Text};
-use readings::ReadingList;
+use crate::tables::Wrong;
+use edits::Edit;
+use records::decode;
 use std::alloc::Global;
-use std::test::Fail;
 
-fn name(alloc: Global, bytes: &[u8]) -> Result<Name, Fail> {
-    let mut text = Text::new(alloc);
-    match text.push_slice(bytes) {
-        Ok(()) => Ok(Name::new(text).ok_or("a name")?),
-        Err(_) => Err("there is memory for a text".into()),
-    }
-}
+/// Adds the station 01646500, five hours behind UTC, with readings up to twelve hours apart.
+pub const ADDITION: &[u8] =
+    b"\x01\x02AB\x02a1\x08\xa4\x1f\x19\0\0\0\0\0\x07POTOMAC\x06-05:00\xd0\x02\0\099999999929999999992";
 
-/// The edit by `AB` of a site.
-fn edit(alloc: Global, site: Site, what: What) -> Result<Edit, Fail> {
-    let by = By::new(b"AB").ok_or("initials")?;
-    let reference = Ref::new(b"r-1").ok_or("a reference")?;
-    match Edit::new(alloc, by, reference, site, what) {
-        Ok(edit) => Ok(edit),
-        Err(_) => Err("a lawful edit, and memory to test it".into()),
-    }
-}
+/// Puts a reading of 1.00 ft at the beginning of 2024-01-05: where it is the first it changes that day alone.
+pub const FIRST: &[u8] =
+    b"\x03\x02AB\x02a2\x08\xa4\x1f\x19\0\0\0\0\0\x01\0\0\0\xd0\x8c\x97\x65\0\0\0\0\x40\x42\x0f\0\0\0\0\0\0";
 
-/// Adds the station of a site, five hours behind UTC, with a gap tolerance of 720 minutes.
-pub fn addition(alloc: Global, site: Site) -> Result<Edit, Fail> {
-    edit(
-        alloc,
-        site,
-        What::AddStation {
-            name: name(alloc, b"POTOMAC")?,
-            zone: name(alloc, b"-05:00")?,
-            gap: 720,
-            stage_array: RoundingArray::STAGES,
-            discharge_array: RoundingArray::STAGES,
-        },
-    )
-}
+/// Puts one of 2.00 ft there.
+pub const HIGHER: &[u8] =
+    b"\x03\x02AB\x02a2\x08\xa4\x1f\x19\0\0\0\0\0\x01\0\0\0\xd0\x8c\x97\x65\0\0\0\0\x80\x84\x1e\0\0\0\0\0\0";
 
-/// Puts a reading of so many millionths of a foot at a site.
-pub fn put(alloc: Global, site: Site, at: &[u8], millionths: i64) -> Result<Edit, Fail> {
-    let mut list = Vec::new(alloc);
-    let reading = Reading {
-        at: read_instant(at).ok_or("a stamp")?,
-        raw: Micro::new(millionths).ok_or("a stage")?,
-        flag: Flag::Usable,
-    };
-    match list.push(reading) {
-        Ok(()) => edit(
-            alloc,
-            site,
-            What::PutReadings {
-                readings: ReadingList::from_vec(list),
-            },
-        ),
-        Err(_) => Err("there is memory for a reading".into()),
+/// Puts one of 1.00 ft at the end of that day: it changes both days.
+pub const NEXT: &[u8] =
+    b"\x03\x02AB\x02a3\x08\xa4\x1f\x19\0\0\0\0\0\x01\0\0\0\x50\xde\x98\x65\0\0\0\0\x40\x42\x0f\0\0\0\0\0\0";
+
+/// Puts one of 2.00 ft in the middle of that day: it changes both days.
+pub const MIDDLE: &[u8] =
+    b"\x03\x02AB\x02a4\x08\xa4\x1f\x19\0\0\0\0\0\x01\0\0\0\x90\x35\x98\x65\0\0\0\0\x80\x84\x1e\0\0\0\0\0\0";
+
+/// The edit of a record's payload.
+pub fn edit(alloc: Global, payload: &[u8]) -> Result<Edit, Wrong> {
+    match decode(alloc, payload) {
+        Ok(piece) => Ok(piece.edit),
+        Err(_) => Err(Wrong::Record),
     }
 }

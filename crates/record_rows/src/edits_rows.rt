@@ -1,120 +1,148 @@
 //! What makes an edit, and when two are the same.
 
-use crate::fixtures::{
-    DISCHARGES, STAGES, addition, edit, edit_of, is_unlawful, put, reading, setting, text,
-};
-use edits::{By, Edit, Name, Ref, are_put_readings, are_settings, is_gap, is_name, is_zone};
-use fixed_units::Flag;
+use crate::fixtures::{AB, Change, DISCHARGES, STAGES, Sent, edit, made, name, reading};
+use edits::{By, EditFault, Ref, are_put_readings, are_settings, is_gap, is_name, is_zone};
+use fixed_units::Flag::{Affected, Usable};
 use std::alloc::Global;
-use std::test::Fail;
 
-#[test]
-fn texts_are_tested(rt: HostRuntime) -> Result<(), Fail> {
-    let rows: [(&[u8], bool, bool, bool); 7] = [
-        (b"AB", true, true, true),
-        (b"", false, false, false),
-        (b"abcdefghi", false, true, true),
-        (b"A1", false, true, true),
-        (b"r-2", false, true, true),
-        (b" ~", false, false, true),
-        (b"a\x7f", false, false, false),
-    ];
-    for (bytes, by, reference, name) in rows {
-        assert_eq!(rt; By::new(bytes).is_some(), by, "{bytes:?}");
-        assert_eq!(rt; Ref::new(bytes).is_some(), reference, "{bytes:?}");
-        assert_eq!(rt; is_name(bytes), name, "{bytes:?}");
-        assert_eq!(rt;
-            Name::new(text(rt.alloc(), bytes)?).is_some(),
-            name,
-            "{bytes:?}"
-        );
-    }
-    Ok(())
-}
+/// Texts, and whether each is one's initials, a reference and a name.
+const TEXTS: [(&str, [bool; 3]); 7] = [
+    ("AB", [true, true, true]),
+    ("", [false, false, false]),
+    ("abcdefghi", [false, true, true]),
+    ("A1", [false, true, true]),
+    ("r-2", [false, true, true]),
+    (" ~", [false, false, true]),
+    ("a\x7f", [false, false, false]),
+];
 
-#[test]
-fn members_are_tested(rt: HostRuntime) -> Result<(), Fail> {
-    for (gap, good) in [(0, false), (1, true), (720, true), (721, false)] {
-        assert_eq!(rt; is_gap(gap), good, "{gap}");
-        assert_eq!(rt;
-            are_settings(b"POTOMAC", gap, STAGES, DISCHARGES),
-            good,
-            "{gap}"
-        );
-    }
-    assert!(rt; matches!(is_zone(rt.alloc(), b"-05:00"), Ok(true)));
-    assert!(rt; matches!(is_zone(rt.alloc(), b"\xff5:00"), Ok(false)));
-    let one = reading(0, 0, Flag::Usable)?;
-    assert!(rt; are_put_readings(&[one]));
-    assert!(rt; !are_put_readings(&[]));
-    assert!(rt; !are_put_readings(&[one, reading(1, 0, Flag::Usable)?]));
-    Ok(())
-}
-
-#[test]
-fn what_is_not_lawful_makes_no_edit(rt: HostRuntime) -> Result<(), Fail> {
-    let alloc = rt.alloc();
-    assert!(rt; is_unlawful(alloc, addition(alloc, b"-05:00", 721, STAGES)?)?);
-    assert!(rt; is_unlawful(alloc, addition(alloc, b"-05:60", 720, STAGES)?)?);
-    assert!(rt; is_unlawful(alloc, setting(alloc, b"A", 0, STAGES)?)?);
-    assert!(rt; is_unlawful(alloc, put(alloc, &[])?)?);
-    assert!(rt; is_unlawful(alloc, put(alloc, &[reading(0, 0, Flag::Affected)?])?)?);
-    assert!(rt;
-        is_unlawful(
-            alloc,
-            put(alloc, &[reading(4_102_185_600, 0, Flag::Usable)?])?
-        )?
-    );
-    assert!(rt;
-        is_unlawful(
-            alloc,
-            put(alloc, &[reading(0, 100_000_000_001, Flag::Usable)?])?
-        )?
-    );
-    Ok(())
-}
-
-/// The edits of which no two are the same.
-fn one_of(alloc: Global, row: u32) -> Result<Edit, Fail> {
-    let what = match row {
-        0 => addition(alloc, b"+00:00", 720, STAGES)?,
-        1 => addition(alloc, b"-00:00", 720, STAGES)?,
-        2 => addition(alloc, b"+00:00", 719, STAGES)?,
-        3 => addition(alloc, b"+00:00", 720, DISCHARGES)?,
-        4 => setting(alloc, b"POTOMAC", 720, STAGES)?,
-        5 => setting(alloc, b"Potomac", 720, STAGES)?,
-        6 => put(alloc, &[reading(0, 0, Flag::Usable)?])?,
-        7 => put(alloc, &[reading(1, 0, Flag::Usable)?])?,
-        _ => put(alloc, &[reading(0, 1, Flag::Usable)?])?,
-    };
-    edit(alloc, b"a1", what)
-}
-
-#[test]
-fn edits_are_the_same_by_their_values(rt: HostRuntime) -> Result<(), Fail> {
-    for row in 0..9 {
-        for other in 0..9 {
-            let same = one_of(rt.alloc(), row)?.is_same(&one_of(rt.alloc(), other)?);
-            assert_eq!(rt; same, row == other, "{row} {other}");
+fn first_wrong_text(alloc: Global) -> Option<&'static str> {
+    for (text, told) in &TEXTS {
+        let bytes = text.as_bytes();
+        let found = [
+            By::new(bytes).is_some(),
+            Ref::new(bytes).is_some(),
+            is_name(bytes),
+        ];
+        if found != *told || name(alloc, text).is_some() != told[2] {
+            return Some(text);
         }
     }
-    Ok(())
+    None
 }
 
 #[test]
-fn edits_of_others_are_others(rt: HostRuntime) -> Result<(), Fail> {
-    let alloc = rt.alloc();
-    let one = edit(alloc, b"a1", setting(alloc, b"A", 1, STAGES)?)?;
-    let rows: [(&[u8], &[u8], u8, bool); 4] = [
-        (b"AB", b"a1", 8, true),
-        (b"AC", b"a1", 8, false),
-        (b"AB", b"a2", 8, false),
-        (b"AB", b"a1", 9, false),
-    ];
-    for (by, reference, digits, same) in rows {
-        let what = setting(alloc, b"A", 1, STAGES)?;
-        let other = edit_of(alloc, by, reference, digits, 1_646_500, what)?;
-        assert_eq!(rt; one.is_same(&other), same, "{by:?} {reference:?} {digits}");
+fn texts_are_tested(rt: HostRuntime) {
+    let wrong = first_wrong_text(rt.alloc());
+    assert!(rt; wrong.is_none(), "{wrong:?}");
+}
+
+/// Gap tolerances in minutes, and whether a station may have each.
+const GAPS: [(u32, bool); 4] = [(0, false), (1, true), (720, true), (721, false)];
+
+fn first_wrong_gap() -> Option<u32> {
+    for (gap, good) in &GAPS {
+        let settings = are_settings(b"POTOMAC", *gap, STAGES.as_bytes(), DISCHARGES.as_bytes());
+        if is_gap(*gap) != *good || settings != *good {
+            return Some(*gap);
+        }
     }
-    Ok(())
+    None
+}
+
+#[test]
+fn gaps_are_tested(rt: HostRuntime) {
+    let wrong = first_wrong_gap();
+    assert!(rt; wrong.is_none(), "{wrong:?}");
+}
+
+#[test]
+fn zones_are_tested(rt: HostRuntime) {
+    let zone = is_zone(rt.alloc(), b"-05:00").ok();
+    let no_zone = is_zone(rt.alloc(), b"\xff5:00").ok();
+    assert!(rt; [zone, no_zone] == [Some(true), Some(false)]);
+}
+
+/// Whether the first so many of two readings may be put.
+fn may_be_put(count: usize) -> Option<bool> {
+    let two = [reading(0, 0, Usable)?, reading(1, 0, Usable)?];
+    Some(are_put_readings(two.get(..count)?))
+}
+
+#[test]
+fn one_reading_is_put(rt: HostRuntime) {
+    let told = [may_be_put(0), may_be_put(1), may_be_put(2)];
+    assert!(rt; told == [Some(false), Some(true), Some(false)]);
+}
+
+/// What may not be changed, told by its place from 0 on.
+const UNLAWFUL: [Change; 7] = [
+    Change::Addition("-05:00", 721, STAGES),
+    Change::Addition("-05:60", 720, STAGES),
+    Change::Setting("A", 0, STAGES),
+    Change::Nothing,
+    Change::Put(0, 0, Affected),
+    Change::Put(4_102_185_600, 0, Usable),
+    Change::Put(0, 100_000_000_001, Usable),
+];
+
+fn fault(alloc: Global, change: Change) -> Option<EditFault> {
+    made(alloc, &(AB, "a1", change))?.err()
+}
+
+fn first_lawful(alloc: Global, changes: &[Change]) -> Option<usize> {
+    for (row, change) in changes.iter().enumerate() {
+        if fault(alloc, *change) != Some(EditFault::NotLawful) {
+            return Some(row);
+        }
+    }
+    None
+}
+
+#[test]
+fn what_is_not_lawful_makes_no_edit(rt: HostRuntime) {
+    let lawful = first_lawful(rt.alloc(), &UNLAWFUL);
+    assert!(rt; lawful.is_none(), "{lawful:?}");
+}
+
+const SET: Change = Change::Setting("A", 1, STAGES);
+
+/// Edits of which no two are the same, told by their places from 0 on.
+const EDITS: [&Sent; 13] = [
+    &(AB, "a1", Change::Addition("+00:00", 720, STAGES)),
+    &(AB, "a1", Change::Addition("-00:00", 720, STAGES)),
+    &(AB, "a1", Change::Addition("+00:00", 719, STAGES)),
+    &(AB, "a1", Change::Addition("+00:00", 720, DISCHARGES)),
+    &(AB, "a1", Change::Setting("POTOMAC", 720, STAGES)),
+    &(AB, "a1", Change::Setting("Potomac", 720, STAGES)),
+    &(AB, "a1", Change::Put(0, 0, Usable)),
+    &(AB, "a1", Change::Put(1, 0, Usable)),
+    &(AB, "a1", Change::Put(0, 1, Usable)),
+    &(AB, "a1", SET),
+    &(AB, "a2", SET),
+    &(("AC", 8, 1_646_500), "a1", SET),
+    &(("AB", 9, 1_646_500), "a1", SET),
+];
+
+fn are_same(alloc: Global, one: &Sent, other: &Sent) -> Option<bool> {
+    let one = edit(alloc, one)?;
+    Some(one.is_same(&edit(alloc, other)?))
+}
+
+/// Two rows that are told to be the same or others, and are not.
+fn first_mistaken(alloc: Global, edits: &[&Sent]) -> Option<(usize, usize)> {
+    for (row, one) in edits.iter().enumerate() {
+        for (column, other) in edits.iter().enumerate() {
+            if are_same(alloc, one, other) != Some(row == column) {
+                return Some((row, column));
+            }
+        }
+    }
+    None
+}
+
+#[test]
+fn edits_are_the_same_by_their_values(rt: HostRuntime) {
+    let mistaken = first_mistaken(rt.alloc(), &EDITS);
+    assert!(rt; mistaken.is_none(), "{mistaken:?}");
 }

@@ -1,107 +1,101 @@
-//! Edits of the rows.
+//! Edits of the rows as plain values, and the edits for which these stand.
 
 use edits::{By, Edit, EditFault, Name, Ref, What};
 use fixed_units::{Flag, Micro, Reading, RoundingArray, Second, Site, Text};
 use readings::ReadingList;
 use std::alloc::Global;
-use std::test::Fail;
 
 /// The usual array of stages.
-pub const STAGES: &[u8] = b"9999999992";
+pub const STAGES: &str = "9999999992";
 
 /// An array of discharges.
-pub const DISCHARGES: &[u8] = b"0222233332";
+pub const DISCHARGES: &str = "0222233332";
 
-pub fn text(alloc: Global, bytes: &[u8]) -> Result<Text, Fail> {
-    let mut text = Text::new(alloc);
-    match text.push_slice(bytes) {
-        Ok(()) => Ok(text),
-        Err(_) => Err("there is memory for a text".into()),
-    }
+/// What an edit changes.
+#[derive(Clone, Copy)]
+pub enum Change {
+    /// Adds POTOMAC, of this zone, with this gap tolerance in minutes and this array of discharges.
+    Addition(&'static str, u32, &'static str),
+    /// Sets the name, the gap tolerance in minutes and the array of discharges of a station.
+    Setting(&'static str, u32, &'static str),
+    /// Puts a reading: its second, its stage in millionths of a foot, and its flag.
+    Put(i64, i64, Flag),
+    /// Puts no reading.
+    Nothing,
 }
 
-pub fn name(alloc: Global, bytes: &[u8]) -> Result<Name, Fail> {
-    Ok(Name::new(text(alloc, bytes)?).ok_or("a name")?)
+/// Whose edit it is: initials, and the digits and the number of the site.
+pub type Sender = (&'static str, u8, u64);
+
+/// `AB`, for the site 01646500.
+pub const AB: Sender = ("AB", 8, 1_646_500);
+
+/// An edit: whose it is, the reference, and what it changes.
+pub type Sent = (Sender, &'static str, Change);
+
+/// The name of this text, where it is one.
+pub fn name(alloc: Global, text: &str) -> Option<Name> {
+    Name::new(Text::from_vec(text.as_bytes().to_vec(alloc).ok()?))
 }
 
-fn array(digits: &[u8]) -> Result<RoundingArray, Fail> {
-    Ok(RoundingArray::read(digits).ok_or("a rounding array")?)
-}
-
-/// What adds the station POTOMAC.
-pub fn addition(alloc: Global, zone: &[u8], gap: u32, discharges: &[u8]) -> Result<What, Fail> {
-    Ok(What::AddStation {
-        name: name(alloc, b"POTOMAC")?,
-        zone: name(alloc, zone)?,
-        gap,
-        stage_array: array(STAGES)?,
-        discharge_array: array(discharges)?,
-    })
-}
-
-/// What sets a station.
-pub fn setting(alloc: Global, called: &[u8], gap: u32, discharges: &[u8]) -> Result<What, Fail> {
-    Ok(What::SetStation {
-        name: name(alloc, called)?,
-        gap,
-        stage_array: array(STAGES)?,
-        discharge_array: array(discharges)?,
-    })
-}
-
-/// A reading of so many millionths of a foot.
-pub fn reading(at: i64, millionths: i64, flag: Flag) -> Result<Reading, Fail> {
-    Ok(Reading {
-        at: Second::new(at).ok_or("an instant")?,
-        raw: Micro::new(millionths).ok_or("a quantity")?,
+/// A reading: its second, its stage in millionths of a foot, and its flag.
+pub fn reading(at: i64, millionths: i64, flag: Flag) -> Option<Reading> {
+    Some(Reading {
+        at: Second::new(at)?,
+        raw: Micro::new(millionths)?,
         flag,
     })
 }
 
-/// What puts these readings.
-pub fn put(alloc: Global, readings: &[Reading]) -> Result<What, Fail> {
-    let mut list = Vec::new(alloc);
-    match list.extend_from_slice(readings) {
-        Ok(()) => Ok(What::PutReadings {
-            readings: ReadingList::from_vec(list),
-        }),
-        Err(_) => Err("there is memory for readings".into()),
+fn addition(alloc: Global, zone: &str, gap: u32, discharge_array: RoundingArray) -> Option<What> {
+    let zone = name(alloc, zone)?;
+    Some(What::AddStation {
+        name: name(alloc, "POTOMAC")?,
+        zone,
+        gap,
+        stage_array: RoundingArray::STAGES,
+        discharge_array,
+    })
+}
+
+fn setting(alloc: Global, called: &str, gap: u32, discharge_array: RoundingArray) -> Option<What> {
+    Some(What::SetStation {
+        name: name(alloc, called)?,
+        gap,
+        stage_array: RoundingArray::STAGES,
+        discharge_array,
+    })
+}
+
+fn put(alloc: Global, readings: &[Reading]) -> Option<What> {
+    Some(What::PutReadings {
+        readings: ReadingList::from_vec(readings.to_vec(alloc).ok()?),
+    })
+}
+
+fn what(alloc: Global, change: Change) -> Option<What> {
+    match change {
+        Change::Addition(zone, gap, array) => {
+            addition(alloc, zone, gap, RoundingArray::read(array.as_bytes())?)
+        }
+        Change::Setting(called, gap, array) => {
+            setting(alloc, called, gap, RoundingArray::read(array.as_bytes())?)
+        }
+        Change::Put(at, millionths, flag) => put(alloc, &[reading(at, millionths, flag)?]),
+        Change::Nothing => put(alloc, &[]),
     }
 }
 
-/// The edit by `AB` at the site 01646500.
-pub fn edit(alloc: Global, reference: &[u8], what: What) -> Result<Edit, Fail> {
-    edit_of(alloc, b"AB", reference, 8, 1_646_500, what)
+/// What making an edit of these parts answers; `None` where a part that has a type of its own is none.
+pub fn made(alloc: Global, sent: &Sent) -> Option<Result<Edit, EditFault>> {
+    let (sender, reference, change) = *sent;
+    let by = By::new(sender.0.as_bytes())?;
+    let reference = Ref::new(reference.as_bytes())?;
+    let site = Site::new(sender.1, sender.2)?;
+    Some(Edit::new(alloc, by, reference, site, what(alloc, change)?))
 }
 
-/// The edit of these parts, which are lawful.
-pub fn edit_of(
-    alloc: Global,
-    by: &[u8],
-    reference: &[u8],
-    digits: u8,
-    value: u64,
-    what: What,
-) -> Result<Edit, Fail> {
-    match Edit::new(
-        alloc,
-        By::new(by).ok_or("initials")?,
-        Ref::new(reference).ok_or("a reference")?,
-        Site::new(digits, value).ok_or("a site")?,
-        what,
-    ) {
-        Ok(edit) => Ok(edit),
-        Err(_) => Err("a lawful edit, and memory to test it".into()),
-    }
-}
-
-/// Whether there is no edit that changes this.
-pub fn is_unlawful(alloc: Global, what: What) -> Result<bool, Fail> {
-    let by = By::new(b"AB").ok_or("initials")?;
-    let reference = Ref::new(b"a1").ok_or("a reference")?;
-    let site = Site::new(8, 1_646_500).ok_or("a site")?;
-    Ok(matches!(
-        Edit::new(alloc, by, reference, site, what),
-        Err(EditFault::NotLawful)
-    ))
+/// The edit of these parts, where there is one.
+pub fn edit(alloc: Global, sent: &Sent) -> Option<Edit> {
+    made(alloc, sent)?.ok()
 }

@@ -1,24 +1,44 @@
 //! Payloads that are no record's, each by one part, and the nearest that are.
 
-use crate::fixtures::text;
 use records::{DecodeFault, decode};
 use std::alloc::Global;
-use std::test::Fail;
 
-/// The parts of a payload one behind another.
-fn is_refused(alloc: Global, parts: &[&[u8]]) -> Result<bool, Fail> {
-    let mut payload = text(alloc, b"")?;
+/// The parts of a payload, one behind another, and whether it is refused.
+type Row = (&'static [&'static [u8]], bool);
+
+fn joined(alloc: Global, parts: &[&[u8]]) -> Option<Vec<u8>> {
+    let mut payload = Vec::new(alloc);
     for part in parts {
-        if payload.push_slice(part).is_err() {
-            return Err("there is memory for a payload".into());
-        }
+        payload.extend_from_slice(part).ok()?;
     }
-    match decode(alloc, payload.as_slice()) {
-        Ok(_) => Ok(false),
-        Err(DecodeFault::NotARecord) => Ok(true),
-        Err(DecodeFault::NoMemory) => Err("there is memory for a record".into()),
+    Some(payload)
+}
+
+/// Whether the payload of these parts is refused; `None` where memory is short.
+fn is_refused(alloc: Global, parts: &[&[u8]]) -> Option<bool> {
+    match decode(alloc, &joined(alloc, parts)?) {
+        Ok(_) => Some(false),
+        Err(DecodeFault::NotARecord) => Some(true),
+        Err(DecodeFault::NoMemory) => None,
     }
 }
+
+/// The number from 0 on of the first row that is refused where it is to be read, or read where it is to be refused.
+fn first_wrong(alloc: Global, rows: &[Row]) -> Option<usize> {
+    for (row, (parts, refused)) in rows.iter().enumerate() {
+        if is_refused(alloc, parts) != Some(*refused) {
+            return Some(row);
+        }
+    }
+    None
+}
+
+/// The kinds of payloads: an addition, a setting and a put.
+const ADD: &[u8] = b"\x01";
+
+const SET: &[u8] = b"\x02";
+
+const PUT: &[u8] = b"\x03";
 
 const BY: &[u8] = b"\x02AB";
 
@@ -36,167 +56,226 @@ const ARRAYS: &[u8] = b"99999999929999999992";
 
 const READING: &[u8] = b"\x01\0\0\0\xd0\x8c\x97\x65\0\0\0\0\x40\x42\x0f\0\0\0\0\0\0";
 
-#[test]
-fn senders_keep_to_their_ranges(rt: HostRuntime) -> Result<(), Fail> {
-    let rows: [(&[u8], &[u8], &[u8], bool); 14] = [
-        (BY, REF, SITE, false),
-        (b"\x08ABCDEFGH", REF, SITE, false),
-        (b"\x09ABCDEFGHI", REF, SITE, true),
-        (b"\0", REF, SITE, true),
-        (b"\x02A1", REF, SITE, true),
-        (
+/// Senders: initials, references and sites.
+const SENDERS: [Row; 14] = [
+    (&[PUT, BY, REF, SITE, READING], false),
+    (&[PUT, b"\x08ABCDEFGH", REF, SITE, READING], false),
+    (&[PUT, b"\x09ABCDEFGHI", REF, SITE, READING], true),
+    (&[PUT, b"\0", REF, SITE, READING], true),
+    (&[PUT, b"\x02A1", REF, SITE, READING], true),
+    (
+        &[
+            PUT,
             BY,
             b"\x28abcdefghijabcdefghijabcdefghijabcdefghij",
             SITE,
-            false,
-        ),
-        (
+            READING,
+        ],
+        false,
+    ),
+    (
+        &[
+            PUT,
             BY,
             b"\x29abcdefghijabcdefghijabcdefghijabcdefghijk",
             SITE,
-            true,
-        ),
-        (BY, b"\0", SITE, true),
-        (BY, b"\x02a_", SITE, true),
-        (BY, REF, b"\x07\xa4\x1f\x19\0\0\0\0\0", true),
-        (BY, REF, b"\x10\xa4\x1f\x19\0\0\0\0\0", true),
-        (BY, REF, b"\x08\xff\xe0\xf5\x05\0\0\0\0", false),
-        (BY, REF, b"\x08\x00\xe1\xf5\x05\0\0\0\0", true),
-        (BY, REF, b"\x09\x00\xe1\xf5\x05\0\0\0\0", false),
-    ];
-    for (by, reference, site, refused) in rows {
-        assert_eq!(rt;
-            is_refused(rt.alloc(), &[b"\x03", by, reference, site, READING])?,
-            refused,
-            "{by:?} {reference:?} {site:?}"
-        );
-    }
-    Ok(())
-}
+            READING,
+        ],
+        true,
+    ),
+    (&[PUT, BY, b"\0", SITE, READING], true),
+    (&[PUT, BY, b"\x02a_", SITE, READING], true),
+    (
+        &[PUT, BY, REF, b"\x07\xa4\x1f\x19\0\0\0\0\0", READING],
+        true,
+    ),
+    (
+        &[PUT, BY, REF, b"\x10\xa4\x1f\x19\0\0\0\0\0", READING],
+        true,
+    ),
+    (
+        &[PUT, BY, REF, b"\x08\xff\xe0\xf5\x05\0\0\0\0", READING],
+        false,
+    ),
+    (
+        &[PUT, BY, REF, b"\x08\x00\xe1\xf5\x05\0\0\0\0", READING],
+        true,
+    ),
+    (
+        &[PUT, BY, REF, b"\x09\x00\xe1\xf5\x05\0\0\0\0", READING],
+        false,
+    ),
+];
 
-#[test]
-fn stations_keep_to_their_ranges(rt: HostRuntime) -> Result<(), Fail> {
-    let rows: [(&[u8], &[u8], &[u8], bool); 11] = [
-        (NAME, b"\x01\0\0\0", ARRAYS, false),
-        (NAME, b"\0\0\0\0", ARRAYS, true),
-        (NAME, b"\xd1\x02\0\0", ARRAYS, true),
-        (NAME, b"\xd0\x02\0\x01", ARRAYS, true),
-        (b"\0", GAP, ARRAYS, true),
-        (
-            b"\x3cabcdefghijabcdefghijabcdefghijabcdefghijabcdefghijabcdefghij",
+/// Names of 60 and of 61 codes.
+const LONG_NAME: &[u8] = b"\x3cabcdefghijabcdefghijabcdefghijabcdefghijabcdefghijabcdefghij";
+
+const LONGER_NAME: &[u8] = b"\x3dabcdefghijabcdefghijabcdefghijabcdefghijabcdefghijabcdefghijk";
+
+/// Stations that are added and set: names, gap tolerances and arrays.
+const STATIONS: [Row; 22] = [
+    (
+        &[ADD, BY, REF, SITE, NAME, ZONE, b"\x01\0\0\0", ARRAYS],
+        false,
+    ),
+    (&[SET, BY, REF, SITE, NAME, b"\x01\0\0\0", ARRAYS], false),
+    (&[ADD, BY, REF, SITE, NAME, ZONE, b"\0\0\0\0", ARRAYS], true),
+    (&[SET, BY, REF, SITE, NAME, b"\0\0\0\0", ARRAYS], true),
+    (
+        &[ADD, BY, REF, SITE, NAME, ZONE, b"\xd1\x02\0\0", ARRAYS],
+        true,
+    ),
+    (&[SET, BY, REF, SITE, NAME, b"\xd1\x02\0\0", ARRAYS], true),
+    (
+        &[ADD, BY, REF, SITE, NAME, ZONE, b"\xd0\x02\0\x01", ARRAYS],
+        true,
+    ),
+    (&[SET, BY, REF, SITE, NAME, b"\xd0\x02\0\x01", ARRAYS], true),
+    (&[ADD, BY, REF, SITE, b"\0", ZONE, GAP, ARRAYS], true),
+    (&[SET, BY, REF, SITE, b"\0", GAP, ARRAYS], true),
+    (&[ADD, BY, REF, SITE, LONG_NAME, ZONE, GAP, ARRAYS], false),
+    (&[SET, BY, REF, SITE, LONG_NAME, GAP, ARRAYS], false),
+    (&[ADD, BY, REF, SITE, LONGER_NAME, ZONE, GAP, ARRAYS], true),
+    (&[SET, BY, REF, SITE, LONGER_NAME, GAP, ARRAYS], true),
+    (&[ADD, BY, REF, SITE, b"\x01\x1f", ZONE, GAP, ARRAYS], true),
+    (&[SET, BY, REF, SITE, b"\x01\x1f", GAP, ARRAYS], true),
+    (&[ADD, BY, REF, SITE, b"\x01\x7f", ZONE, GAP, ARRAYS], true),
+    (&[SET, BY, REF, SITE, b"\x01\x7f", GAP, ARRAYS], true),
+    (
+        &[ADD, BY, REF, SITE, NAME, ZONE, GAP, b"99999999979999999992"],
+        true,
+    ),
+    (
+        &[SET, BY, REF, SITE, NAME, GAP, b"99999999979999999992"],
+        true,
+    ),
+    (
+        &[ADD, BY, REF, SITE, NAME, ZONE, GAP, b"99999999929999999:92"],
+        true,
+    ),
+    (
+        &[SET, BY, REF, SITE, NAME, GAP, b"99999999929999999:92"],
+        true,
+    ),
+];
+
+/// Zones of stations that are added.
+const ZONES: [Row; 7] = [
+    (
+        &[ADD, BY, REF, SITE, NAME, b"\x06+14:59", GAP, ARRAYS],
+        false,
+    ),
+    (
+        &[ADD, BY, REF, SITE, NAME, b"\x06+15:00", GAP, ARRAYS],
+        true,
+    ),
+    (
+        &[ADD, BY, REF, SITE, NAME, b"\x06-05:60", GAP, ARRAYS],
+        true,
+    ),
+    (
+        &[
+            ADD,
+            BY,
+            REF,
+            SITE,
+            NAME,
+            b"\x14EST5EDT,M3.2.0,M11.1",
             GAP,
             ARRAYS,
-            false,
-        ),
-        (
-            b"\x3dabcdefghijabcdefghijabcdefghijabcdefghijabcdefghijabcdefghijk",
+        ],
+        true,
+    ),
+    (
+        &[
+            ADD,
+            BY,
+            REF,
+            SITE,
+            NAME,
+            b"\x16EST5EDT,M3.2.0,M11.1.0",
             GAP,
             ARRAYS,
-            true,
-        ),
-        (b"\x01\x1f", GAP, ARRAYS, true),
-        (b"\x01\x7f", GAP, ARRAYS, true),
-        (NAME, GAP, b"99999999979999999992", true),
-        (NAME, GAP, b"99999999929999999:92", true),
-    ];
-    for (name, gap, arrays, refused) in rows {
-        assert_eq!(rt;
-            is_refused(
-                rt.alloc(),
-                &[b"\x01", BY, REF, SITE, name, ZONE, gap, arrays]
-            )?,
-            refused,
-            "{name:?} {gap:?} {arrays:?}"
-        );
-        assert_eq!(rt;
-            is_refused(rt.alloc(), &[b"\x02", BY, REF, SITE, name, gap, arrays])?,
-            refused,
-            "{name:?} {gap:?} {arrays:?}"
-        );
+        ],
+        false,
+    ),
+    (
+        &[
+            ADD,
+            BY,
+            REF,
+            SITE,
+            NAME,
+            b"\x10America/New_York",
+            GAP,
+            ARRAYS,
+        ],
+        true,
+    ),
+    (&[ADD, BY, REF, SITE, NAME, b"\0", GAP, ARRAYS], true),
+];
+
+/// Two usable readings.
+const TWO_READINGS: &[u8] =
+    b"\x02\0\0\0\xd0\x8c\x97\x65\0\0\0\0\x40\x42\x0f\0\0\0\0\0\0\xd1\x8c\x97\x65\0\0\0\0\x40\x42\x0f\0\0\0\0\0\0";
+
+/// An erroneous reading, and one with a flag that there is not.
+const ERRONEOUS: &[u8] = b"\x01\0\0\0\xd0\x8c\x97\x65\0\0\0\0\x40\x42\x0f\0\0\0\0\0\x01";
+
+const NO_FLAG: &[u8] = b"\x01\0\0\0\xd0\x8c\x97\x65\0\0\0\0\x40\x42\x0f\0\0\0\0\0\x03";
+
+/// The least stage at the last stamp, and a second later.
+const LAST: &[u8] = b"\x01\0\0\0\x7f\x62\x82\xf4\0\0\0\0\0\x18\x89\xb7\xe8\xff\xff\xff\0";
+
+const TOO_LATE: &[u8] = b"\x01\0\0\0\x80\x62\x82\xf4\0\0\0\0\0\x18\x89\xb7\xe8\xff\xff\xff\0";
+
+/// The greatest stage at the first stamp, and a millionth of a foot more.
+const FIRST: &[u8] = b"\x01\0\0\0\x80\x24\x58\x7c\xff\xff\xff\xff\0\xe8\x76\x48\x17\0\0\0\0";
+
+const TOO_HIGH: &[u8] = b"\x01\0\0\0\x80\x24\x58\x7c\xff\xff\xff\xff\x01\xe8\x76\x48\x17\0\0\0\0";
+
+/// What is put.
+const READINGS: [Row; 9] = [
+    (&[PUT, BY, REF, SITE, READING], false),
+    (&[PUT, BY, REF, SITE, b"\0\0\0\0"], true),
+    (&[PUT, BY, REF, SITE, TWO_READINGS], true),
+    (&[PUT, BY, REF, SITE, ERRONEOUS], true),
+    (&[PUT, BY, REF, SITE, NO_FLAG], true),
+    (&[PUT, BY, REF, SITE, LAST], false),
+    (&[PUT, BY, REF, SITE, TOO_LATE], true),
+    (&[PUT, BY, REF, SITE, FIRST], false),
+    (&[PUT, BY, REF, SITE, TOO_HIGH], true),
+];
+
+/// Payloads with a byte behind the last field, and of kinds that there are not.
+const OTHERS: [Row; 5] = [
+    (&[ADD, BY, REF, SITE, NAME, ZONE, GAP, ARRAYS, b"\0"], true),
+    (&[SET, BY, REF, SITE, NAME, GAP, ARRAYS, b"\0"], true),
+    (&[PUT, BY, REF, SITE, READING, b"\0"], true),
+    (&[b"\0", BY, REF, SITE, READING], true),
+    (&[b"\x04", BY, REF, SITE, READING], true),
+];
+
+const TABLES: [(&str, &[Row]); 5] = [
+    ("senders", &SENDERS),
+    ("stations", &STATIONS),
+    ("zones", &ZONES),
+    ("readings", &READINGS),
+    ("others", &OTHERS),
+];
+
+/// The first table with such a row, and the number of the row.
+fn first_wrong_of_all(alloc: Global) -> Option<(&'static str, usize)> {
+    for (table, rows) in &TABLES {
+        if let Some(row) = first_wrong(alloc, rows) {
+            return Some((table, row));
+        }
     }
-    Ok(())
+    None
 }
 
 #[test]
-fn zones_are_zones(rt: HostRuntime) -> Result<(), Fail> {
-    let rows: [(&[u8], bool); 7] = [
-        (b"\x06+14:59", false),
-        (b"\x06+15:00", true),
-        (b"\x06-05:60", true),
-        (b"\x14EST5EDT,M3.2.0,M11.1", true),
-        (b"\x16EST5EDT,M3.2.0,M11.1.0", false),
-        (b"\x10America/New_York", true),
-        (b"\0", true),
-    ];
-    for (zone, refused) in rows {
-        assert_eq!(rt;
-            is_refused(
-                rt.alloc(),
-                &[b"\x01", BY, REF, SITE, NAME, zone, GAP, ARRAYS]
-            )?,
-            refused,
-            "{zone:?}"
-        );
-    }
-    Ok(())
-}
-
-#[test]
-fn one_usable_reading_is_put(rt: HostRuntime) -> Result<(), Fail> {
-    let rows: [(&[u8], bool); 9] = [
-        (READING, false),
-        (b"\0\0\0\0", true),
-        (
-            b"\x02\0\0\0\xd0\x8c\x97\x65\0\0\0\0\x40\x42\x0f\0\0\0\0\0\0\xd1\x8c\x97\x65\0\0\0\0\x40\x42\x0f\0\0\0\0\0\0",
-            true,
-        ),
-        (
-            b"\x01\0\0\0\xd0\x8c\x97\x65\0\0\0\0\x40\x42\x0f\0\0\0\0\0\x01",
-            true,
-        ),
-        (
-            b"\x01\0\0\0\xd0\x8c\x97\x65\0\0\0\0\x40\x42\x0f\0\0\0\0\0\x03",
-            true,
-        ),
-        (
-            b"\x01\0\0\0\x7f\x62\x82\xf4\0\0\0\0\0\x18\x89\xb7\xe8\xff\xff\xff\0",
-            false,
-        ),
-        (
-            b"\x01\0\0\0\x80\x62\x82\xf4\0\0\0\0\0\x18\x89\xb7\xe8\xff\xff\xff\0",
-            true,
-        ),
-        (
-            b"\x01\0\0\0\x80\x24\x58\x7c\xff\xff\xff\xff\0\xe8\x76\x48\x17\0\0\0\0",
-            false,
-        ),
-        (
-            b"\x01\0\0\0\x80\x24\x58\x7c\xff\xff\xff\xff\x01\xe8\x76\x48\x17\0\0\0\0",
-            true,
-        ),
-    ];
-    for (reading, refused) in rows {
-        assert_eq!(rt;
-            is_refused(rt.alloc(), &[b"\x03", BY, REF, SITE, reading])?,
-            refused,
-            "{reading:?}"
-        );
-    }
-    Ok(())
-}
-
-#[test]
-fn nothing_stands_behind_the_last_field(rt: HostRuntime) -> Result<(), Fail> {
-    let alloc = rt.alloc();
-    assert!(rt;
-        is_refused(
-            alloc,
-            &[b"\x01", BY, REF, SITE, NAME, ZONE, GAP, ARRAYS, b"\0"]
-        )?
-    );
-    assert!(rt; is_refused(alloc, &[b"\x02", BY, REF, SITE, NAME, GAP, ARRAYS, b"\0"])?);
-    assert!(rt; is_refused(alloc, &[b"\x03", BY, REF, SITE, READING, b"\0"])?);
-    assert!(rt; is_refused(alloc, &[b"\0", BY, REF, SITE, READING])?);
-    assert!(rt; is_refused(alloc, &[b"\x04", BY, REF, SITE, READING])?);
-    Ok(())
+fn each_field_keeps_to_its_range(rt: HostRuntime) {
+    let wrong = first_wrong_of_all(rt.alloc());
+    assert!(rt; wrong.is_none(), "{wrong:?}");
 }

@@ -1,89 +1,158 @@
 //! Days computed, by claims, looks, turns and settlements: two days are pending, which await the third edit.
 
-use crate::fixtures::{BETWEEN, FIFTH, SIXTH};
-use crate::offices::{DiskOffice, Told, due, kept, two_days_pending};
+use crate::disks::play_row;
+use crate::sent::{ADDITION, BETWEEN, FIFTH, FIRST, MIDDLE, NEXT, SIXTH};
+use crate::tables::{Act, NEW, Row, Told, Wrong};
 use recompute::Publish;
-use std::test::Fail;
 
-type Due = (i32, u64);
+/// An office that is opened with two days pending, and keeps no edit.
+const TWO_DAYS: Row = Row {
+    records: &[ADDITION, FIRST, NEXT],
+    calls: 4,
+    left: &[ADDITION, FIRST, NEXT],
+    ..NEW
+};
 
-type Awaited = Option<Option<u64>>;
+const PUBLISHED: Told = Told::Outcome(Publish::Published);
 
-/// Looks before a claim, behind its day, and behind the day of the next claim.
-fn looks(office: &mut DiskOffice) -> Result<[Option<Due>; 3], Fail> {
-    let seen = office.look()?;
-    let first = office.claim()?;
-    let behind = office.look_behind(&first)?;
-    let second = office.claim()?;
-    Ok([seen, behind, office.look_behind(&second)?])
-}
+const SUPERSEDED: Told = Told::Outcome(Publish::Superseded(4));
 
-#[test]
-fn a_look_minds_no_claim(rt: HostRuntime) -> Result<(), Fail> {
-    let mut office = two_days_pending(rt.alloc())?;
-    assert_eq!(rt;
-        looks(&mut office)?,
-        [Some((FIFTH, 3)), Some((SIXTH, 3)), None]
-    );
-    assert!(rt; office.claims_nothing()?);
-    assert_eq!(rt; office.counts(), (4, 3, 2));
-    Ok(())
-}
-
-/// What a day awaits whose claim is out, what becomes of its job, and what it awaits then.
-fn claimed(office: &mut DiskOffice) -> Result<(Awaited, Publish, Awaited), Fail> {
-    let job = office.claim()?;
-    let (site, day) = (job.site(), job.day());
-    let before = office.awaited(site, day);
-    let told = office.publish(job);
-    Ok((before, told, office.awaited(site, day)))
-}
+static LOOKS: Row = Row {
+    sessions: &[&[
+        (Act::Counts, Told::Counts(3, 3, 2)),
+        (Act::Look, Told::Day(FIFTH, 3)),
+        (Act::Claim, Told::Day(FIFTH, 3)),
+        (Act::Look, Told::Day(FIFTH, 3)),
+        (Act::LookBehind(FIFTH), Told::Day(SIXTH, 3)),
+        (Act::Claim, Told::Day(SIXTH, 3)),
+        (Act::LookBehind(SIXTH), Told::NoDay),
+        (Act::Claim, Told::NoDay),
+        (Act::Look, Told::Day(FIFTH, 3)),
+        (Act::Counts, Told::Counts(3, 3, 2)),
+    ]],
+    ..TWO_DAYS
+};
 
 #[test]
-fn a_claimed_day_is_published(rt: HostRuntime) -> Result<(), Fail> {
-    let mut office = two_days_pending(rt.alloc())?;
-    let told = (Some(Some(3)), Publish::Published, Some(None));
-    assert_eq!(rt; claimed(&mut office)?, told);
-    assert_eq!(rt; office.look()?, Some((SIXTH, 3)));
-    assert_eq!(rt; office.counts(), (5, 3, 1));
-    Ok(())
+fn a_look_takes_no_claim_and_minds_none(rt: HostRuntime) -> Result<(), Wrong> {
+    play_row(rt.alloc(), &LOOKS)
 }
 
-/// What is said to an edit between the claims and the publications of two days, and to these.
-fn edited_between(office: &mut DiskOffice) -> Result<(Told, Publish, Publish), Fail> {
-    let first = office.claim()?;
-    let second = office.claim()?;
-    let told = office.send(BETWEEN)?;
-    Ok((told, office.publish(first), office.publish(second)))
-}
+static CLAIMED: Row = Row {
+    sessions: &[&[
+        (Act::Claim, Told::Day(FIFTH, 3)),
+        (Act::Answer(FIFTH), Told::Pending(3)),
+        (Act::Publish, PUBLISHED),
+        (Act::Answer(FIFTH), Told::Computed),
+        (Act::Look, Told::Day(SIXTH, 3)),
+        (Act::Counts, Told::Counts(4, 3, 1)),
+    ]],
+    ..TWO_DAYS
+};
 
 #[test]
-fn a_later_edit_supersedes_a_job(rt: HostRuntime) -> Result<(), Fail> {
-    let mut office = two_days_pending(rt.alloc())?;
-    let told = (kept(4), Publish::Superseded(4), Publish::Published);
-    assert_eq!(rt; edited_between(&mut office)?, told);
-    assert_eq!(rt; office.look()?, Some((FIFTH, 4)));
-    assert_eq!(rt; office.counts(), (6, 4, 1));
-    Ok(())
+fn a_claimed_day_is_published(rt: HostRuntime) -> Result<(), Wrong> {
+    play_row(rt.alloc(), &CLAIMED)
 }
 
-/// A turn, a settlement and another turn beside a claim, and what becomes of the claim's job.
-fn settled(office: &mut DiskOffice) -> Result<(Option<i32>, u64, Option<i32>, Publish), Fail> {
-    let job = office.claim()?;
-    let first = office.turn()?;
-    let settled = office.settle()?;
-    Ok((first, settled, office.turn()?, office.publish(job)))
-}
+/// The edit changes the first day alone, and its claim is no longer out.
+static ONE_SUPERSEDED: Row = Row {
+    sessions: &[&[
+        (Act::Claim, Told::Day(FIFTH, 3)),
+        (Act::Claim, Told::Day(SIXTH, 3)),
+        (Act::Send(BETWEEN), Told::Kept(4)),
+        (Act::Publish, PUBLISHED),
+        (Act::Publish, SUPERSEDED),
+        (Act::Look, Told::Day(FIFTH, 4)),
+        (Act::Counts, Told::Counts(5, 4, 1)),
+        (Act::Claim, Told::Day(FIFTH, 4)),
+    ]],
+    calls: 8,
+    left: &[ADDITION, FIRST, NEXT, BETWEEN],
+    ..TWO_DAYS
+};
 
-/// The opening made four calls of the disk and the edit four, and no day made one.
 #[test]
-fn days_ask_no_disk(rt: HostRuntime) -> Result<(), Fail> {
-    let mut office = two_days_pending(rt.alloc())?;
-    assert_eq!(rt;
-        settled(&mut office)?,
-        (Some(SIXTH), 1, None, Publish::Settled)
-    );
-    assert_eq!(rt; office.counts(), (6, 3, 0));
-    assert_eq!(rt; office.close().call_count(), 8);
-    Ok(())
+fn a_later_edit_supersedes_a_job(rt: HostRuntime) -> Result<(), Wrong> {
+    play_row(rt.alloc(), &ONE_SUPERSEDED)
+}
+
+/// A second later it changes both.
+static BOTH_SUPERSEDED: Row = Row {
+    sessions: &[&[
+        (Act::Claim, Told::Day(FIFTH, 3)),
+        (Act::Claim, Told::Day(SIXTH, 3)),
+        (Act::Send(MIDDLE), Told::Kept(4)),
+        (Act::Publish, SUPERSEDED),
+        (Act::Publish, SUPERSEDED),
+        (Act::Counts, Told::Counts(4, 4, 2)),
+        (Act::Claim, Told::Day(FIFTH, 4)),
+        (Act::Claim, Told::Day(SIXTH, 4)),
+    ]],
+    calls: 8,
+    left: &[ADDITION, FIRST, NEXT, MIDDLE],
+    ..TWO_DAYS
+};
+
+#[test]
+fn a_later_edit_supersedes_both_jobs(rt: HostRuntime) -> Result<(), Wrong> {
+    play_row(rt.alloc(), &BOTH_SUPERSEDED)
+}
+
+static TURNS: Row = Row {
+    sessions: &[&[
+        (Act::Claim, Told::Day(FIFTH, 3)),
+        (Act::Turn, Told::Turned(SIXTH)),
+        (Act::Turn, Told::NoDay),
+        (Act::Counts, Told::Counts(4, 3, 1)),
+        (Act::Publish, PUBLISHED),
+        (Act::Counts, Told::Counts(5, 3, 0)),
+    ]],
+    ..TWO_DAYS
+};
+
+#[test]
+fn a_turn_leaves_claimed_days(rt: HostRuntime) -> Result<(), Wrong> {
+    play_row(rt.alloc(), &TURNS)
+}
+
+static SETTLED: Row = Row {
+    sessions: &[&[
+        (Act::Claim, Told::Day(FIFTH, 3)),
+        (Act::Settle, Told::Settled(2)),
+        (Act::Settle, Told::Settled(0)),
+        (Act::Publish, Told::Outcome(Publish::Settled)),
+        (Act::Turn, Told::NoDay),
+        (Act::Counts, Told::Counts(5, 3, 0)),
+    ]],
+    ..TWO_DAYS
+};
+
+#[test]
+fn a_settlement_takes_claimed_days_too(rt: HostRuntime) -> Result<(), Wrong> {
+    play_row(rt.alloc(), &SETTLED)
+}
+
+/// The opening makes four calls of the disk and the edit four, and no day makes one. A day that was published is pending again with the
+/// edit.
+static NO_CALLS: Row = Row {
+    records: &[ADDITION, FIRST],
+    sessions: &[&[
+        (Act::Settle, Told::Settled(1)),
+        (Act::Send(NEXT), Told::Kept(3)),
+        (Act::Counts, Told::Counts(4, 3, 2)),
+        (Act::Claim, Told::Day(FIFTH, 3)),
+        (Act::Turn, Told::Turned(SIXTH)),
+        (Act::Settle, Told::Settled(1)),
+        (Act::Turn, Told::NoDay),
+        (Act::Publish, Told::Outcome(Publish::Settled)),
+        (Act::Counts, Told::Counts(6, 3, 0)),
+    ]],
+    calls: 8,
+    ..TWO_DAYS
+};
+
+#[test]
+fn days_ask_no_disk(rt: HostRuntime) -> Result<(), Wrong> {
+    play_row(rt.alloc(), &NO_CALLS)
 }

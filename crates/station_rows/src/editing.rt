@@ -1,66 +1,53 @@
-//! Edits kept, repeated and refused, and what the disk has then.
+//! Edits judged: kept, repeated and refused. The disk is called four times by an opening and by each edit that is kept, and by nothing
+//! else.
 
-use crate::fixtures::{ADDITION, ANOTHER, FIRST, SETTING, disk, journal_of};
-use crate::offices::{Told, kept, opened, repeated};
-use devices::MemoryDisk;
+use crate::disks::play_row;
+use crate::sent::{ADDITION, ANOTHER, FIRST, OTHER, READING, SETTING};
+use crate::tables::{Act, NEW, Row, Told, Wrong};
 use office_inputs::Refusal;
-use std::alloc::Global;
-use std::test::Fail;
 
-/// What is said to edits that come one after another to an office of these records, and its disk then.
-fn told_to(
-    alloc: Global,
-    records: &[&[u8]],
-    sent: [&[u8]; 2],
-) -> Result<([Told; 2], MemoryDisk), Fail> {
-    let mut office = opened(alloc, disk(alloc, records, &[])?)?;
-    let first = office.send(sent[0])?;
-    let second = office.send(sent[1])?;
-    Ok(([first, second], office.close()))
+const NO_STATION: Told = Told::Refused(Refusal::NoStation);
+
+/// What the reference says comes before what the station does. A refused edit is not kept under its reference.
+static JUDGED: Row = Row {
+    sessions: &[&[
+        (Act::Send(READING), NO_STATION),
+        (Act::Send(SETTING), NO_STATION),
+        (Act::Send(ADDITION), Told::Kept(1)),
+        (Act::Send(ADDITION), Told::Repeated(1)),
+        (Act::Send(SETTING), Told::Refused(Refusal::RefReused(1))),
+        (Act::Send(READING), Told::Refused(Refusal::RefReused(1))),
+        (Act::Send(ANOTHER), Told::Refused(Refusal::StationExists)),
+        (Act::Counts, Told::Counts(1, 1, 0)),
+        (Act::Send(FIRST), Told::Kept(2)),
+        (Act::Send(FIRST), Told::Repeated(2)),
+        (Act::Send(OTHER), Told::Refused(Refusal::RefReused(2))),
+        (Act::Counts, Told::Counts(2, 2, 1)),
+    ]],
+    calls: 12,
+    left: &[ADDITION, FIRST],
+    ..NEW
+};
+
+#[test]
+fn edits_are_judged_by_reference_then_station(rt: HostRuntime) -> Result<(), Wrong> {
+    play_row(rt.alloc(), &JUDGED)
 }
 
-/// The opening makes four calls of the disk, and each edit that is kept makes four.
-#[test]
-fn edits_are_kept_in_order(rt: HostRuntime) -> Result<(), Fail> {
-    let alloc = rt.alloc();
-    let (told, made) = told_to(alloc, &[], [ADDITION, FIRST])?;
-    assert_eq!(rt; told, [kept(1), kept(2)]);
-    assert_eq!(rt; (made.bytes().len(), made.call_count()), (119, 12));
-    assert!(rt; made.bytes() == journal_of(alloc, &[ADDITION, FIRST])?.as_slice());
-    Ok(())
-}
+/// Edits that an office is opened with are judged as those that it kept.
+static KNOWN: Row = Row {
+    records: &[ADDITION, FIRST],
+    sessions: &[&[
+        (Act::Send(FIRST), Told::Repeated(2)),
+        (Act::Send(ADDITION), Told::Repeated(1)),
+        (Act::Send(SETTING), Told::Refused(Refusal::RefReused(1))),
+    ]],
+    calls: 4,
+    left: &[ADDITION, FIRST],
+    ..NEW
+};
 
-/// Edits that come again ask no disk.
 #[test]
-fn edits_that_come_again_are_told_their_numbers(rt: HostRuntime) -> Result<(), Fail> {
-    let alloc = rt.alloc();
-    let records = [ADDITION, FIRST];
-    let (told, made) = told_to(alloc, &records, [FIRST, ADDITION])?;
-    assert_eq!(rt; told, [repeated(2), repeated(1)]);
-    assert_eq!(rt; made.call_count(), 4);
-    assert!(rt; made.bytes() == journal_of(alloc, &records)?.as_slice());
-    Ok(())
-}
-
-/// And nor do edits that are refused.
-#[test]
-fn refused_edits_ask_no_disk(rt: HostRuntime) -> Result<(), Fail> {
-    let alloc = rt.alloc();
-    let (told, made) = told_to(alloc, &[ADDITION], [SETTING, ANOTHER])?;
-    let refused = [Err(Refusal::RefReused(1)), Err(Refusal::StationExists)];
-    assert_eq!(rt; told, refused);
-    assert_eq!(rt; made.call_count(), 4);
-    assert!(rt; made.bytes() == journal_of(alloc, &[ADDITION])?.as_slice());
-    Ok(())
-}
-
-/// A refused edit is not kept under its reference.
-#[test]
-fn a_refused_edit_leaves_its_reference(rt: HostRuntime) -> Result<(), Fail> {
-    let alloc = rt.alloc();
-    let (told, made) = told_to(alloc, &[], [FIRST, ANOTHER])?;
-    assert_eq!(rt; told, [Err(Refusal::NoStation), kept(1)]);
-    assert_eq!(rt; made.call_count(), 8);
-    assert!(rt; made.bytes() == journal_of(alloc, &[ANOTHER])?.as_slice());
-    Ok(())
+fn edits_that_come_again_are_told_their_numbers(rt: HostRuntime) -> Result<(), Wrong> {
+    play_row(rt.alloc(), &KNOWN)
 }

@@ -1,67 +1,134 @@
-//! Calls of the disk that fail at an edit, and what becomes of the next one.
+//! Calls of the disk that fail at an edit, and what becomes of the next one. The opening makes the calls 1 to 4, and the first edit the
+//! next four: the record is written and synced, and then its gate. A mend makes two calls.
 
-use crate::fixtures::{ADDITION, ANOTHER, disk, journal_of};
-use crate::offices::{Counts, DiskOffice, Told, kept, opened};
-use office_inputs::Refusal;
-use std::alloc::Global;
-use std::test::Fail;
+use crate::disks::{play_row, play_rows};
+use crate::sent::{ADDITION, ANOTHER, FIRST};
+use crate::tables::{Act, NEW, Row, Session, Told, Wrong};
+use office_inputs::{Full, Refusal};
 
-/// An office of no edit, of whose disk these calls fail.
-fn failing_office(alloc: Global, failing: &[u64]) -> Result<DiskOffice, Fail> {
-    opened(alloc, disk(alloc, &[], failing)?)
-}
+/// A fault that leaves no doubt, and one that does.
+const FAULT: Told = Told::Refused(Refusal::JournalFault(false));
 
-fn fault(in_doubt: bool) -> Told {
-    Err(Refusal::JournalFault(in_doubt))
-}
-
-/// What is said to an edit and to the next one, what is counted then, and how many calls the disk had where it has the journal of the
-/// next one alone.
-fn next_kept(
-    alloc: Global,
-    mut office: DiskOffice,
-) -> Result<(Told, Told, Counts, Option<u64>), Fail> {
-    let first = office.send(ADDITION)?;
-    let second = office.send(ANOTHER)?;
-    let counts = office.counts();
-    let made = office.close();
-    let whole = made.bytes() == journal_of(alloc, &[ANOTHER])?.as_slice();
-    Ok((first, second, counts, whole.then_some(made.call_count())))
-}
-
-/// The call that fails, whether it leaves a doubt, and how many calls there are once the next edit is kept. The opening makes the calls
-/// 1 to 4, and the first edit the next four: the record is written and synced, and then its gate. A mend makes two calls.
-const FAILING: [(u64, bool, u64); 4] = [
-    (5, false, 9),
-    (6, false, 10),
-    (7, true, 13),
-    (8, true, 14),
-];
+const DOUBT: Told = Told::Refused(Refusal::JournalFault(true));
 
 /// A fault is an event, and the next edit has the number that the failed one would have had.
+const KEPT: &[Session] = &[&[
+    (Act::Send(ADDITION), FAULT),
+    (Act::Counts, Told::Counts(1, 0, 0)),
+    (Act::Send(ANOTHER), Told::Kept(1)),
+    (Act::Counts, Told::Counts(2, 1, 0)),
+]];
+
+const MENDED: &[Session] = &[&[
+    (Act::Send(ADDITION), DOUBT),
+    (Act::Counts, Told::Counts(1, 0, 0)),
+    (Act::Send(ANOTHER), Told::Kept(1)),
+    (Act::Counts, Told::Counts(2, 1, 0)),
+]];
+
+static FAILING: [Row; 4] = [
+    Row {
+        failing: &[5],
+        sessions: KEPT,
+        calls: 9,
+        left: &[ANOTHER],
+        ..NEW
+    },
+    Row {
+        failing: &[6],
+        sessions: KEPT,
+        calls: 10,
+        left: &[ANOTHER],
+        ..NEW
+    },
+    Row {
+        failing: &[7],
+        sessions: MENDED,
+        calls: 13,
+        left: &[ANOTHER],
+        ..NEW
+    },
+    Row {
+        failing: &[8],
+        sessions: MENDED,
+        calls: 14,
+        left: &[ANOTHER],
+        ..NEW
+    },
+];
+
 #[test]
-fn the_edit_after_a_fault_is_kept(rt: HostRuntime) -> Result<(), Fail> {
-    for (call, in_doubt, calls) in FAILING {
-        let told = next_kept(rt.alloc(), failing_office(rt.alloc(), &[call])?)?;
-        let want = (fault(in_doubt), kept(1), (2, 1, 0), Some(calls));
-        assert_eq!(rt; told, want, "{call}");
-    }
-    Ok(())
+fn the_edit_after_a_fault_is_kept(rt: HostRuntime) -> Result<(), (usize, Wrong)> {
+    play_rows(rt.alloc(), &FAILING)
 }
 
-/// The calls that fail, of an edit and of the mend before the next one, and how many calls there are once a third is kept.
-const MENDS: [([u64; 2], u64); 4] = [([7, 8], 14), ([7, 9], 15), ([8, 9], 15), ([8, 10], 16)];
+/// A mend that fails keeps nothing, and is made again. Of the calls that fail the first is one of the edit, and the other one of the
+/// mend before the next.
+const MENDS: &[Session] = &[&[
+    (Act::Send(ANOTHER), DOUBT),
+    (Act::Counts, Told::Counts(1, 0, 0)),
+    (Act::Send(ADDITION), DOUBT),
+    (Act::Counts, Told::Counts(2, 0, 0)),
+    (Act::Send(ANOTHER), Told::Kept(1)),
+    (Act::Counts, Told::Counts(3, 1, 0)),
+]];
 
-/// A mend that fails keeps nothing, and is made again.
+static MENDING: [Row; 4] = [
+    Row {
+        failing: &[7, 8],
+        sessions: MENDS,
+        calls: 14,
+        left: &[ANOTHER],
+        ..NEW
+    },
+    Row {
+        failing: &[7, 9],
+        sessions: MENDS,
+        calls: 15,
+        left: &[ANOTHER],
+        ..NEW
+    },
+    Row {
+        failing: &[8, 9],
+        sessions: MENDS,
+        calls: 15,
+        left: &[ANOTHER],
+        ..NEW
+    },
+    Row {
+        failing: &[8, 10],
+        sessions: MENDS,
+        calls: 16,
+        left: &[ANOTHER],
+        ..NEW
+    },
+];
+
 #[test]
-fn a_mend_that_fails_keeps_nothing(rt: HostRuntime) -> Result<(), Fail> {
-    for (failing, calls) in MENDS {
-        let mut office = failing_office(rt.alloc(), &failing)?;
-        assert_eq!(rt; office.send(ANOTHER)?, fault(true), "{calls}");
-        assert_eq!(rt; office.counts(), (1, 0, 0), "{calls}");
-        let told = next_kept(rt.alloc(), office)?;
-        let want = (fault(true), kept(1), (3, 1, 0), Some(calls));
-        assert_eq!(rt; told, want, "{calls}");
-    }
-    Ok(())
+fn a_mend_that_fails_keeps_nothing(rt: HostRuntime) -> Result<(), (usize, Wrong)> {
+    play_rows(rt.alloc(), &MENDING)
+}
+
+/// A fault counts among the three events for which there is room, so that the reading and its publication find none.
+static FULL: Row = Row {
+    failing: &[5],
+    limits: Some((3, 1, 1_000)),
+    sessions: &[&[
+        (Act::Send(ADDITION), FAULT),
+        (Act::Counts, Told::Counts(1, 0, 0)),
+        (Act::Send(ADDITION), Told::Kept(1)),
+        (Act::Counts, Told::Counts(2, 1, 0)),
+        (
+            Act::Send(FIRST),
+            Told::Refused(Refusal::HistoryFull(Full::Events)),
+        ),
+    ]],
+    calls: 9,
+    left: &[ADDITION],
+    ..NEW
+};
+
+#[test]
+fn a_fault_is_an_event_and_no_edit(rt: HostRuntime) -> Result<(), Wrong> {
+    play_row(rt.alloc(), &FULL)
 }

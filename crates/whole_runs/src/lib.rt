@@ -1,14 +1,17 @@
-//! Whole runs of the program's call over objects in memory: what worked rows at the door share.
+//! Whole runs of the program's call over objects in memory, as tables: what worked rows at the door share.
 #![tactic(auto)]
 
 pub mod messages;
+mod objects;
 pub mod runs;
+pub mod sessions;
 
 pub use messages::{
-    ADDED, ADDITION, BAD_REQUEST, CONFLICT, Due, Exchange, FIRST, GET_ALONE, LENGTH_REQUIRED,
-    NOT_FOUND, OK, POST_ALONE, TOO_LARGE, UNAVAILABLE, push_message, push_reply, replies,
+    ADDED, ADDITION, BAD_REQUEST, CONFLICT, Exchange, FIRST, GET_ALONE, LENGTH_REQUIRED, NOT_FOUND,
+    OK, POST_ALONE, TOO_LARGE, UNAVAILABLE, push_message, push_reply,
 };
 pub use runs::{
-    BATCH, EMPTY_JOURNAL, INIT, Ran, WHOLE, Ways, cabinet, expect, left, new_journal, pass,
-    pass_anew, run, run_by, same,
+    BATCH, Batch, Due, INIT, LongBatch, NO_RECORDS, Opening, Parts, Run, STATUS, Turn, WHOLE, Ways,
+    Words, pass_batches, pass_in_turn, pass_long_batches, pass_openings, pass_runs,
 };
+pub use sessions::{Session, pass_anew, pass_bytes, pass_sessions};

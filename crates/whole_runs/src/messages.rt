@@ -47,9 +47,6 @@ pub const UNAVAILABLE: &str =
 /// A method with a target, and a body; the beginning of the reply, and its body.
 pub type Exchange = (&'static str, &'static str, &'static str, &'static str);
 
-/// The beginning of a reply, and its body.
-pub type Due = (&'static str, &'static str);
-
 /// Adds a message. A POST tells the length of its body.
 pub fn push_message(call: &str, body: &[u8], out: &mut Text) -> Result<(), NoMemory> {
     out.push_slice(call.as_bytes())?;
@@ -75,22 +72,18 @@ fn push_length(length: usize, out: &mut Text) -> Result<(), NoMemory> {
     out.push_slice(b"\r\n")
 }
 
-/// The replies, one behind another.
-pub fn replies(alloc: Global, dues: &[Due]) -> Result<Text, NoMemory> {
-    let mut out = Text::new(alloc);
-    for due in dues {
-        push_reply(due.0, due.1.as_bytes(), &mut out)?;
-    }
-    Ok(out)
-}
-
-/// The messages of exchanges, and the replies.
-pub(crate) fn streams(alloc: Global, exchanges: &[Exchange]) -> Result<(Text, Text), NoMemory> {
+/// The messages of exchanges, one behind another.
+pub(crate) fn messages(alloc: Global, exchanges: &[Exchange]) -> Result<Text, NoMemory> {
     let mut input = Text::new(alloc);
-    let mut due = Text::new(alloc);
     for exchange in exchanges {
         push_message(exchange.0, exchange.1.as_bytes(), &mut input)?;
-        push_reply(exchange.2, exchange.3.as_bytes(), &mut due)?;
     }
-    Ok((input, due))
+    Ok(input)
+}
+
+/// The reply of an exchange.
+pub(crate) fn reply(alloc: Global, exchange: &Exchange) -> Result<Text, NoMemory> {
+    let mut reply = Text::new(alloc);
+    push_reply(exchange.2, exchange.3.as_bytes(), &mut reply)?;
+    Ok(reply)
 }

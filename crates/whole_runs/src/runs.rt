@@ -1,150 +1,214 @@
-//! Whole runs over objects in memory, and what is to come of them.
+//! Runs as rows of tables: the words, the journal before, the bytes of the input, and what is to come of them.
 
-ghost use Rattle.std.specs.Prelude.{◌<◌};
-
-use crate::messages::{Exchange, streams};
-use commands::run_office;
-use devices::{MemoryCabinet, MemoryDisk, MemorySink, MemorySource};
+use crate::objects::{self, Ran, cabinet, joined, left, repeated, same, shown, sink, source};
+use devices::MemoryCabinet;
 use std::alloc::Global;
-use std::fmt::{Debug, Display};
 use std::test::Fail;
 
+/// The words of a run.
+pub type Words = &'static [&'static str];
+
+/// Bytes in parts, one behind another.
+pub type Parts = &'static [&'static [u8]];
+
 /// The words that make a journal.
-pub const INIT: &[&str] = &["init", "--journal", "J"];
+pub const INIT: Words = &["init", "--journal", "J"];
 
 /// The words that serve the requests of the input.
-pub const BATCH: &[&str] = &["batch", "--journal", "J"];
+pub const BATCH: Words = &["batch", "--journal", "J"];
 
 /// A journal of no records.
-pub const EMPTY_JOURNAL: &[u8] = b"STREAMOFFICE-J1\n\0";
+pub const NO_RECORDS: Parts = &[b"STREAMOFFICE-J1\n\0"];
 
-/// What a run answered, wrote and told, and how often it asked for input.
-#[derive(Drop)]
-pub struct Ran {
-    pub status: u8,
-    pub written: Vec<u8>,
-    pub told: Vec<u8>,
-    pub reads: u64,
-}
-
-/// How the objects behave: the calls that fail, counted from 1, and the greatest piece of a call.
+/// How the objects behave: the calls that fail, counted from 1, and the greatest piece of a call, which is not 0.
 #[derive(Clone, Copy)]
-pub struct Ways<'a> {
-    pub input: &'a [u64],
-    pub output: &'a [u64],
-    pub faults: &'a [u64],
+pub struct Ways {
+    /// The calls of the input that fail.
+    pub input: &'static [u64],
+    /// The calls of the output that fail.
+    pub output: &'static [u64],
+    /// The calls of the sink of faults that fail.
+    pub faults: &'static [u64],
+    /// The calls of the disk that fail.
+    pub disk: &'static [u64],
+    /// The most bytes that one call of the input or a sink moves.
     pub piece: usize,
 }
 
 /// No call fails, and most come in one piece.
-pub const WHOLE: Ways<'static> = Ways {
+pub const WHOLE: Ways = Ways {
     input: &[],
     output: &[],
     faults: &[],
+    disk: &[],
     piece: 10_000_000,
 };
 
-/// A row fails where something else comes of it than stands in it.
-pub fn same<R: Display + Drop, T: PartialEq + Debug>(
-    row: R,
-    got: &T,
-    want: &T,
-) -> Result<(), Fail> {
-    if got == want {
-        Ok(())
-    } else {
-        Err(Fail::new(format_args!("{row}: {got:?} came, and not {want:?}")))
-    }
+/// What is to come of a run.
+#[derive(Clone, Copy)]
+pub struct Due {
+    /// The status that the run ends with.
+    pub status: u8,
+    /// What is written to the output.
+    pub written: Parts,
+    /// What is told of faults.
+    pub told: &'static [u8],
+    /// Whether the input is asked for bytes.
+    pub is_read: bool,
+    /// What the disk has then; `None` where it has what it had.
+    pub left: Option<Parts>,
 }
 
-/// The bytes as a text, to be shown where they differ.
-fn shown(bytes: &[u8]) -> &str {
-    str::from_utf8(bytes).unwrap_or("no text")
-}
+/// The words, what the disk under `J` has, how the objects behave, the input, and what is to come of the run.
+pub type Run = (Words, Parts, &'static Ways, Parts, &'static Due);
 
-/// A row fails where a run ended otherwise, or wrote or told something else.
-pub fn expect(ran: &Ran, status: u8, written: &[u8], told: &[u8]) -> Result<(), Fail> {
-    same("written", &shown(&ran.written), &shown(written))?;
-    same("bytes written", &ran.written.as_slice(), &written)?;
-    same("told", &shown(&ran.told), &shown(told))?;
-    same("status", &ran.status, &status)
-}
+/// The request for the counts of the office.
+pub const STATUS: &[u8] = b"GET /status HTTP/1.1\r\n\r\n";
 
-/// A run by objects that behave so.
-pub fn run_by(
+/// The words, what the disk under `J` has, and what is to come of the run. The input asks for the counts.
+pub type Opening = (Words, Parts, &'static Due);
+
+/// A run of `batch` over a journal of no records: the input, and what is to come of it.
+pub type Batch = (Parts, &'static Due);
+
+/// The same with a long input: how often each part stands.
+pub type LongBatch = (&'static [(&'static [u8], u32)], &'static Due);
+
+/// The words and the input of one of some runs over one cabinet, and what is to come of it.
+pub type Turn = (Words, &'static [u8], &'static Due);
+
+/// A run in these ways over a cabinet.
+pub(crate) fn run_over(
     alloc: Global,
     cabinet: &mut MemoryCabinet,
     words: &[&str],
-    input: &[u8],
-    ways: &Ways<'_>,
-) -> Result<Ran, Fail>
-    requires { 0 < ways.now.piece }
-{
-    let mut source = MemorySource::new(input.to_vec(alloc)?, ways.input.to_vec(alloc)?, ways.piece);
-    let mut sink = MemorySink::new(alloc, ways.output.to_vec(alloc)?, ways.piece);
-    let mut faults = MemorySink::new(alloc, ways.faults.to_vec(alloc)?, ways.piece);
-    let mut own = Vec::new(alloc);
-    for word in words {
-        own.push(String::from_str(alloc, word)?)?;
-    }
-    let status = run_office(
-        &(),
-        alloc,
-        &own,
-        &mut source,
-        &mut sink,
-        &mut faults,
-        cabinet,
-    );
-    Ok(Ran {
-        status,
-        written: sink.bytes().to_vec(alloc)?,
-        told: faults.bytes().to_vec(alloc)?,
-        reads: source.calls(),
-    })
-}
-
-/// A run of which no object but the cabinet fails.
-pub fn run(
-    alloc: Global,
-    cabinet: &mut MemoryCabinet,
-    words: &[&str],
-    input: &[u8],
+    input: Vec<u8>,
+    ways: &Ways,
 ) -> Result<Ran, Fail> {
-    run_by(alloc, cabinet, words, input, &WHOLE)
+    if ways.piece == 0 {
+        return Err(Fail::new("a piece has a byte"));
+    }
+    let piece = ways.piece;
+    let source = source(alloc, input, ways.input, piece)?;
+    let output = sink(alloc, ways.output, piece)?;
+    let faults = sink(alloc, ways.faults, piece)?;
+    let words = objects::words(alloc, words)?;
+    Ok(objects::run(alloc, cabinet, words, source, output, faults))
 }
 
-/// A cabinet that has a disk with these bytes under `J`, of which these calls fail.
-pub fn cabinet(alloc: Global, bytes: &[u8], failing: &[u64]) -> Result<MemoryCabinet, Fail> {
-    let mut cabinet = MemoryCabinet::new(alloc, Vec::new(alloc));
-    let disk = MemoryDisk::new(alloc, bytes.to_vec(alloc)?, failing.to_vec(alloc)?)?;
-    cabinet.insert("J", disk)?;
-    Ok(cabinet)
+/// A row fails where the run ended otherwise, or wrote or told something else.
+fn expect(row: usize, ran: &Ran, written: &[u8], due: &Due) -> Result<(), Fail> {
+    let told = ran.faults.bytes();
+    let output = ran.output.bytes();
+    same(row, "told", &shown(told), &shown(due.told))?;
+    same(row, "written", &shown(output), &shown(written))?;
+    same(row, "bytes written", &output, &written)?;
+    same(row, "status", &ran.status, &due.status)?;
+    same(
+        row,
+        "whether the input is read",
+        &(0 < ran.reads),
+        &due.is_read,
+    )
 }
 
-/// A cabinet that has a journal of no records.
-pub fn new_journal(alloc: Global) -> Result<MemoryCabinet, Fail> {
-    cabinet(alloc, EMPTY_JOURNAL, &[])
-}
-
-/// The bytes of the disk under `J`, where there is one.
-pub fn left(cabinet: &MemoryCabinet) -> Option<&[u8]> {
-    Some(cabinet.disk("J")?.bytes())
-}
-
-/// The exchanges pass over a cabinet, to the end of the input.
-pub fn pass(
+/// A run over a cabinet comes out as is due.
+fn expect_over(
+    row: usize,
     alloc: Global,
     cabinet: &mut MemoryCabinet,
-    exchanges: &[Exchange],
+    words: &[&str],
+    input: Vec<u8>,
+    ways: &Ways,
+    due: &Due,
 ) -> Result<(), Fail> {
-    let (input, due) = streams(alloc, exchanges)?;
-    let ran = run(alloc, cabinet, BATCH, input.as_slice())?;
-    expect(&ran, 0, due.as_slice(), b"")
+    let ran = run_over(alloc, cabinet, words, input, ways)?;
+    let written = joined(alloc, due.written)?;
+    expect(row, &ran, &written, due)
 }
 
-/// The exchanges pass over a new journal.
-pub fn pass_anew(alloc: Global, exchanges: &[Exchange]) -> Result<(), Fail> {
-    let mut cabinet = new_journal(alloc)?;
-    pass(alloc, &mut cabinet, exchanges)
+/// The disk has what is due, and as many faults.
+fn expect_left(row: usize, cabinet: &MemoryCabinet, due: &[u8], faults: u64) -> Result<(), Fail> {
+    same(row, "faults", &cabinet.fault_count(), &faults)?;
+    if faults == 0 {
+        same(row, "left", &left(cabinet), &Some(due))
+    } else {
+        Ok(())
+    }
+}
+
+/// A run over a disk with this journal comes out as is due.
+fn expect_run(
+    row: usize,
+    alloc: Global,
+    words: &[&str],
+    journal: &[&[u8]],
+    ways: &Ways,
+    input: Vec<u8>,
+    due: &Due,
+) -> Result<(), Fail> {
+    let before = joined(alloc, journal)?;
+    let failing = ways.disk.to_vec(alloc)?;
+    let mut cabinet = cabinet(alloc, before, failing)?;
+    expect_over(row, alloc, &mut cabinet, words, input, ways, due)?;
+    let left = joined(alloc, due.left.unwrap_or(journal))?;
+    expect_left(row, &cabinet, &left, u64::from(!ways.disk.is_empty()))
+}
+
+/// Each run comes out as is due.
+pub fn pass_runs(alloc: Global, runs: &[Run]) -> Result<(), Fail> {
+    for (row, run) in runs.iter().enumerate() {
+        let (words, journal, ways, input, due) = *run;
+        let input = joined(alloc, input)?;
+        expect_run(row, alloc, words, journal, ways, input, due)?;
+    }
+    Ok(())
+}
+
+/// Each run comes out as is due.
+pub fn pass_openings(alloc: Global, openings: &[Opening]) -> Result<(), Fail> {
+    for (row, opening) in openings.iter().enumerate() {
+        let (words, journal, due) = *opening;
+        let input = STATUS.to_vec(alloc)?;
+        expect_run(row, alloc, words, journal, &WHOLE, input, due)?;
+    }
+    Ok(())
+}
+
+/// Each run comes out as is due.
+pub fn pass_batches(alloc: Global, batches: &[Batch]) -> Result<(), Fail> {
+    for (row, batch) in batches.iter().enumerate() {
+        let input = joined(alloc, batch.0)?;
+        expect_run(row, alloc, BATCH, NO_RECORDS, &WHOLE, input, batch.1)?;
+    }
+    Ok(())
+}
+
+/// Each run with a long input comes out as is due.
+pub fn pass_long_batches(alloc: Global, batches: &[LongBatch]) -> Result<(), Fail> {
+    for (row, batch) in batches.iter().enumerate() {
+        let input = repeated(alloc, batch.0)?;
+        expect_run(row, alloc, BATCH, NO_RECORDS, &WHOLE, input, batch.1)?;
+    }
+    Ok(())
+}
+
+/// The runs come out as is due, one behind another over one cabinet of which these calls fail; and what stands under `J` then.
+pub fn pass_in_turn(
+    alloc: Global,
+    failing: &[u64],
+    turns: &[Turn],
+    due: Option<&[u8]>,
+) -> Result<(), Fail> {
+    let mut cabinet = MemoryCabinet::new(alloc, failing.to_vec(alloc)?);
+    take_turns(alloc, &mut cabinet, turns)?;
+    same(turns.len(), "left", &left(&cabinet), &due)
+}
+
+fn take_turns(alloc: Global, cabinet: &mut MemoryCabinet, turns: &[Turn]) -> Result<(), Fail> {
+    for (row, turn) in turns.iter().enumerate() {
+        let input = turn.1.to_vec(alloc)?;
+        expect_over(row, alloc, cabinet, turn.0, input, &WHOLE, turn.2)?;
+    }
+    Ok(())
 }

@@ -3,6 +3,7 @@
 ghost use Rattle.std.specs.Prelude.{◌≡◌, ◌+◌, ◌<◌};
 
 use crate::rows::fixtures::{micro, same, second};
+use curves::EntryList;
 use day_inputs::{DayInputs, DayParts, are_same, window_is};
 use fixed_units::RoundingArray;
 use readings::{Flag, Reading, ReadingList, Window};
@@ -57,6 +58,10 @@ fn inputs(
         from: second(rt, 0),
         until: second(rt, until),
         window: ReadingList::from_vec(readings(rt, alloc, listed)),
+        first: EntryList::from_vec(Vec::new(alloc)),
+        second: EntryList::from_vec(Vec::new(alloc)),
+        third: EntryList::from_vec(Vec::new(alloc)),
+        shifts: EntryList::from_vec(Vec::new(alloc)),
     })
 }
 

@@ -1,14 +1,17 @@
 //! Days worked by hand.
-ghost use Rattle.std.specs.Prelude.{◌≡◌, ◌<◌, true, All, IsTrue};
+ghost use Rattle.std.specs.Prelude.{◌≡◌, ◌<◌, ◌≤◌, ◌-ℤ◌, pos, true, All, IsTrue};
+ghost use Rattle.curves.specs.Entries.{IsSeries};
 ghost use Rattle.fixed_units.specs.Quantities.{IsStage};
 ghost use Rattle.readings.specs.Readings.{IsRising};
 ghost use Rattle.day_inputs.specs.DayInputs.{AreInputs};
 
 use crate::rows::fixtures::{micro, same};
+use crate::rows::units_rows::is_series;
+use curves::{CorrectionSets, Curve, Entry, EntryList, Shifts};
 use daily_values::{
     DayInputs, DayParts, DayValue, Figures, ReadingList, Sum, compute, from_scratch,
 };
-use fixed_units::{Flag, Published, Reading, RoundingArray, Second, is_stage};
+use fixed_units::{Flag, NoMemory, Published, Reading, RoundingArray, Second, is_stage};
 use std::alloc::Global;
 use std::marker::Brand;
 use std::process::Abort;
@@ -48,7 +51,22 @@ fn are_inputs(inputs: &DayInputs) -> bool
         return false;
     }
     let window = parts.window.as_slice();
-    are_rising(window) && are_stages(window)
+    if !are_rising(window) || !are_stages(window) {
+        return false;
+    }
+    are_series(parts)
+}
+
+fn are_series(parts: &DayParts) -> bool
+    ensures first { IsTrue result → IsSeries parts.now.first }
+    ensures second { IsTrue result → IsSeries parts.now.second }
+    ensures third { IsTrue result → IsSeries parts.now.third }
+    ensures shifts { IsTrue result → IsSeries parts.now.shifts }
+{
+    is_series(parts.first.as_slice())
+        && is_series(parts.second.as_slice())
+        && is_series(parts.third.as_slice())
+        && is_series(parts.shifts.as_slice())
 }
 
 fn value_of(inputs: &DayInputs) -> DayValue
@@ -92,6 +110,7 @@ fn figures_of(
     gap: u32,
     length: i32,
     stage_array: RoundingArray,
+    second_set: Vec<Entry>,
     listed: &[(i32, i64)],
 ) -> Figures {
     let inputs = DayInputs::Day(DayParts {
@@ -101,6 +120,10 @@ fn figures_of(
         from: second(rt, 0),
         until: second(rt, length),
         window: ReadingList::from_vec(readings(rt, alloc, listed)),
+        first: EntryList::from_vec(Vec::new(alloc)),
+        second: EntryList::from_vec(second_set),
+        third: EntryList::from_vec(Vec::new(alloc)),
+        shifts: EntryList::from_vec(Vec::new(alloc)),
     });
     assert!(rt; are_inputs(&inputs));
     let DayValue::Day(figures) = value_of(&inputs) else {
@@ -118,7 +141,8 @@ fn expect_day(
     listed: &[(i32, i64)],
     want: (u32, i128, Option<i64>),
 ) {
-    let figures = figures_of(rt, alloc, gap, length, RoundingArray::STAGES, listed);
+    let none = Vec::new(alloc);
+    let figures = figures_of(rt, alloc, gap, length, RoundingArray::STAGES, none, listed);
     let sum = figures.stage();
     let units = figures.stage_text().map(|published| published.units);
     same(rt, gap, &(sum.covered, sum.twice, units), &want);
@@ -196,11 +220,47 @@ fn days_worked_by_hand(rt: HostRuntime) {
     );
 }
 
+// The day whose mean is 1.50 feet has 0.10 more where set 2 has an entry from before the day with that amount at any stage.
+#[test]
+fn a_corrected_day(rt: HostRuntime) {
+    let mut second_set = Vec::new(rt.alloc());
+    let points = [(micro(&rt, 0), micro(&rt, 100_000))];
+    let entry = Entry {
+        at: second(&rt, -90_000),
+        curve: Curve::new(&points).expect(&rt, "a curve"),
+        prorate: false,
+    };
+    second_set.push(entry).expect(&rt, "memory for an entry");
+    let listed = [(0, 1_000_000), NOON, (86_400, 1_000_000)];
+    let figures = figures_of(
+        &rt,
+        rt.alloc(),
+        720,
+        86_400,
+        RoundingArray::STAGES,
+        second_set,
+        &listed,
+    );
+    let want = Published {
+        units: 160,
+        places: 2,
+    };
+    same(&rt, "mean", &figures.stage_text(), &Some(want));
+}
+
 #[test]
 fn a_mean_is_published_by_the_array_of_its_day(rt: HostRuntime) {
     let listed = [(0, 1_000_000), (43_200, 2_000_000), (86_400, 1_000_000)];
     let array = RoundingArray::read(b"0111111111").expect(&rt, "a rounding array");
-    let figures = figures_of(&rt, rt.alloc(), 720, 86_400, array, &listed);
+    let figures = figures_of(
+        &rt,
+        rt.alloc(),
+        720,
+        86_400,
+        array,
+        Vec::new(rt.alloc()),
+        &listed,
+    );
     let want = Published {
         units: 2,
         places: 0,
@@ -215,6 +275,25 @@ fn from_all(rt: &impl Abort, alloc: Global, gap: u32, readings: &[Reading]) -> D
     let until = second(rt, 86_400);
     let length = until.get() - from.get();
     assert!(rt; length == 86_400);
+    without_entries(alloc, gap, from, until, readings).expect(rt, "memory for a window")
+}
+
+// The value of a day of a station without corrections and shifts.
+fn without_entries(
+    alloc: Global,
+    gap: u32,
+    from: Second,
+    until: Second,
+    readings: &[Reading],
+) -> Result<DayValue, NoMemory>
+    requires gap_low { 1 ≤ gap }
+    requires gap_high { gap ≤ 720 }
+    requires length { until -ℤ from ≡ pos 86_400 }
+    requires rising { IsRising readings.now }
+    requires stages { All (λ r. IsStage r.raw) readings.now }
+{
+    let corrections = CorrectionSets::new(alloc);
+    let shifts = Shifts::new(alloc);
     from_scratch::day_value(
         alloc,
         gap,
@@ -222,9 +301,10 @@ fn from_all(rt: &impl Abort, alloc: Global, gap: u32, readings: &[Reading]) -> D
         RoundingArray::STAGES,
         from,
         until,
+        &corrections,
+        &shifts,
         readings,
     )
-    .expect(rt, "memory for a window")
 }
 
 const WHOLE_LIST: [(i32, i64); 6] = [

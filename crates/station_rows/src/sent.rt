@@ -1,10 +1,9 @@
-//! Records as they stand in a journal, and disks that have them.
+//! Edits as records of a journal.
 
-use devices::MemoryDisk;
+use crate::tables::Wrong;
 use edits::Edit;
 use records::decode;
 use std::alloc::Global;
-use std::test::Fail;
 
 /// `AB` adds the station 01646500, POTOMAC, five hours behind UTC, with readings up to twelve hours apart; the reference is `a1`.
 pub const ADDITION: &[u8] =
@@ -18,15 +17,31 @@ pub const ANOTHER: &[u8] =
 pub const SETTING: &[u8] =
     b"\x30\0\0\0\x02\x02AB\x02a1\x08\xa4\x1f\x19\0\0\0\0\0\x07POTOMAC\xd0\x02\0\099999999929999999992";
 
-/// Under `a2` a reading of a foot at the beginning of 2024-01-05 is put: where it is the first it changes that day alone.
+/// Under `a1`, too, a reading of a foot at the beginning of 2024-01-05 is put.
+pub const READING: &[u8] =
+    b"\x25\0\0\0\x03\x02AB\x02a1\x08\xa4\x1f\x19\0\0\0\0\0\x01\0\0\0\xd0\x8c\x97\x65\0\0\0\0\x40\x42\x0f\0\0\0\0\0\0";
+
+/// The same under `a2`: where it is the first it changes that day alone.
 pub const FIRST: &[u8] =
     b"\x25\0\0\0\x03\x02AB\x02a2\x08\xa4\x1f\x19\0\0\0\0\0\x01\0\0\0\xd0\x8c\x97\x65\0\0\0\0\x40\x42\x0f\0\0\0\0\0\0";
 
-/// Under `a3` one a day later: it changes both days.
+/// Under `a2`, too, one two days later.
+pub const OTHER: &[u8] =
+    b"\x25\0\0\0\x03\x02AB\x02a2\x08\xa4\x1f\x19\0\0\0\0\0\x01\0\0\0\xa0\xe6\x9a\x65\0\0\0\0\x40\x42\x0f\0\0\0\0\0\0";
+
+/// Under `a3` one a day after the first: it changes both days.
 pub const NEXT: &[u8] =
     b"\x25\0\0\0\x03\x02AB\x02a3\x08\xa4\x1f\x19\0\0\0\0\0\x01\0\0\0\x50\xde\x98\x65\0\0\0\0\x40\x42\x0f\0\0\0\0\0\0";
 
-/// Under `a4` one between the two, by a second too early for the later day.
+/// Under `a3`, too, one two days after the first: it changes its own day alone.
+pub const LATE: &[u8] =
+    b"\x25\0\0\0\x03\x02AB\x02a3\x08\xa4\x1f\x19\0\0\0\0\0\x01\0\0\0\xa0\xe6\x9a\x65\0\0\0\0\x40\x42\x0f\0\0\0\0\0\0";
+
+/// Under `a4` one in the middle of 2024-01-05: it changes both days.
+pub const MIDDLE: &[u8] =
+    b"\x25\0\0\0\x03\x02AB\x02a4\x08\xa4\x1f\x19\0\0\0\0\0\x01\0\0\0\x90\x35\x98\x65\0\0\0\0\x40\x42\x0f\0\0\0\0\0\0";
+
+/// Under `a4`, too, one a second earlier, which is too early for the later day.
 pub const BETWEEN: &[u8] =
     b"\x25\0\0\0\x03\x02AB\x02a4\x08\xa4\x1f\x19\0\0\0\0\0\x01\0\0\0\x8f\x35\x98\x65\0\0\0\0\x40\x42\x0f\0\0\0\0\0\0";
 
@@ -36,27 +51,10 @@ pub const FIFTH: i32 = 19_727;
 pub const SIXTH: i32 = 19_728;
 
 /// The edit of a record.
-pub fn edit(alloc: Global, record: &[u8]) -> Result<Edit, Fail> {
-    let payload = record.get(4..).ok_or("a length")?;
+pub fn edit(alloc: Global, record: &[u8]) -> Result<Edit, Wrong> {
+    let payload = record.get(4..).ok_or(Wrong::Record)?;
     match decode(alloc, payload) {
         Ok(piece) => Ok(piece.edit),
-        Err(_) => Err("a record, and memory for it".into()),
+        Err(_) => Err(Wrong::Record),
     }
-}
-
-/// The journal of these records.
-pub fn journal_of(alloc: Global, records: &[&[u8]]) -> Result<Vec<u8>, Fail> {
-    let mut bytes = b"STREAMOFFICE-J1\n".to_vec(alloc)?;
-    for record in records {
-        bytes.push(1)?;
-        bytes.extend_from_slice(record)?;
-    }
-    bytes.push(0)?;
-    Ok(bytes)
-}
-
-/// A disk that has the journal of these records, and whose calls of these numbers fail.
-pub fn disk(alloc: Global, records: &[&[u8]], failing: &[u64]) -> Result<MemoryDisk, Fail> {
-    let bytes = journal_of(alloc, records)?;
-    Ok(MemoryDisk::new(alloc, bytes, failing.to_vec(alloc)?)?)
 }

@@ -1,0 +1,172 @@
+//! Limits of events, of cells and of the bytes of a journal. An edit needs room for the publications that it brings, too. The journal
+//! has 17 bytes before the addition, 77 with it and 119 with a reading.
+
+use crate::disks::play_rows;
+use crate::sent::{ADDITION, ANOTHER, FIRST, LATE, READING};
+use crate::tables::{Act, NEW, Row, Session, Told, Wrong};
+use office_inputs::{Full, Refusal};
+
+const NO_EVENT: Told = Told::Refused(Refusal::HistoryFull(Full::Events));
+
+const NO_CELL: Told = Told::Refused(Refusal::HistoryFull(Full::Cells));
+
+const NO_BYTE: Told = Told::Refused(Refusal::JournalFull);
+
+/// An addition: kept, without an event for it, and without the bytes for it.
+const ADDED: &[Session] = &[&[(Act::Send(ADDITION), Told::Kept(1))]];
+
+const ADDED_NO_EVENT: &[Session] = &[&[
+    (Act::Send(READING), Told::Refused(Refusal::NoStation)),
+    (Act::Send(ADDITION), NO_EVENT),
+]];
+
+const ADDED_NO_BYTE: &[Session] = &[&[(Act::Send(ADDITION), NO_BYTE)]];
+
+static FIRST_EDITS: [Row; 5] = [
+    Row {
+        limits: Some((1, 0, 77)),
+        sessions: ADDED,
+        calls: 8,
+        left: &[ADDITION],
+        ..NEW
+    },
+    Row {
+        limits: Some((0, 0, 77)),
+        sessions: ADDED_NO_EVENT,
+        calls: 4,
+        ..NEW
+    },
+    Row {
+        limits: Some((1, 0, 76)),
+        sessions: ADDED_NO_BYTE,
+        calls: 4,
+        ..NEW
+    },
+    Row {
+        limits: Some((1, 0, 40)),
+        sessions: ADDED_NO_BYTE,
+        calls: 4,
+        ..NEW
+    },
+    Row {
+        limits: Some((0, 0, 40)),
+        sessions: ADDED_NO_EVENT,
+        calls: 4,
+        ..NEW
+    },
+];
+
+#[test]
+fn a_first_edit_keeps_to_the_limits(rt: HostRuntime) -> Result<(), (usize, Wrong)> {
+    play_rows(rt.alloc(), &FIRST_EDITS)
+}
+
+/// A reading behind the addition.
+const PUT: &[Session] = &[&[
+    (Act::Send(ADDITION), Told::Kept(1)),
+    (Act::Send(FIRST), Told::Kept(2)),
+]];
+
+const PUT_NO_EVENT: &[Session] = &[&[
+    (Act::Send(ADDITION), Told::Kept(1)),
+    (Act::Send(FIRST), NO_EVENT),
+]];
+
+const PUT_NO_CELL: &[Session] = &[&[
+    (Act::Send(ADDITION), Told::Kept(1)),
+    (Act::Send(FIRST), NO_CELL),
+]];
+
+const PUT_NO_BYTE: &[Session] = &[&[
+    (Act::Send(ADDITION), Told::Kept(1)),
+    (Act::Send(FIRST), NO_BYTE),
+]];
+
+const ADDED_AGAIN: &[Session] = &[&[
+    (Act::Send(ADDITION), Told::Kept(1)),
+    (Act::Send(ANOTHER), Told::Refused(Refusal::StationExists)),
+]];
+
+/// The addition alone is kept.
+const ONE: Row = Row {
+    calls: 8,
+    left: &[ADDITION],
+    ..NEW
+};
+
+static SECOND_EDITS: [Row; 7] = [
+    Row {
+        limits: Some((3, 1, 119)),
+        sessions: PUT,
+        calls: 12,
+        left: &[ADDITION, FIRST],
+        ..NEW
+    },
+    Row {
+        limits: Some((2, 1, 119)),
+        sessions: PUT_NO_EVENT,
+        ..ONE
+    },
+    Row {
+        limits: Some((3, 0, 119)),
+        sessions: PUT_NO_CELL,
+        ..ONE
+    },
+    Row {
+        limits: Some((3, 1, 118)),
+        sessions: PUT_NO_BYTE,
+        ..ONE
+    },
+    Row {
+        limits: Some((2, 0, 118)),
+        sessions: PUT_NO_EVENT,
+        ..ONE
+    },
+    Row {
+        limits: Some((3, 0, 118)),
+        sessions: PUT_NO_CELL,
+        ..ONE
+    },
+    Row {
+        limits: Some((1, 0, 77)),
+        sessions: ADDED_AGAIN,
+        ..ONE
+    },
+];
+
+#[test]
+fn a_second_edit_keeps_to_the_limits(rt: HostRuntime) -> Result<(), (usize, Wrong)> {
+    play_rows(rt.alloc(), &SECOND_EDITS)
+}
+
+/// Days between two that are changed are cells, too.
+static BETWEEN_DAYS: [Row; 2] = [
+    Row {
+        limits: Some((100, 3, 1_000)),
+        sessions: &[&[
+            (Act::Send(ADDITION), Told::Kept(1)),
+            (Act::Send(FIRST), Told::Kept(2)),
+            (Act::Send(LATE), Told::Kept(3)),
+            (Act::Counts, Told::Counts(3, 3, 2)),
+        ]],
+        calls: 16,
+        left: &[ADDITION, FIRST, LATE],
+        ..NEW
+    },
+    Row {
+        limits: Some((100, 2, 1_000)),
+        sessions: &[&[
+            (Act::Send(ADDITION), Told::Kept(1)),
+            (Act::Send(FIRST), Told::Kept(2)),
+            (Act::Send(LATE), NO_CELL),
+        ]],
+        calls: 12,
+        left: &[ADDITION, FIRST],
+        ..NEW
+    },
+];
+
+#[test]
+fn days_between_are_cells_too(rt: HostRuntime) -> Result<(), (usize, Wrong)> {
+    play_rows(rt.alloc(), &BETWEEN_DAYS)
+}

@@ -1,0 +1,54 @@
+//! What is said to the records that an office is opened with.
+
+use crate::sent::{ADDITION, ANOTHER, FIRST, READING, edit};
+use crate::tables::Wrong;
+use edits::Edit;
+use office_inputs::{Limits, Refusal};
+use records::Record;
+use register::{NotReadmitted, Register};
+use std::alloc::Global;
+
+/// What is said to a record.
+pub type Said = Result<(), NotReadmitted>;
+
+/// What is said to the records of two edits, and with how many edits the office is opened then.
+pub type Readmitted = (Said, Said, u64);
+
+fn readmitted(alloc: Global, first: Edit, second: Edit) -> Readmitted {
+    let mut register = Register::new(alloc, Limits::usual());
+    let said = register.readmit(Record { edit: first });
+    let next = register.readmit(Record { edit: second });
+    (said, next, register.opened())
+}
+
+const NO_STATION: Said = Err(NotReadmitted::Refused(Refusal::NoStation));
+
+const REUSED: Said = Err(NotReadmitted::Refused(Refusal::RefReused(1)));
+
+const EXISTS: Said = Err(NotReadmitted::Refused(Refusal::StationExists));
+
+static ROWS: [([&[u8]; 2], Readmitted); 5] = [
+    ([ADDITION, FIRST], (Ok(()), Ok(()), 2)),
+    ([FIRST, ADDITION], (NO_STATION, Ok(()), 1)),
+    ([ADDITION, READING], (Ok(()), REUSED, 1)),
+    ([ADDITION, ADDITION], (Ok(()), REUSED, 1)),
+    ([ADDITION, ANOTHER], (Ok(()), EXISTS, 1)),
+];
+
+/// What is said to two records, and how many are accepted.
+fn said(alloc: Global, records: [&[u8]; 2]) -> Result<Readmitted, Wrong> {
+    let first = edit(alloc, records[0])?;
+    let second = edit(alloc, records[1])?;
+    Ok(readmitted(alloc, first, second))
+}
+
+#[test]
+fn records_are_readmitted_in_order(rt: HostRuntime) -> Result<(), Wrong> {
+    for (records, due) in &ROWS {
+        let told = said(rt.alloc(), *records)?;
+        if told != *due {
+            return Err(Wrong::Said(told));
+        }
+    }
+    Ok(())
+}

@@ -1,0 +1,108 @@
+//! What a row does, and what is told of it.
+
+use crate::readmitting::Readmitted;
+use journal::OpenFault;
+use office_inputs::Refusal;
+use recompute::Publish;
+
+/// What is done to an office. A day is one of the station 01646500, told by its number.
+#[derive(Clone, Copy)]
+pub enum Act {
+    /// The edit of a record comes.
+    Send(&'static [u8]),
+    /// The first pending day whose claim is not out is claimed, and its job is at hand.
+    Claim,
+    /// The job that came to hand last is computed and published.
+    Publish,
+    /// The first pending day is looked at.
+    Look,
+    /// The first pending day behind a day is looked at.
+    LookBehind(i32),
+    /// The first pending day whose claim is not out is computed and published.
+    Turn,
+    /// All pending days are.
+    Settle,
+    /// What is answered for a day.
+    Answer(i32),
+    /// How many events there are, how many edits were accepted and how many days are pending.
+    Counts,
+}
+
+/// What is told of it.
+#[derive(Clone, Copy, Debug, PartialEq, Eq)]
+pub enum Told {
+    /// The edit is kept under this number.
+    Kept(u64),
+    /// It is the edit of this number, which comes again.
+    Repeated(u64),
+    Refused(Refusal),
+    /// This day awaits this edit.
+    Day(i32, u64),
+    /// There is no such day.
+    NoDay,
+    Outcome(Publish),
+    /// This day was published.
+    Turned(i32),
+    /// So many days were published.
+    Settled(u64),
+    NoStation,
+    /// The day awaits this edit.
+    Pending(u64),
+    /// The day awaits none.
+    Computed,
+    Counts(u64, u64, u64),
+}
+
+/// What is done to one office, one after another, and what is to be told of each.
+pub type Session = &'static [(Act, Told)];
+
+/// An office over a disk in memory.
+#[derive(Clone, Copy)]
+pub struct Row {
+    /// The records that the journal has at first.
+    pub records: &'static [&'static [u8]],
+    /// The calls of the disk that fail, counted from 1.
+    pub failing: &'static [u64],
+    /// The greatest numbers of events, of cells and of bytes of the journal; none are the usual ones.
+    pub limits: Option<(u64, u64, u64)>,
+    /// For each an office is opened on the disk, and closed.
+    pub sessions: &'static [Session],
+    /// How many calls the disk has had then.
+    pub calls: u64,
+    /// The records that the journal has then.
+    pub left: &'static [&'static [u8]],
+}
+
+/// A journal of no edits, on a disk that does not fail, and no office.
+pub const NEW: Row = Row {
+    records: &[],
+    failing: &[],
+    limits: None,
+    sessions: &[],
+    calls: 0,
+    left: &[],
+};
+
+/// Why a row fails.
+#[derive(Clone, Copy, Debug)]
+pub enum Wrong {
+    /// At this place of a session, from 0 on, this is told.
+    Told(usize, Told),
+    /// The disk has had so many calls.
+    Calls(u64),
+    /// The disk has other bytes.
+    Bytes,
+    /// No office is opened, by this fault.
+    Shut(OpenFault),
+    /// An office is opened.
+    Opened,
+    /// This is said to records.
+    Said(Readmitted),
+    /// There is no such day.
+    Day,
+    /// No record has such bytes, or there is no memory for it.
+    Record,
+    /// No job is at hand.
+    Job,
+    NoMemory,
+}

@@ -12,11 +12,11 @@ use Rattle.rising.proofs.Parting.{le_yes, lt_yes, yes_le, yes_lt}
 use Rattle.rising.proofs.Splitting.{rest_rises, rest_is_later}
 use Rattle.rising.proofs.Ends.{last-cons}
 
-both : (a b : Bool) → (a && b) ≡ true → (a ≡ true) × (b ≡ true)
+pub both : (a b : Bool) → (a && b) ≡ true → (a ≡ true) × (b ≡ true)
 both true b h = (refl, h)
 both false b h = absurd (cc)
 
-either_one : (a b : Bool) → (a || b) ≡ true → (a ≡ true) ⊎ (b ≡ true)
+pub either_one : (a b : Bool) → (a || b) ≡ true → (a ≡ true) ⊎ (b ≡ true)
 either_one true b h = inl refl
 either_one false b h = inr h
 
@@ -43,7 +43,7 @@ does_reach lo hi e None r = let f = le_yes e.at hi r.begins in rw f refl
 does_reach lo hi e (Some m) r = let f = le_yes e.at hi r.begins in let g = lt_yes lo m.at (r.lasts m refl) in rw (f, g) refl
 
 -- whether an entry is led to, by the one before it or else by what was told
-abbrev led_of : ℤ → ℤ → Bool → Option Entry → Entry → Bool
+abbrev pub led_of : ℤ → ℤ → Bool → Option Entry → Entry → Bool
 led_of lo hi led None e = led
 led_of lo hi led (Some p) e = leads lo hi p (Some e)
 
@@ -59,7 +59,7 @@ does_lead lo hi before e l =
     let g : leads lo hi l.lead (Some e) ≡ true = ap (λ b. b && l.lead.prorate) f ∙ l.prorates in
     ap (λ (o : Option Entry). led_of lo hi false o e) l.is ∙ g
 
-same_led : (lo hi : ℤ) (a b : Bool) (y : Entry) (ys : List Entry) (e : Entry) → led_of lo hi a (last (y ∷ ys)) e ≡ led_of lo hi b (last (y ∷ ys)) e
+pub same_led : (lo hi : ℤ) (a b : Bool) (y : Entry) (ys : List Entry) (e : Entry) → led_of lo hi a (last (y ∷ ys)) e ≡ led_of lo hi b (last (y ∷ ys)) e
 same_led lo hi a b y [] e = refl
 same_led lo hi a b y (z ∷ zs) e =
     ap (λ (o : Option Entry). led_of lo hi a o e) (last-cons y z zs) ∙ same_led lo hi a b z zs e
@@ -70,7 +70,7 @@ one_kept : (P : Entry → Type 0) (b : Bool) (x : Entry) → P x → All P (cond
 one_kept P true x h = All-cons P x [] h (All-nil P)
 one_kept P false x h = All-nil P
 
-bearing_kept : (P : Entry → Type 0) (lo hi : ℤ) (led : Bool) (es : List Entry) → All P es → All P (bearing_led lo hi led es)
+pub bearing_kept : (P : Entry → Type 0) (lo hi : ℤ) (led : Bool) (es : List Entry) → All P es → All P (bearing_led lo hi led es)
 bearing_kept P lo hi led [] h = All-nil P
 bearing_kept P lo hi led (x ∷ xs) h =
     All-append P (cond (bears lo hi x (first xs) || led) (x ∷ []) []) (bearing_led lo hi (leads lo hi x (first xs)) xs)
@@ -107,7 +107,7 @@ other_front x e fs back h k =
     absurd (omega (arith, ints, l, f))
 
 -- an entry is among those that bear where its own test or that of the one before it says so
-by_tests : (lo hi : ℤ) (led : Bool) (front back : List Entry) (e : Entry) → IsRising (front ++ e ∷ back)
+pub by_tests : (lo hi : ℤ) (led : Bool) (front back : List Entry) (e : Entry) → IsRising (front ++ e ∷ back)
     → Contains (bearing_led lo hi led (front ++ e ∷ back)) e ↔ ((bears lo hi e (first back) || led_of lo hi led (last front) e) ≡ true)
 by_tests lo hi led [] back e h =
     let rest = bearing_led lo hi (leads lo hi e (first back)) back in (

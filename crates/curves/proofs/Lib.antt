@@ -3,6 +3,7 @@ pub mod BearingCases
 pub mod BearingLemmas
 pub mod BearingRuns
 pub mod CaseLemmas
+pub mod ChangeLemmas
 pub mod EqualityLemmas
 pub mod PointLemmas
 pub mod SeriesLemmas

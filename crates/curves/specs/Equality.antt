@@ -1,7 +1,9 @@
 -- When two entries, and two lists of them, are equal.
-use Rattle.std.specs.Prelude.{Bool, true, false, not, ◌&&◌, List, ℤ}
+use Rattle.std.specs.Prelude.{Bool, true, false, not, ◌&&◌, List, ℤ, Option, Some, None}
 use Rattle.std.specs.Ordering.{int_eq}
 use Rattle.std.specs.Cmp.Lexicographic.{pointwise}
+use Rattle.rising.specs.Lists as lists
+use Rattle.curves.specs.Entries.{instant_of}
 use Rattle.curves.specs.declared.entries.Entry.{Entry}
 
 -- the stages and the amounts are one
@@ -20,3 +22,12 @@ same_entry e f = int_eq e.at f.at && (pointwise same_point e.curve f.curve && sa
 -- the lists are as long, and each pair is one
 abbrev pub same_entries : List Entry → List Entry → Bool
 same_entries entries others = pointwise same_entry entries others
+
+-- an entry is the one that was found, if one was
+abbrev pub is_found : Entry → Option Entry → Bool
+is_found entry None = false
+is_found entry (Some other) = same_entry entry other
+
+-- an entry equal to this one stands at its instant
+abbrev pub has_entry : Entry → List Entry → Bool
+has_entry entry entries = is_found entry (lists.at instant_of entry.at entries)

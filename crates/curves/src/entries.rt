@@ -1,8 +1,8 @@
 //! The entries of a series, and the amount that they put in force at an instant.
 
-ghost use Rattle.std.specs.Prelude.{◌≡◌, ◌≤◌, length, ◌≤ℤ◌, ◌<ℤ◌, slice_range};
+ghost use Rattle.std.specs.Prelude.{◌≡◌, ◌≤◌, length, ◌≤ℤ◌, ◌<ℤ◌, option_map, slice_range};
 ghost use Rattle.curves.specs.Entries.{IsRising, amount_prorated, series_value};
-ghost use Rattle.curves.specs.Bearing.{bearing};
+ghost use Rattle.curves.specs.Bearing.{bearing, is_led_to, reaches};
 
 use crate::curve::Curve;
 use fixed_units::{Micro, Second, line_at};
@@ -69,17 +69,6 @@ fn amount_prorated(entry: &Entry, next: &Entry, at: Second, stage: Micro) -> Mic
     )
 }
 
-/// The entries that bear on the instants from `lo` to `hi`, of entries whose instants strictly rise: each that stands at
-/// most at `hi` and whose next one, if there is one, stands after `lo`; and each that directly follows such an entry that
-/// prorates.
-pub fn bearing_entries(entries: &[Entry], lo: Second, hi: Second) -> &[Entry]
-    requires { IsRising entries.now }
-    ensures { result.now ≡ bearing lo hi entries.now }
-{
-    let (start, end) = bearing(entries, lo, hi);
-    &entries[start..end]
-}
-
 /// The first place of the entries that bear on a span, and the place after the last one.
 pub(crate) fn bearing(entries: &[Entry], lo: Second, hi: Second) -> (usize, usize)
     requires { IsRising entries.now }
@@ -93,4 +82,25 @@ pub(crate) fn bearing(entries: &[Entry], lo: Second, hi: Second) -> (usize, usiz
         return (start, end + 1);
     }
     (start, end)
+}
+
+/// Whether what stands at an instant, in front of this entry, bears on a span by itself: it stands at most at `hi`, and
+/// the next one, if there is one, after `lo`.
+pub(crate) fn reaches(at: Second, next: Option<&Entry>, lo: Second, hi: Second) -> bool
+    ensures { result ≡ reaches lo hi at (option_map (λ n. n.now) next.entry) }
+{
+    match next {
+        Some(next) => at <= hi && lo < next.at,
+        None => at <= hi,
+    }
+}
+
+/// Whether what stands at an instant, behind this entry, bears on a span since it follows one that does and prorates.
+pub(crate) fn is_led_to(before: Option<&Entry>, at: Second, lo: Second, hi: Second) -> bool
+    ensures { result ≡ is_led_to lo hi (option_map (λ b. b.now) before.entry) at }
+{
+    match before {
+        Some(before) => before.at <= hi && lo < at && before.prorate,
+        None => false,
+    }
 }

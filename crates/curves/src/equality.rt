@@ -39,7 +39,7 @@ fn behind<'a>(entry: &Entry, list: &'a [Entry]) -> Option<&'a [Entry]>
 }
 
 /// Whether two entries are equal.
-fn is_same(entry: &Entry, other: &Entry) -> bool
+pub(crate) fn is_same(entry: &Entry, other: &Entry) -> bool
     ensures { result ≡ same_entry entry.now other.now }
 {
     entry.at == other.at

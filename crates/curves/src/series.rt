@@ -2,10 +2,12 @@
 
 ghost use Rattle.std.specs.Prelude.{◌≡◌, ◌+◌, ◌<◌, ◌≤◌, [], length, is_ok, IsOk, IfOk, OnOk, OnErr, slice_range};
 ghost use Rattle.curves.specs.Entries.{IsRising, series_value, stands_at, without, put};
-ghost use Rattle.curves.specs.Bearing.{bearing};
+ghost use Rattle.curves.specs.Bearing.{bearing, bears_at};
+ghost use Rattle.curves.specs.Equality.{has_entry};
 
-use crate::entries::{Entry, bearing, bearing_entries, value_of};
+use crate::entries::{Entry, bearing, is_led_to, reaches, value_of};
 use crate::entry_list::EntryList;
+use crate::equality::is_same;
 use fixed_units::{Micro, NoMemory, Second};
 use rising::{NoEntry, RisingList};
 use std::alloc::Global;
@@ -103,7 +105,9 @@ impl Series {
     pub fn bearing_entries(&self, lo: Second, hi: Second) -> &[Entry]
         ensures { result.now ≡ bearing lo hi self.now.entries }
     {
-        bearing_entries(self.list.as_slice(), lo, hi)
+        let entries = self.list.as_slice();
+        let (start, end) = bearing(entries, lo, hi);
+        &entries[start..end]
     }
 
     /// A copy of them.
@@ -113,6 +117,25 @@ impl Series {
         let mut entries = Vec::new(alloc);
         entries.extend_from_slice(self.bearing_entries(lo, hi))?;
         Ok(EntryList::from_vec(entries))
+    }
+
+    /// Whether an entry at an instant, between the last one before it and the first one after it, bears on the instants from
+    /// `lo` to `hi`, or would if one stood there.
+    pub fn bears_at(&self, at: Second, lo: Second, hi: Second) -> bool
+        ensures { result ≡ bears_at lo hi at self.now.entries }
+    {
+        let around = self.list.parts(at);
+        reaches(at, around.after.first(), lo, hi) || is_led_to(around.before.last(), at, lo, hi)
+    }
+
+    /// Whether an entry equal to this one stands at its instant.
+    pub fn has_entry(&self, entry: &Entry) -> bool
+        ensures { result ≡ has_entry entry.now self.now.entries }
+    {
+        match self.list.get(entry.at) {
+            Some(found) => is_same(entry, found),
+            None => false,
+        }
     }
 
     /// The entries, in order.

@@ -154,7 +154,8 @@ pub(crate) fn twice_area(parts: &DayParts, left: &Unit, right: &Unit, seconds: u
     (first + last) * i128::from(seconds)
 }
 
-/// The stage at an instant on the line between two corrected stages.
+/// The stage at an instant on the line between two corrected stages, which at either end is that end's stage. Only the lines that the
+/// day cuts are read between their ends.
 fn stage_at(left: &Unit, right: &Unit, at: Second) -> i128
     requires rising { left.now.at <ℤ right.now.at }
     requires left { IsCorrected left.now.stage }
@@ -164,6 +165,12 @@ fn stage_at(left: &Unit, right: &Unit, at: Second) -> i128
     ensures value { result ≡ stage_between left.now right.now at }
     ensures range { IsCorrected result }
 {
+    if at == left.at {
+        return i128::from(left.stage.get());
+    }
+    if at == right.at {
+        return i128::from(right.stage.get());
+    }
     let (from, to) = ((left.at.get(), left.stage), (right.at.get(), right.stage));
     i128::from(line_at(from, to, at.get()).get())
 }

@@ -46,17 +46,22 @@ pub fn unit(
         raw: reading.raw,
         correction: quantity(correction),
         stage,
-        shift: value_of(shifts, reading.at, stage),
+        shift: quantity(amount_of(shifts, reading.at, stage)),
         discharge: Err(Missing::NoRating),
     }
 }
 
-/// The amount in millionths of a foot that a series has at an instant and a stage.
+/// The amount in millionths of a foot that a series has at an instant and a stage. Of the days of a record most have no
+/// corrections and no shifts, so a series without entries is not searched.
+#[inline(always)]
 fn amount_of(entries: &[Entry], at: Second, stage: Micro) -> i64
     requires { IsSeries entries.now }
     ensures value { result ≡ series_value entries.now at stage }
     ensures range { IsAmount result }
 {
+    if entries.is_empty() {
+        return 0;
+    }
     value_of(entries, at, stage).get()
 }
 

@@ -1,5 +1,5 @@
 -- The amounts are added at the raw stage, and then to it.
-use Rattle.std.proofs.Common.{◌≡◌, refl, List, ℤ, Err, arith}
+use Rattle.std.proofs.Common.{◌≡◌, refl, List, ℤ, Err, arith, ◌∙◌}
 use Rattle.std.proofs.lemmas.Int.{ints}
 use Rattle.fixed_units.specs.declared.readings.Reading.{Reading}
 use Rattle.curves.specs.declared.entries.Entry.{Entry}
@@ -57,6 +57,8 @@ made first second third shifts r correction stage shift e f g = rw (g, f, e) ref
 
 pub returns-clause-unit : goal.returns-clause-unit
 returns-clause-unit c =
+    let shift : c.quantity-2.result ≡ c.amount_of-4.result =
+    omega (arith, ints, c.quantity-2.ensures, c.amount_of-4.ensures.range.low, c.amount_of-4.ensures.range.high) in
     made c.args.first.now c.args.second.now c.args.third.now c.args.shifts.now c.args.reading c.quantity.result c.quantity-stage.result
-    c.value_of.result
-    (returns-clause-correction c) (returns-clause-stage c) c.value_of.ensures
+    c.quantity-2.result
+    (returns-clause-correction c) (returns-clause-stage c) (shift ∙ c.amount_of-4.ensures.value)

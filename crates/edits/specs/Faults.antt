@@ -1,7 +1,7 @@
 -- Why there is no such edit.
 use Rattle.edits.specs.Lawful.{IsLawful}
 use Rattle.edits.specs.declared.content.What.{What}
-use Rattle.edits.specs.declared.content.What.TheVariants.{AddStation, SetStation, PutReadings}
+use Rattle.edits.specs.declared.content.What.TheVariants.{AddStation, SetStation, PutReadings, PutCorrection, DropCorrection, PutShift, DropShift}
 use Rattle.edits.specs.declared.faults.EditFault.{EditFault}
 use Rattle.edits.specs.declared.faults.EditFault.TheVariants.{NotLawful, NoMemory}
 
@@ -10,6 +10,10 @@ abbrev pub AddsStation : What → Type 0
 AddsStation (AddStation name zone gap stage_array discharge_array) = Unit {0}
 AddsStation (SetStation name gap stage_array discharge_array) = ⊥
 AddsStation (PutReadings readings) = ⊥
+AddsStation (PutCorrection set at curve prorate) = ⊥
+AddsStation (DropCorrection set at) = ⊥
+AddsStation (PutShift at curve prorate) = ⊥
+AddsStation (DropShift at) = ⊥
 
 -- `NotLawful` where it is not lawful, and `NoMemory` only where it is and adds a station
 abbrev pub IsEditFault : What → EditFault → Type 0

@@ -1,14 +1,16 @@
 -- What an edit keeps to, by its kind.
-use Rattle.std.specs.Prelude.{◌≡◌, ℕ, ◌≤◌, List, length, All}
+use Rattle.std.specs.Prelude.{◌≡◌, ℕ, ◌≤◌, List, length, All, ℤ}
 use Rattle.civil_days.specs.Starts.{IsZone}
+use Rattle.curves.specs.Curve.{stage_of}
 use Rattle.edits.specs.Texts.{IsName}
 use Rattle.edits.specs.declared.content.What.{What}
-use Rattle.edits.specs.declared.content.What.TheVariants.{AddStation, SetStation, PutReadings}
-use Rattle.fixed_units.specs.Quantities.{IsStage, IsStamp}
+use Rattle.edits.specs.declared.content.What.TheVariants.{AddStation, SetStation, PutReadings, PutCorrection, DropCorrection, PutShift, DropShift}
+use Rattle.fixed_units.specs.Quantities.{IsAmount, IsStage, IsStamp}
 use Rattle.fixed_units.specs.RoundingArray.{IsRoundingArray}
 use Rattle.fixed_units.specs.declared.readings.Flag.TheVariants.{Usable}
 use Rattle.fixed_units.specs.declared.readings.Reading.{Reading}
 use Rattle.readings.specs.Readings.{IsRising}
+use Rattle.rising.specs.Lists as lists
 
 -- a gap tolerance is 1 to 720 minutes
 abbrev pub most_gap : ℕ
@@ -47,9 +49,30 @@ pub record ArePutReadings (readings : List Reading) : Type 0 where
   pub rising : IsRising readings
   pub each : All IsPutReading readings
 
+-- the number of a correction set: 1 to 3
+pub record IsSetNumber (set : ℕ) : Type 0 where
+  pub least : 1 ≤ set
+  pub greatest : set ≤ 3
+
+-- a point of a curve that is put: a stage and an amount
+pub record IsPutPoint (point : ℤ × ℤ) : Type 0 where
+  pub stage : IsStage point.0
+  pub amount : IsAmount point.1
+
+-- a curve that is put: one to three points whose stages strictly rise
+pub record IsPutCurve (points : List (ℤ × ℤ)) : Type 0 where
+  pub fewest : 1 ≤ length points
+  pub most : length points ≤ 3
+  pub rising : lists.IsRising stage_of points
+  pub each : All IsPutPoint points
+
 -- what an edit of each kind is lawful by
 abbrev pub IsLawful : What → Type 0
 IsLawful (AddStation name zone gap stage_array discharge_array) =
     AreSettings name gap stage_array discharge_array × IsStationZone zone
 IsLawful (SetStation name gap stage_array discharge_array) = AreSettings name gap stage_array discharge_array
 IsLawful (PutReadings readings) = ArePutReadings readings
+IsLawful (PutCorrection set at curve prorate) = IsSetNumber set × IsStamp at × IsPutCurve curve
+IsLawful (DropCorrection set at) = IsSetNumber set × IsStamp at
+IsLawful (PutShift at curve prorate) = IsStamp at × IsPutCurve curve
+IsLawful (DropShift at) = IsStamp at

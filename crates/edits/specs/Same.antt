@@ -1,8 +1,10 @@
 -- When two edits are the same: member by member.
-use Rattle.std.specs.Prelude.{Bool, false, ◌&&◌, ◌==◌, bytes_eq}
+use Rattle.std.specs.Prelude.{Bool, false, ◌&&◌, ◌==◌, bytes_eq, List, ℤ}
+use Rattle.std.specs.Ordering.{int_eq}
+use Rattle.curves.specs.Equality.{same_entry}
 use Rattle.edits.specs.declared.content.Edit.{Edit}
 use Rattle.edits.specs.declared.content.What.{What}
-use Rattle.edits.specs.declared.content.What.TheVariants.{AddStation, SetStation, PutReadings}
+use Rattle.edits.specs.declared.content.What.TheVariants.{AddStation, SetStation, PutReadings, PutCorrection, DropCorrection, PutShift, DropShift}
 use Rattle.fixed_units.specs.Quantities.{same_site}
 use Rattle.readings.specs.Equality.{same_readings}
 
@@ -10,7 +12,13 @@ use Rattle.readings.specs.Equality.{same_readings}
 abbrev pub are_sent_alike : Edit → Edit → Bool
 are_sent_alike a b = bytes_eq a.by b.by && (bytes_eq a.reference b.reference && same_site a.site b.site)
 
--- of one kind, and each member of what is changed is the same: a zone by its text, readings by instant, stage and flag
+-- entries of these parts are the same
+abbrev pub is_same_entry : ℤ → List (ℤ × ℤ) → Bool → ℤ → List (ℤ × ℤ) → Bool → Bool
+is_same_entry at curve prorate its_at its_curve its_prorate =
+    same_entry (record { at = at; curve = curve; prorate = prorate }) (record { at = its_at; curve = its_curve; prorate = its_prorate })
+
+-- of one kind, and each member of what is changed is the same: a zone by its text, readings by instant, stage and flag, and a curve
+-- by its points
 abbrev pub is_same_what : What → What → Bool
 is_same_what (AddStation name zone gap stages discharges) (AddStation its_name its_zone its_gap its_stages its_discharges) =
     bytes_eq name its_name && (bytes_eq zone its_zone && (gap == its_gap
@@ -18,6 +26,11 @@ is_same_what (AddStation name zone gap stages discharges) (AddStation its_name i
 is_same_what (SetStation name gap stages discharges) (SetStation its_name its_gap its_stages its_discharges) =
     bytes_eq name its_name && (gap == its_gap && (bytes_eq stages its_stages && bytes_eq discharges its_discharges))
 is_same_what (PutReadings readings) (PutReadings its_readings) = same_readings readings its_readings
+is_same_what (PutCorrection set at curve prorate) (PutCorrection its_set its_at its_curve its_prorate) =
+    set == its_set && is_same_entry at curve prorate its_at its_curve its_prorate
+is_same_what (DropCorrection set at) (DropCorrection its_set its_at) = set == its_set && int_eq at its_at
+is_same_what (PutShift at curve prorate) (PutShift its_at its_curve its_prorate) = is_same_entry at curve prorate its_at its_curve its_prorate
+is_same_what (DropShift at) (DropShift its_at) = int_eq at its_at
 is_same_what _ _ = false
 
 -- sent alike, and they change the same

@@ -1,13 +1,14 @@
 -- That an edit is lawful has at most one proof, so that an edit keeps it.
-use Rattle.std.specs.Prelude.{List, ℕ}
+use Rattle.std.specs.Prelude.{List, ℕ, ℤ}
 use Rattle.std.proofs.Common.{ap, ◌∙◌}
 use Rattle.std.proofs.Props.{props}
 use Rattle.civil_days.specs.Starts.{IsZone}
 use Rattle.civil_days.proofs.ZoneLemmas.{IsZone-prop}
-use Rattle.edits.specs.Lawful.{IsLawful, AreSettings, ArePutReadings, IsStationZone}
+use Rattle.edits.specs.Lawful.{IsLawful, AreSettings, ArePutReadings, IsPutCurve, IsSetNumber, IsStationZone}
 use Rattle.edits.specs.Texts.{IsName}
 use Rattle.edits.specs.declared.content.What.{What}
-use Rattle.edits.specs.declared.content.What.TheVariants.{AddStation, SetStation, PutReadings}
+use Rattle.edits.specs.declared.content.What.TheVariants.{AddStation, SetStation, PutReadings, PutCorrection, DropCorrection, PutShift, DropShift}
+use Rattle.fixed_units.specs.Quantities.{IsStamp}
 use Rattle.fixed_units.specs.declared.readings.Reading.{Reading}
 
 abbrev zone_of : (text : List ℕ) → IsName text → IsZone text → IsStationZone text
@@ -26,8 +27,24 @@ settings_prop name gap stages discharges = Prim.hlevel props
 readings_prop : (readings : List Reading) → IsProp (ArePutReadings readings)
 readings_prop readings = Prim.hlevel props
 
+put_correction_prop : (set : ℕ) (at : ℤ) (curve : List (ℤ × ℤ)) → IsProp (IsSetNumber set × IsStamp at × IsPutCurve curve)
+put_correction_prop set at curve = Prim.hlevel props
+
+drop_correction_prop : (set : ℕ) (at : ℤ) → IsProp (IsSetNumber set × IsStamp at)
+drop_correction_prop set at = Prim.hlevel props
+
+put_shift_prop : (at : ℤ) (curve : List (ℤ × ℤ)) → IsProp (IsStamp at × IsPutCurve curve)
+put_shift_prop at curve = Prim.hlevel props
+
+stamp_prop : (at : ℤ) → IsProp (IsStamp at)
+stamp_prop at = Prim.hlevel props
+
 pub IsLawful-prop : (what : What) → IsProp (IsLawful what)
 IsLawful-prop (AddStation name zone gap stages discharges) a b =
     ap (λ (x : AreSettings name gap stages discharges). (x, a.1)) (settings_prop name gap stages discharges a.0 b.0) ∙ ap (λ (x : IsStationZone zone). (b.0, x)) (IsStationZone-prop zone a.1 b.1)
 IsLawful-prop (SetStation name gap stages discharges) a b = settings_prop name gap stages discharges a b
 IsLawful-prop (PutReadings readings) a b = readings_prop readings a b
+IsLawful-prop (PutCorrection set at curve prorate) a b = put_correction_prop set at curve a b
+IsLawful-prop (DropCorrection set at) a b = drop_correction_prop set at a b
+IsLawful-prop (PutShift at curve prorate) a b = put_shift_prop at curve a b
+IsLawful-prop (DropShift at) a b = stamp_prop at a b

@@ -5,7 +5,8 @@ ghost use Rattle.edits.specs.Single.{IsLawful-prop};
 
 use crate::names::Name;
 use crate::senders::{By, Ref};
-use fixed_units::{RoundingArray, Site};
+use curves::Curve;
+use fixed_units::{RoundingArray, Second, Site};
 use readings::ReadingList;
 
 /// What an edit changes.
@@ -39,6 +40,38 @@ pub enum What {
     PutReadings {
         /// The readings, rising by instant: one usable stage at a stamp.
         readings: ReadingList,
+    },
+    /// Puts an entry of a correction set in place of the one at its instant.
+    PutCorrection {
+        /// The number of the set, 1 to 3.
+        set: u8,
+        /// The instant from which the entry governs: a stamp.
+        at: Second,
+        /// The correction for each raw stage: amounts of at most 1,000 feet either way.
+        curve: Curve,
+        /// Whether the correction goes over to that of the next entry in a straight line.
+        prorate: bool,
+    },
+    /// Takes the entry at an instant out of a correction set.
+    DropCorrection {
+        /// The number of the set, 1 to 3.
+        set: u8,
+        /// The instant of the entry: a stamp.
+        at: Second,
+    },
+    /// Puts an entry of the shifts in place of the one at its instant.
+    PutShift {
+        /// The instant from which the entry governs: a stamp.
+        at: Second,
+        /// The shift for each stage: amounts of at most 1,000 feet either way.
+        curve: Curve,
+        /// Whether the shift goes over to that of the next entry in a straight line.
+        prorate: bool,
+    },
+    /// Takes the entry at an instant out of the shifts.
+    DropShift {
+        /// The instant of the entry: a stamp.
+        at: Second,
     },
 }
 

@@ -1,16 +1,19 @@
 //! Whether two edits are the same: by their values, however they were spelled.
 
 ghost use Rattle.std.specs.Prelude.{◌≡◌, ◌↔◌, true};
+ghost use Rattle.curves.specs.Equality.{same_entry};
 ghost use Rattle.edits.specs.Same.{are_sent_alike, is_same, is_same_what};
-ghost use Rattle.edits.specs.declared.content.What.TheVariants.{AddStation, SetStation, PutReadings};
+ghost use Rattle.edits.specs.declared.content.What.TheVariants.{AddStation, SetStation, PutReadings, PutCorrection, DropCorrection, PutShift, DropShift};
 
 use crate::content::{Edit, What};
 use crate::names::Name;
-use fixed_units::{Reading, RoundingArray};
+use curves::Entry;
+use fixed_units::{Reading, RoundingArray, Second};
 use readings::are_same;
 
 impl Edit {
-    /// Whether the edits are equal in every value: a zone by its text, and readings by instant, stage and flag.
+    /// Whether the edits are equal in every value: a zone by its text, readings by instant, stage and flag, and a curve by its
+    /// points.
     pub fn is_same(&self, other: &Edit) -> bool
         ensures same { result ≡ is_same self.now other.now }
         ensures equal { result ≡ true ↔ self.now ≡ other.now }
@@ -49,6 +52,29 @@ fn is_same_what(what: &What, other: &What) -> bool
             discharge_array,
         } => is_setting(other, name, *gap, *stage_array, *discharge_array),
         What::PutReadings { readings } => is_put(other, readings.as_slice()),
+        What::PutCorrection {
+            set,
+            at,
+            curve,
+            prorate,
+        } => {
+            let entry = Entry {
+                at: *at,
+                curve: *curve,
+                prorate: *prorate,
+            };
+            is_put_correction(other, *set, &entry)
+        }
+        What::DropCorrection { set, at } => is_dropped_correction(other, *set, *at),
+        What::PutShift { at, curve, prorate } => {
+            let entry = Entry {
+                at: *at,
+                curve: *curve,
+                prorate: *prorate,
+            };
+            is_put_shift(other, &entry)
+        }
+        What::DropShift { at } => is_dropped_shift(other, *at),
     }
 }
 
@@ -118,4 +144,84 @@ fn is_put(what: &What, readings: &[Reading]) -> bool
         What::PutReadings { readings: own } => are_same(readings, own.as_slice()),
         _ => false,
     }
+}
+
+/// Whether this puts the entry into the correction set of a number.
+fn is_put_correction(what: &What, set: u8, entry: &Entry) -> bool
+    ensures same { result ≡ is_same_what (PutCorrection set entry.now.at entry.now.curve entry.now.prorate) what.now }
+    ensures equal { result ≡ true ↔ what.now ≡ PutCorrection set entry.now.at entry.now.curve entry.now.prorate }
+{
+    match what {
+        What::PutCorrection {
+            set: own_set,
+            at: own_at,
+            curve: own_curve,
+            prorate: own_prorate,
+        } => {
+            let own = Entry {
+                at: *own_at,
+                curve: *own_curve,
+                prorate: *own_prorate,
+            };
+            set == *own_set && is_same_entry(entry, &own)
+        }
+        _ => false,
+    }
+}
+
+/// Whether this takes the entry at an instant out of the correction set of a number.
+fn is_dropped_correction(what: &What, set: u8, at: Second) -> bool
+    ensures same { result ≡ is_same_what (DropCorrection set at) what.now }
+    ensures equal { result ≡ true ↔ what.now ≡ DropCorrection set at }
+{
+    match what {
+        What::DropCorrection {
+            set: own_set,
+            at: own_at,
+        } => set == *own_set && at == *own_at,
+        _ => false,
+    }
+}
+
+/// Whether this puts the entry into the shifts.
+fn is_put_shift(what: &What, entry: &Entry) -> bool
+    ensures same { result ≡ is_same_what (PutShift entry.now.at entry.now.curve entry.now.prorate) what.now }
+    ensures equal { result ≡ true ↔ what.now ≡ PutShift entry.now.at entry.now.curve entry.now.prorate }
+{
+    match what {
+        What::PutShift {
+            at: own_at,
+            curve: own_curve,
+            prorate: own_prorate,
+        } => {
+            let own = Entry {
+                at: *own_at,
+                curve: *own_curve,
+                prorate: *own_prorate,
+            };
+            is_same_entry(entry, &own)
+        }
+        _ => false,
+    }
+}
+
+/// Whether this takes the entry at an instant out of the shifts.
+fn is_dropped_shift(what: &What, at: Second) -> bool
+    ensures same { result ≡ is_same_what (DropShift at) what.now }
+    ensures equal { result ≡ true ↔ what.now ≡ DropShift at }
+{
+    match what {
+        What::DropShift { at: own_at } => at == *own_at,
+        _ => false,
+    }
+}
+
+/// Whether two entries are equal: by the instant, the points of the curve and whether it prorates.
+fn is_same_entry(entry: &Entry, other: &Entry) -> bool
+    ensures same { result ≡ same_entry entry.now other.now }
+    ensures equal { result ≡ true ↔ entry.now ≡ other.now }
+{
+    entry.at == other.at
+        && entry.curve.points() == other.curve.points()
+        && entry.prorate == other.prorate
 }

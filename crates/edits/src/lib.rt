@@ -11,6 +11,8 @@ pub mod senders;
 
 pub use content::{Edit, What};
 pub use faults::EditFault;
-pub use making::{are_put_readings, are_settings, is_gap, is_zone};
+pub use making::{
+    are_put_readings, are_settings, is_gap, is_put_curve, is_put_point, is_set_number, is_zone,
+};
 pub use names::{Name, is_name};
 pub use senders::{By, Ref};

@@ -1,16 +1,19 @@
 //! How an edit is made: whether what it changes is lawful is tested here, and nowhere else.
 
-ghost use Rattle.std.specs.Prelude.{◌≡◌, ◌↔◌, true, IfOk, IfErr, OnErr, ◌≤◌, length, IsTrue};
+ghost use Rattle.std.specs.Prelude.{◌≡◌, ◌↔◌, true, IfOk, IfErr, OnErr, All};
 ghost use Rattle.civil_days.specs.Starts.{IsZone};
 ghost use Rattle.edits.specs.Faults.{AddsStation, IsEditFault};
-ghost use Rattle.edits.specs.Lawful.{IsLawful, AreSettings, ArePutReadings, IsGap, IsPutReading, IsStationZone};
+ghost use Rattle.edits.specs.Lawful.{IsLawful, AreSettings, ArePutReadings, IsGap, IsPutCurve, IsPutPoint, IsPutReading, IsSetNumber, IsStationZone};
 
 use crate::content::{Edit, What};
 use crate::faults::EditFault;
 use crate::names::is_name;
 use crate::senders::{By, Ref};
 use civil_days::{StationZone, ZoneFault};
-use fixed_units::{Flag, NoMemory, Reading, RoundingArray, Site, is_stage, is_stamp};
+use curves::Curve;
+use fixed_units::{
+    Flag, Micro, NoMemory, Reading, RoundingArray, Site, is_amount, is_stage, is_stamp,
+};
 use std::alloc::Global;
 
 impl Edit {
@@ -79,6 +82,12 @@ fn is_lawful(alloc: Global, what: &What) -> Result<bool, NoMemory>
             &discharge_array.digits(),
         )),
         What::PutReadings { readings } => Ok(are_put_readings(readings.as_slice())),
+        What::PutCorrection { set, at, curve, .. } => {
+            Ok(is_set_number(*set) && is_stamp(at.get()) && is_put_curve(curve))
+        }
+        What::DropCorrection { set, at } => Ok(is_set_number(*set) && is_stamp(at.get())),
+        What::PutShift { at, curve, .. } => Ok(is_stamp(at.get()) && is_put_curve(curve)),
+        What::DropShift { at } => Ok(is_stamp(at.get())),
     }
 }
 
@@ -134,4 +143,32 @@ fn is_put_reading(reading: &Reading) -> bool
     is_stamp(reading.at.get())
         && is_stage(reading.raw.get())
         && matches!(reading.flag, Flag::Usable)
+}
+
+/// Whether the number is that of a correction set: 1 to 3.
+pub fn is_set_number(set: u8) -> bool
+    ensures { result ≡ true ↔ IsSetNumber set }
+{
+    (1..=3).contains(&set)
+}
+
+/// Whether an edit may put this curve.
+pub fn is_put_curve(curve: &Curve) -> bool
+    ensures { result ≡ true ↔ IsPutCurve curve.now }
+{
+    are_put_points(curve.points())
+}
+
+/// Whether each of these is a point of a curve that an edit may put.
+fn are_put_points(points: &[(Micro, Micro)]) -> bool
+    ensures { result ≡ true ↔ All IsPutPoint points.now }
+{
+    points.iter().all(is_put_point)
+}
+
+/// Whether an edit may put a curve with this point: a stage and an amount in range.
+pub fn is_put_point(point: &(Micro, Micro)) -> bool
+    ensures { result ≡ true ↔ IsPutPoint point.now }
+{
+    is_stage(point.0.get()) && is_amount(point.1.get())
 }

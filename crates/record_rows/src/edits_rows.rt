@@ -1,8 +1,12 @@
 //! What makes an edit, and when two are the same.
 
-use crate::fixtures::{AB, Change, DISCHARGES, STAGES, Sent, edit, made, name, reading};
-use edits::{By, EditFault, Ref, are_put_readings, are_settings, is_gap, is_name, is_zone};
+use crate::fixtures::{AB, Change, DISCHARGES, STAGES, Sent, curve, edit, made, name, reading};
+use edits::{
+    By, EditFault, Ref, are_put_readings, are_settings, is_gap, is_name, is_put_curve,
+    is_put_point, is_set_number, is_zone,
+};
 use fixed_units::Flag::{Affected, Usable};
+use fixed_units::Micro;
 use std::alloc::Global;
 
 /// Texts, and whether each is one's initials, a reference and a name.
@@ -75,8 +79,59 @@ fn one_reading_is_put(rt: HostRuntime) {
     assert!(rt; told == [Some(false), Some(true), Some(false)]);
 }
 
+/// Numbers, and whether each is that of a correction set.
+const SETS: [(u8, bool); 4] = [(0, false), (1, true), (3, true), (4, false)];
+
+fn first_wrong_set() -> Option<u8> {
+    for (set, good) in &SETS {
+        if is_set_number(*set) != *good {
+            return Some(*set);
+        }
+    }
+    None
+}
+
+#[test]
+fn numbers_of_sets_are_tested(rt: HostRuntime) {
+    let wrong = first_wrong_set();
+    assert!(rt; wrong.is_none(), "{wrong:?}");
+}
+
+/// The stage and the amount of a point in millionths of a foot, and whether it may be put.
+const POINTS: [((i64, i64), bool); 8] = [
+    ((100_000_000_000, 0), true),
+    ((100_000_000_001, 0), false),
+    ((-100_000_000_000, 0), true),
+    ((-100_000_000_001, 0), false),
+    ((0, 1_000_000_000), true),
+    ((0, 1_000_000_001), false),
+    ((0, -1_000_000_000), true),
+    ((0, -1_000_000_001), false),
+];
+
+/// Whether a point may be put, and whether a curve of it alone may.
+fn may_be_put_alone(point: (i64, i64)) -> Option<[bool; 2]> {
+    let place = (Micro::new(point.0)?, Micro::new(point.1)?);
+    Some([is_put_point(&place), is_put_curve(&curve(&[point])?)])
+}
+
+fn first_wrong_point() -> Option<(i64, i64)> {
+    for (point, good) in &POINTS {
+        if may_be_put_alone(*point) != Some([*good; 2]) {
+            return Some(*point);
+        }
+    }
+    None
+}
+
+#[test]
+fn points_are_tested(rt: HostRuntime) {
+    let wrong = first_wrong_point();
+    assert!(rt; wrong.is_none(), "{wrong:?}");
+}
+
 /// What may not be changed, told by its place from 0 on.
-const UNLAWFUL: [Change; 7] = [
+const UNLAWFUL: [Change; 17] = [
     Change::Addition("-05:00", 721, STAGES),
     Change::Addition("-05:60", 720, STAGES),
     Change::Setting("A", 0, STAGES),
@@ -84,6 +139,16 @@ const UNLAWFUL: [Change; 7] = [
     Change::Put(0, 0, Affected),
     Change::Put(4_102_185_600, 0, Usable),
     Change::Put(0, 100_000_000_001, Usable),
+    Change::Correction(0, (0, &[(0, 0)], false)),
+    Change::Correction(4, (0, &[(0, 0)], false)),
+    Change::Correction(1, (4_102_185_600, &[(0, 0)], false)),
+    Change::Correction(1, (0, &[(0, 0), (1, 1_000_000_001)], false)),
+    Change::NoCorrection(0, 0),
+    Change::NoCorrection(4, 0),
+    Change::NoCorrection(1, 4_102_185_600),
+    Change::Shift((4_102_185_600, &[(0, 0)], false)),
+    Change::Shift((0, &[(0, 0), (1, 0), (2, -1_000_000_001)], false)),
+    Change::NoShift(4_102_185_600),
 ];
 
 fn fault(alloc: Global, change: Change) -> Option<EditFault> {
@@ -108,7 +173,7 @@ fn what_is_not_lawful_makes_no_edit(rt: HostRuntime) {
 const SET: Change = Change::Setting("A", 1, STAGES);
 
 /// Edits of which no two are the same, told by their places from 0 on.
-const EDITS: [&Sent; 13] = [
+const EDITS: [&Sent; 28] = [
     &(AB, "a1", Change::Addition("+00:00", 720, STAGES)),
     &(AB, "a1", Change::Addition("-00:00", 720, STAGES)),
     &(AB, "a1", Change::Addition("+00:00", 719, STAGES)),
@@ -118,6 +183,25 @@ const EDITS: [&Sent; 13] = [
     &(AB, "a1", Change::Put(0, 0, Usable)),
     &(AB, "a1", Change::Put(1, 0, Usable)),
     &(AB, "a1", Change::Put(0, 1, Usable)),
+    &(AB, "a1", Change::Correction(1, (0, &[(0, 0)], false))),
+    &(AB, "a1", Change::Correction(2, (0, &[(0, 0)], false))),
+    &(AB, "a1", Change::Correction(1, (1, &[(0, 0)], false))),
+    &(AB, "a1", Change::Correction(1, (0, &[(1, 0)], false))),
+    &(AB, "a1", Change::Correction(1, (0, &[(0, 1)], false))),
+    &(AB, "a1", Change::Correction(1, (0, &[(0, 0)], true))),
+    &(
+        AB,
+        "a1",
+        Change::Correction(1, (0, &[(0, 0), (1, 0)], false)),
+    ),
+    &(AB, "a1", Change::NoCorrection(1, 0)),
+    &(AB, "a1", Change::NoCorrection(2, 0)),
+    &(AB, "a1", Change::NoCorrection(1, 1)),
+    &(AB, "a1", Change::Shift((0, &[(0, 0)], false))),
+    &(AB, "a1", Change::Shift((1, &[(0, 0)], false))),
+    &(AB, "a1", Change::Shift((0, &[(0, 0)], true))),
+    &(AB, "a1", Change::NoShift(0)),
+    &(AB, "a1", Change::NoShift(1)),
     &(AB, "a1", SET),
     &(AB, "a2", SET),
     &(("AC", 8, 1_646_500), "a1", SET),

@@ -1,5 +1,6 @@
 //! Edits of the rows as plain values, and the edits for which these stand.
 
+use curves::Curve;
 use edits::{By, Edit, EditFault, Name, Ref, What};
 use fixed_units::{Flag, Micro, Reading, RoundingArray, Second, Site, Text};
 use readings::ReadingList;
@@ -22,7 +23,18 @@ pub enum Change {
     Put(i64, i64, Flag),
     /// Puts no reading.
     Nothing,
+    /// Puts an entry into the correction set of a number.
+    Correction(u8, Put),
+    /// Takes the entry at a second out of the correction set of a number.
+    NoCorrection(u8, i64),
+    /// Puts an entry into the shifts.
+    Shift(Put),
+    /// Takes the entry at a second out of the shifts.
+    NoShift(i64),
 }
+
+/// An entry: its second, the stages and the amounts of its points in millionths of a foot, and whether it prorates.
+pub type Put = (i64, &'static [(i64, i64)], bool);
 
 /// Whose edit it is: initials, and the digits and the number of the site.
 pub type Sender = (&'static str, u8, u64);
@@ -73,6 +85,32 @@ fn put(alloc: Global, readings: &[Reading]) -> Option<What> {
     })
 }
 
+/// A curve of one to three points in millionths of a foot.
+pub fn curve(points: &[(i64, i64)]) -> Option<Curve> {
+    let mut places = [(Micro::new(0)?, Micro::new(0)?); 3];
+    for (place, (stage, amount)) in places.iter_mut().zip(points) {
+        *place = (Micro::new(*stage)?, Micro::new(*amount)?);
+    }
+    Curve::new(places.get(..points.len())?).ok()
+}
+
+fn correction(set: u8, put: Put) -> Option<What> {
+    Some(What::PutCorrection {
+        set,
+        at: Second::new(put.0)?,
+        curve: curve(put.1)?,
+        prorate: put.2,
+    })
+}
+
+fn shift(put: Put) -> Option<What> {
+    Some(What::PutShift {
+        at: Second::new(put.0)?,
+        curve: curve(put.1)?,
+        prorate: put.2,
+    })
+}
+
 fn what(alloc: Global, change: Change) -> Option<What> {
     match change {
         Change::Addition(zone, gap, array) => {
@@ -83,6 +121,15 @@ fn what(alloc: Global, change: Change) -> Option<What> {
         }
         Change::Put(at, millionths, flag) => put(alloc, &[reading(at, millionths, flag)?]),
         Change::Nothing => put(alloc, &[]),
+        Change::Correction(set, entry) => correction(set, entry),
+        Change::NoCorrection(set, at) => Some(What::DropCorrection {
+            set,
+            at: Second::new(at)?,
+        }),
+        Change::Shift(entry) => shift(entry),
+        Change::NoShift(at) => Some(What::DropShift {
+            at: Second::new(at)?,
+        }),
     }
 }
 

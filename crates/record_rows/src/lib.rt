@@ -4,6 +4,8 @@
 #[cfg(test)]
 mod edits_rows;
 #[cfg(test)]
+mod entry_fields;
+#[cfg(test)]
 mod fixtures;
 #[cfg(test)]
 mod payloads;

@@ -22,8 +22,24 @@ const PUT: &[u8] =
 const LONGEST: &[u8] =
     b"\x51\0\0\0\x03\x08abcdefgh\x280123456789012345678901234567890123456-A9\x0f\xff\x7f\xc6\xa4\x7e\x8d\x03\0\x01\0\0\0\xff\xff\xff\xff\xff\xff\xff\xff\x78\xec\xff\xff\xff\xff\xff\xff\0";
 
+/// From 2024-01-05T05:00:00Z on the first correction set has 0.05 feet at 1.00 feet and -0.02 feet at 2.00 feet, and prorates.
+const CORRECTION: &[u8] =
+    b"\x3b\0\0\0\x06\x02AB\x02c1\x08\xa4\x1f\x19\0\0\0\0\0\x01\xd0\x8c\x97\x65\0\0\0\0\x02\x40\x42\x0f\0\0\0\0\0\x50\xc3\0\0\0\0\0\0\x80\x84\x1e\0\0\0\0\0\xe0\xb1\xff\xff\xff\xff\xff\xff\x01";
+
+/// The third correction set loses the entry of a second later.
+const NO_CORRECTION: &[u8] =
+    b"\x19\0\0\0\x07\x02AB\x02c2\x08\xa4\x1f\x19\0\0\0\0\0\x03\xd1\x8c\x97\x65\0\0\0\0";
+
+/// From a second before 1970 on the shifts are 1,000 feet at the highest stage, -1,000 feet at the lowest, and 0 between.
+const SHIFT: &[u8] =
+    b"\x4a\0\0\0\x08\x02AB\x02s1\x08\xa4\x1f\x19\0\0\0\0\0\xff\xff\xff\xff\xff\xff\xff\xff\x03\0\x18\x89\xb7\xe8\xff\xff\xff\0\x36\x65\xc4\xff\xff\xff\xff\0\0\0\0\0\0\0\0\0\0\0\0\0\0\0\0\0\xe8\x76\x48\x17\0\0\0\0\xca\x9a\x3b\0\0\0\0\0";
+
+/// The shifts lose the entry of the first stamp.
+const NO_SHIFT: &[u8] =
+    b"\x18\0\0\0\x09\x02AB\x02s2\x08\xa4\x1f\x19\0\0\0\0\0\x80\x24\x58\x7c\xff\xff\xff\xff";
+
 /// Edits, and the bytes of their records.
-const RECORDS: [(&Sent, &[u8]); 4] = [
+const RECORDS: [(&Sent, &[u8]); 8] = [
     (
         &(AB, "a1", Change::Addition("-05:00", 720, STAGES)),
         ADDITION,
@@ -41,6 +57,42 @@ const RECORDS: [(&Sent, &[u8]); 4] = [
         ),
         LONGEST,
     ),
+    (
+        &(
+            AB,
+            "c1",
+            Change::Correction(
+                1,
+                (
+                    1_704_430_800,
+                    &[(1_000_000, 50_000), (2_000_000, -20_000)],
+                    true,
+                ),
+            ),
+        ),
+        CORRECTION,
+    ),
+    (
+        &(AB, "c2", Change::NoCorrection(3, 1_704_430_801)),
+        NO_CORRECTION,
+    ),
+    (
+        &(
+            AB,
+            "s1",
+            Change::Shift((
+                -1,
+                &[
+                    (-100_000_000_000, -1_000_000_000),
+                    (0, 0),
+                    (100_000_000_000, 1_000_000_000),
+                ],
+                false,
+            )),
+        ),
+        SHIFT,
+    ),
+    (&(AB, "s2", Change::NoShift(-2_208_816_000)), NO_SHIFT),
 ];
 
 /// The payload of a record: its bytes but for the four of the length.

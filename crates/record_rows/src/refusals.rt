@@ -1,22 +1,23 @@
 //! Payloads that are no record's, each by one part, and the nearest that are.
 
+use crate::entry_fields::{DROPPED_FROM, ENTRIES, INSTANTS, PUT_INTO};
 use records::{DecodeFault, decode};
 use std::alloc::Global;
 
-/// The parts of a payload, one behind another, and whether it is refused.
-type Row = (&'static [&'static [u8]], bool);
+/// The parts of a payload, or of the end of one, one behind another, and whether the payload is refused.
+pub type Row = (&'static [&'static [u8]], bool);
 
-fn joined(alloc: Global, parts: &[&[u8]]) -> Option<Vec<u8>> {
+fn joined(alloc: Global, front: &[&[u8]], parts: &[&[u8]]) -> Option<Vec<u8>> {
     let mut payload = Vec::new(alloc);
-    for part in parts {
+    for part in front.iter().chain(parts) {
         payload.extend_from_slice(part).ok()?;
     }
     Some(payload)
 }
 
-/// Whether the payload of these parts is refused; `None` where memory is short.
-fn is_refused(alloc: Global, parts: &[&[u8]]) -> Option<bool> {
-    match decode(alloc, &joined(alloc, parts)?) {
+/// Whether the payload of these parts behind a front is refused; `None` where memory is short.
+fn is_refused(alloc: Global, front: &[&[u8]], parts: &[&[u8]]) -> Option<bool> {
+    match decode(alloc, &joined(alloc, front, parts)?) {
         Ok(_) => Some(false),
         Err(DecodeFault::NotARecord) => Some(true),
         Err(DecodeFault::NoMemory) => None,
@@ -24,9 +25,9 @@ fn is_refused(alloc: Global, parts: &[&[u8]]) -> Option<bool> {
 }
 
 /// The number from 0 on of the first row that is refused where it is to be read, or read where it is to be refused.
-fn first_wrong(alloc: Global, rows: &[Row]) -> Option<usize> {
+fn first_wrong(alloc: Global, front: &[&[u8]], rows: &[Row]) -> Option<usize> {
     for (row, (parts, refused)) in rows.iter().enumerate() {
-        if is_refused(alloc, parts) != Some(*refused) {
+        if is_refused(alloc, front, parts) != Some(*refused) {
             return Some(row);
         }
     }
@@ -248,26 +249,39 @@ const READINGS: [Row; 9] = [
 ];
 
 /// Payloads with a byte behind the last field, and of kinds that there are not.
-const OTHERS: [Row; 5] = [
+const OTHERS: [Row; 7] = [
     (&[ADD, BY, REF, SITE, NAME, ZONE, GAP, ARRAYS, b"\0"], true),
     (&[SET, BY, REF, SITE, NAME, GAP, ARRAYS, b"\0"], true),
     (&[PUT, BY, REF, SITE, READING, b"\0"], true),
     (&[b"\0", BY, REF, SITE, READING], true),
     (&[b"\x04", BY, REF, SITE, READING], true),
+    (&[b"\x05", BY, REF, SITE, READING], true),
+    (&[b"\x0a", BY, REF, SITE, READING], true),
 ];
 
-const TABLES: [(&str, &[Row]); 5] = [
-    ("senders", &SENDERS),
-    ("stations", &STATIONS),
-    ("zones", &ZONES),
-    ("readings", &READINGS),
-    ("others", &OTHERS),
+/// Each table with the front of its payloads.
+const TABLES: [(&str, &[&[u8]], &[Row]); 11] = [
+    ("senders", &[], &SENDERS),
+    ("stations", &[], &STATIONS),
+    ("zones", &[], &ZONES),
+    ("readings", &[], &READINGS),
+    ("others", &[], &OTHERS),
+    ("corrections", &[b"\x06", BY, REF, SITE, b"\x01"], &ENTRIES),
+    ("shifts", &[b"\x08", BY, REF, SITE], &ENTRIES),
+    (
+        "dropped corrections",
+        &[b"\x07", BY, REF, SITE, b"\x03"],
+        &INSTANTS,
+    ),
+    ("dropped shifts", &[b"\x09", BY, REF, SITE], &INSTANTS),
+    ("sets", &[b"\x06", BY, REF, SITE], &PUT_INTO),
+    ("sets of drops", &[b"\x07", BY, REF, SITE], &DROPPED_FROM),
 ];
 
 /// The first table with such a row, and the number of the row.
 fn first_wrong_of_all(alloc: Global) -> Option<(&'static str, usize)> {
-    for (table, rows) in &TABLES {
-        if let Some(row) = first_wrong(alloc, rows) {
+    for (table, front, rows) in &TABLES {
+        if let Some(row) = first_wrong(alloc, front, rows) {
             return Some((table, row));
         }
     }

@@ -1,16 +1,18 @@
 -- The fields of each kind of edit and their bytes, both ways.
-use Rattle.std.proofs.Common.{◌≡◌, ℕ, ◌^◌, ◌<◌, Bool, true, false, cond, eqb, List, ◌++◌, length, Option, Some, None, refl, sym, ap, subst, ◌∙◌, arith, append_assoc, inl, inr}
-use Rattle.std.specs.Prelude.{ℤ, ◌⊎◌}
-use Rattle.std.specs.Int.{w32, to_le_bytes}
+use Rattle.std.proofs.Common.{◌≡◌, ℕ, ◌^◌, ◌<◌, cond, eqb, List, [], ◌∷◌, ◌++◌, length, Option, Some, None, refl, sym, ap, subst, ◌∙◌, arith, append_assoc, inl, inr, FitsSigned}
+use Rattle.std.specs.Prelude.{ℤ}
+use Rattle.std.specs.Int.{w32, w64, to_le_bytes}
 use Rattle.std.proofs.lemmas.Bool.{eqb-true}
+use Rattle.std.proofs.lemmas.Int.{ints}
 use Rattle.edits.specs.Lawful.{IsLawful, ArePutReadings}
 use Rattle.edits.specs.declared.content.What.{What}
-use Rattle.edits.specs.declared.content.What.TheVariants.{AddStation, SetStation, PutReadings}
-use Rattle.fixed_units.specs.Quantities.{SiteNumber}
+use Rattle.edits.specs.declared.content.What.TheVariants.{AddStation, SetStation, PutReadings, PutCorrection, DropCorrection, PutShift, DropShift}
+use Rattle.fixed_units.specs.Quantities.{IsStamp, SiteNumber}
 use Rattle.fixed_units.specs.declared.readings.Reading.{Reading}
-use Rattle.records.specs.Payloads.{short_text, site_number, kind, fields}
-use Rattle.records.specs.Reading.{both_at, number_at, front_at, short_text_at, site_number_at, sender_at, arrays_at, addition, addition_at, setting, setting_at, put_one, put_at, reading_at, fields_at}
-use Rattle.records.proofs.Fields.{IsBytes, Takes, Reads, IsAny, both_reads, made_takes, made_again, number_reads, wide32, front_reads, short_reads, site_reads}
+use Rattle.records.specs.Payloads.{short_text, signed_number, site_number, kind, fields}
+use Rattle.records.specs.Reading.{both_at, byte_at, number_at, front_at, short_text_at, signed_number_at, site_number_at, sender_at, arrays_at, addition, addition_at, setting, setting_at, put_one, put_at, reading_at, entry_at, correction, correction_at, dropped_correction, dropped_correction_at, shift, shift_at, dropped_shift, dropped_shift_at, fields_at}
+use Rattle.records.proofs.Fields.{IsBytes, Takes, Reads, IsAny, both_reads, made_takes, made_again, byte_reads, number_reads, signed_reads, wide32, front_reads, short_reads, site_reads}
+use Rattle.records.proofs.CurveLemmas.{which, Parts, entry_parts, FitsEntry, entry_reads, entry_spelling, put_fits}
 use Rattle.records.proofs.PutLemmas.{one_reading, FitsReading, reading_reads, one_is, one_fits, one_spelling}
 
 -- ---- who makes an edit
@@ -93,6 +95,41 @@ four_grouped a b c d e = simp append_assoc
 addition_spelling : (f : Addition) → fields (addition f) ≡ addition_bytes f
 addition_spelling f = four_grouped (short_text f.0) (short_text f.1.0) (to_le_bytes w32 f.1.1.0) f.1.1.1.0 f.1.1.1.1
 
+-- ---- an entry that is put into a correction set, and one that is dropped
+
+abbrev Correction : Type 0
+Correction = ℕ × Parts
+
+abbrev correction_parts : List ℕ → Option (Correction × List ℕ)
+correction_parts bytes = both_at byte_at entry_at bytes
+
+abbrev correction_bytes : Correction → List ℕ
+correction_bytes f = f.0 ∷ entry_parts f.1
+
+abbrev FitsCorrection : Correction → Type 0
+FitsCorrection f = IsAny f.0 × FitsEntry f.1
+
+correction_reads : Reads Correction correction_parts correction_bytes FitsCorrection
+correction_reads = both_reads ℕ Parts byte_at (λ b. b ∷ []) IsAny entry_at entry_parts FitsEntry byte_reads entry_reads
+
+correction_spelling : (f : Correction) → fields (correction f) ≡ correction_bytes f
+correction_spelling f = ap (λ (t : List ℕ). f.0 ∷ t) (entry_spelling f.1)
+
+abbrev Dropped : Type 0
+Dropped = ℕ × ℤ
+
+abbrev dropped_parts : List ℕ → Option (Dropped × List ℕ)
+dropped_parts bytes = both_at byte_at signed_number_at bytes
+
+abbrev dropped_bytes : Dropped → List ℕ
+dropped_bytes f = f.0 ∷ signed_number f.1
+
+abbrev FitsDropped : Dropped → Type 0
+FitsDropped f = IsAny f.0 × FitsSigned w64 f.1
+
+dropped_reads : Reads Dropped dropped_parts dropped_bytes FitsDropped
+dropped_reads = both_reads ℕ ℤ byte_at (λ b. b ∷ []) IsAny signed_number_at signed_number (FitsSigned w64) byte_reads signed_reads
+
 -- ---- each kind is read
 
 -- what a reader of one kind took
@@ -121,27 +158,53 @@ put_takes bytes what rest fits e =
     let m = made_takes (ℤ × ℤ) What put_one reading_at one_reading FitsReading reading_reads bytes what rest fits e in
     took 3 bytes (one_reading m.0) rest (put_one m.0) what m.1 (one_spelling m.0.0 m.0.1) refl m.2
 
--- which way a test went
-which : {A : Type 0} (b : Bool) (x y z : A) → cond b x y ≡ z → ((b ≡ true) × (x ≡ z)) ⊎ ((b ≡ false) × (y ≡ z))
-which true x y z e = inl (refl, e)
-which false x y z e = inr (refl, e)
+correction_takes : (bytes : List ℕ) (what : What) (rest : List ℕ) → IsBytes bytes → correction_at bytes ≡ Some (what, rest) → TakesKind 6 bytes what rest
+unfolding correction_at
+correction_takes bytes what rest fits e =
+    let m = made_takes Correction What correction correction_parts correction_bytes FitsCorrection correction_reads bytes what rest fits e in
+    took 6 bytes (correction_bytes m.0) rest (correction m.0) what m.1 (correction_spelling m.0) refl m.2
+
+dropped_correction_takes : (bytes : List ℕ) (what : What) (rest : List ℕ) → IsBytes bytes → dropped_correction_at bytes ≡ Some (what, rest) → TakesKind 7 bytes what rest
+unfolding dropped_correction_at
+dropped_correction_takes bytes what rest fits e =
+    let m = made_takes Dropped What dropped_correction dropped_parts dropped_bytes FitsDropped dropped_reads bytes what rest fits e in
+    took 7 bytes (dropped_bytes m.0) rest (dropped_correction m.0) what m.1 refl refl m.2
+
+shift_takes : (bytes : List ℕ) (what : What) (rest : List ℕ) → IsBytes bytes → shift_at bytes ≡ Some (what, rest) → TakesKind 8 bytes what rest
+unfolding shift_at
+shift_takes bytes what rest fits e =
+    let m = made_takes Parts What shift entry_at entry_parts FitsEntry entry_reads bytes what rest fits e in
+    took 8 bytes (entry_parts m.0) rest (shift m.0) what m.1 (entry_spelling m.0) refl m.2
+
+dropped_shift_takes : (bytes : List ℕ) (what : What) (rest : List ℕ) → IsBytes bytes → dropped_shift_at bytes ≡ Some (what, rest) → TakesKind 9 bytes what rest
+unfolding dropped_shift_at
+dropped_shift_takes bytes what rest fits e =
+    let m = made_takes ℤ What dropped_shift signed_number_at signed_number (FitsSigned w64) signed_reads bytes what rest fits e in
+    took 9 bytes (signed_number m.0) rest (dropped_shift m.0) what m.1 refl refl m.2
 
 along : (m n : ℕ) (bytes : List ℕ) (what : What) (rest : List ℕ) → m ≡ n → TakesKind n bytes what rest → TakesKind m bytes what rest
 along m n bytes what rest e t = subst (λ (k : ℕ). TakesKind k bytes what rest) (sym e) t
 
+-- the reader of a kind took it, or one of those behind did
+picked : (number n : ℕ) (bytes : List ℕ) (what : What) (rest : List ℕ) (first others : Option (What × List ℕ)) → (first ≡ Some (what, rest) → TakesKind n bytes what rest)
+    → (others ≡ Some (what, rest) → TakesKind number bytes what rest) → cond (eqb number n) first others ≡ Some (what, rest) → TakesKind number bytes what rest
+picked number n bytes what rest first others here behind e =
+    elim (which (eqb number n) first others _ e) [
+      | inl h ↦ along number n bytes what rest (eqb-true _ _ h.0) (here h.1)
+      | inr h ↦ behind h.1
+    ]
+
 pub fields_take : (number : ℕ) (bytes : List ℕ) (what : What) (rest : List ℕ) → IsBytes bytes → fields_at number bytes ≡ Some (what, rest) → Takes bytes (fields what) rest × (number ≡ kind what)
 unfolding fields_at
 fields_take number bytes what rest fits e =
-    elim (which (eqb number 1) (addition_at bytes) _ _ e) [
-      | inl h ↦ along number 1 bytes what rest (eqb-true _ _ h.0) (addition_takes bytes what rest fits h.1)
-      | inr h ↦ elim (which (eqb number 2) (setting_at bytes) _ _ h.1) [
-        | inl i ↦ along number 2 bytes what rest (eqb-true _ _ i.0) (setting_takes bytes what rest fits i.1)
-        | inr i ↦ elim (which (eqb number 3) (put_at bytes) None _ i.1) [
-          | inl j ↦ along number 3 bytes what rest (eqb-true _ _ j.0) (put_takes bytes what rest fits j.1)
-          | inr j ↦ absurd (let no : None ≡ Some (what, rest) = j.1 in cc)
-        ]
-      ]
-    ]
+    picked number 1 bytes what rest _ _ (addition_takes bytes what rest fits)
+    (picked number 2 bytes what rest _ _ (setting_takes bytes what rest fits)
+    (picked number 3 bytes what rest _ _ (put_takes bytes what rest fits)
+    (picked number 6 bytes what rest _ _ (correction_takes bytes what rest fits)
+    (picked number 7 bytes what rest _ _ (dropped_correction_takes bytes what rest fits)
+    (picked number 8 bytes what rest _ _ (shift_takes bytes what rest fits)
+    (picked number 9 bytes what rest _ _ (dropped_shift_takes bytes what rest fits)
+    (λ no. absurd (let none : None ≡ Some (what, rest) = no in cc)))))))) e
 
 addition_again : (f : Addition) (rest : List ℕ) → FitsAddition f → addition_at (addition_bytes f ++ rest) ≡ Some (addition f, rest)
 unfolding addition_at
@@ -157,6 +220,25 @@ put_again : (p : ℤ × ℤ) (rest : List ℕ) → FitsReading p → put_at (one
 unfolding put_at
 put_again p rest fits = made_again (ℤ × ℤ) What put_one reading_at one_reading FitsReading reading_reads p rest fits
 
+correction_again : (f : Correction) (rest : List ℕ) → FitsCorrection f → correction_at (correction_bytes f ++ rest) ≡ Some (correction f, rest)
+unfolding correction_at
+correction_again f rest fits =
+    made_again Correction What correction correction_parts correction_bytes FitsCorrection correction_reads f rest fits
+
+dropped_correction_again : (f : Dropped) (rest : List ℕ) → FitsDropped f → dropped_correction_at (dropped_bytes f ++ rest) ≡ Some (dropped_correction f, rest)
+unfolding dropped_correction_at
+dropped_correction_again f rest fits =
+    made_again Dropped What dropped_correction dropped_parts dropped_bytes FitsDropped dropped_reads f rest fits
+
+shift_again : (f : Parts) (rest : List ℕ) → FitsEntry f → shift_at (entry_parts f ++ rest) ≡ Some (shift f, rest)
+unfolding shift_at
+shift_again f rest fits = made_again Parts What shift entry_at entry_parts FitsEntry entry_reads f rest fits
+
+dropped_shift_again : (at : ℤ) (rest : List ℕ) → FitsSigned w64 at → dropped_shift_at (signed_number at ++ rest) ≡ Some (dropped_shift at, rest)
+unfolding dropped_shift_at
+dropped_shift_again at rest fits =
+    made_again ℤ What dropped_shift signed_number_at signed_number (FitsSigned w64) signed_reads at rest fits
+
 first_kind : (bytes : List ℕ) → fields_at 1 bytes ≡ addition_at bytes
 unfolding fields_at
 first_kind bytes = refl
@@ -168,6 +250,22 @@ second_kind bytes = refl
 third_kind : (bytes : List ℕ) → fields_at 3 bytes ≡ put_at bytes
 unfolding fields_at
 third_kind bytes = refl
+
+sixth_kind : (bytes : List ℕ) → fields_at 6 bytes ≡ correction_at bytes
+unfolding fields_at
+sixth_kind bytes = refl
+
+seventh_kind : (bytes : List ℕ) → fields_at 7 bytes ≡ dropped_correction_at bytes
+unfolding fields_at
+seventh_kind bytes = refl
+
+eighth_kind : (bytes : List ℕ) → fields_at 8 bytes ≡ shift_at bytes
+unfolding fields_at
+eighth_kind bytes = refl
+
+ninth_kind : (bytes : List ℕ) → fields_at 9 bytes ≡ dropped_shift_at bytes
+unfolding fields_at
+ninth_kind bytes = refl
 
 addition_back : (f : Addition) (rest : List ℕ) → FitsAddition f → fields_at 1 (fields (addition f) ++ rest) ≡ Some (addition f, rest)
 addition_back f rest fits =
@@ -181,6 +279,23 @@ put_back : (p : ℤ × ℤ) (rest : List ℕ) → FitsReading p → fields_at 3 
 put_back p rest fits =
     third_kind (fields (put_one p) ++ rest) ∙ ap (λ (t : List ℕ). put_at (t ++ rest)) (one_spelling p.0 p.1) ∙ put_again p rest fits
 
+correction_back : (f : Correction) (rest : List ℕ) → FitsCorrection f → fields_at 6 (fields (correction f) ++ rest) ≡ Some (correction f, rest)
+correction_back f rest fits =
+    sixth_kind (fields (correction f) ++ rest) ∙ ap (λ (t : List ℕ). correction_at (t ++ rest)) (correction_spelling f) ∙ correction_again f rest fits
+
+dropped_correction_back : (f : Dropped) (rest : List ℕ) → FitsDropped f → fields_at 7 (fields (dropped_correction f) ++ rest) ≡ Some (dropped_correction f, rest)
+dropped_correction_back f rest fits = seventh_kind (dropped_bytes f ++ rest) ∙ dropped_correction_again f rest fits
+
+shift_back : (f : Parts) (rest : List ℕ) → FitsEntry f → fields_at 8 (fields (shift f) ++ rest) ≡ Some (shift f, rest)
+shift_back f rest fits =
+    eighth_kind (fields (shift f) ++ rest) ∙ ap (λ (t : List ℕ). shift_at (t ++ rest)) (entry_spelling f) ∙ shift_again f rest fits
+
+dropped_shift_back : (at : ℤ) (rest : List ℕ) → FitsSigned w64 at → fields_at 9 (fields (dropped_shift at) ++ rest) ≡ Some (dropped_shift at, rest)
+dropped_shift_back at rest fits = ninth_kind (signed_number at ++ rest) ∙ dropped_shift_again at rest fits
+
+stamp_fits : (at : ℤ) → IsStamp at → FitsSigned w64 at
+stamp_fits at stamp = omega (arith, ints)
+
 pub fields_again : (what : What) (rest : List ℕ) → IsLawful what → fields_at (kind what) (fields what ++ rest) ≡ Some (what, rest)
 fields_again (AddStation name zone gap stages discharges) rest law =
     let set = law.0 in
@@ -191,3 +306,9 @@ fields_again (PutReadings readings) rest are =
     let one = one_is readings are in
     let fits : FitsReading one.0 = one_fits one.0 (subst ArePutReadings one.1 are) in
     subst (λ (rs : List Reading). fields_at 3 (fields (PutReadings rs) ++ rest) ≡ Some (PutReadings rs, rest)) (sym one.1) (put_back one.0 rest fits)
+fields_again (PutCorrection set at curve prorate) rest law =
+    correction_back (set, (at, (curve, prorate))) rest (tt, (stamp_fits at law.1, (put_fits curve law.2, tt)))
+fields_again (DropCorrection set at) rest law = dropped_correction_back (set, at) rest (tt, stamp_fits at law.1)
+fields_again (PutShift at curve prorate) rest law =
+    shift_back (at, (curve, prorate)) rest (stamp_fits at law.0, (put_fits curve law.1, tt))
+fields_again (DropShift at) rest law = dropped_shift_back at rest (stamp_fits at law)

@@ -1,6 +1,6 @@
 -- The laws of the spelling: lengths, bytes, and that no record begins another.
 use Rattle.std.proofs.Common.{◌≡◌, ℕ, ◌^◌, ◌<◌, ◌≤◌, ◌%◌, ◌/◌, List, true, ◌||◌, get_or, [], ◌∷◌, ◌++◌, length, take, drop, Option, Some, refl, sym, ap, subst, ◌∙◌, length-append, arith, w64}
-use Rattle.std.specs.Prelude.{All, ◌==◌, flat_map}
+use Rattle.std.specs.Prelude.{ℤ, Bool, false, All, ◌==◌, flat_map}
 use Rattle.std.specs.Int.{w32, to_le_bytes, cast_unsigned}
 use Rattle.std.specs.List.{list_all}
 use Rattle.std.specs.Char.{is_ascii_digit}
@@ -12,16 +12,17 @@ use Rattle.std.proofs.lemmas.List.Elements.{All-nil, All-cons, All-append}
 use Rattle.edits.specs.Lawful.{IsLawful}
 use Rattle.edits.specs.Texts.{is_letter, is_digit, is_printed, AreInitials, IsReference, IsName}
 use Rattle.edits.specs.declared.content.What.{What}
-use Rattle.edits.specs.declared.content.What.TheVariants.{AddStation, SetStation, PutReadings}
+use Rattle.edits.specs.declared.content.What.TheVariants.{AddStation, SetStation, PutReadings, PutCorrection, DropCorrection, PutShift, DropShift}
 use Rattle.fixed_units.specs.Quantities.{SiteNumber, IsSite}
 use Rattle.fixed_units.specs.RoundingArray.{IsRoundingArray}
 use Rattle.fixed_units.specs.declared.readings.Flag.{Flag}
 use Rattle.fixed_units.specs.declared.readings.Flag.TheVariants.{Usable, Erroneous, Affected}
 use Rattle.fixed_units.specs.declared.readings.Reading.{Reading}
-use Rattle.records.specs.Payloads.{short_text, signed_number, site_number, flag_number, reading_bytes, kind, fields, payload, encoded, IsInGrammar}
+use Rattle.records.specs.Payloads.{short_text, signed_number, site_number, flag_number, reading_bytes, point_bytes, curve_bytes, mark_number, entry_bytes, kind, fields, payload, encoded, IsInGrammar}
 use Rattle.records.specs.Reading.{number_at}
 use Rattle.records.specs.declared.payloads.Record.{Record}
 use Rattle.records.proofs.Fields.{some_is, wide32, number_again}
+use Rattle.records.proofs.CurveLemmas.{length-entry}
 use Rattle.records.proofs.PutLemmas.{length-readings}
 use Rattle.records.proofs.Records.{one_record}
 
@@ -43,6 +44,10 @@ few_fields (SetStation name gap stages discharges) set =
 few_fields (PutReadings readings) are =
     let a = length-append (to_le_bytes w32 (length readings)) (flat_map reading_bytes readings) in
     omega (arith, a, length-readings readings, are.most)
+few_fields (PutCorrection set at curve prorate) law = omega (arith, length-entry at curve prorate, law.2.most)
+few_fields (DropCorrection set at) law = omega arith
+few_fields (PutShift at curve prorate) law = omega (arith, length-entry at curve prorate, law.1.most)
+few_fields (DropShift at) law = omega arith
 
 pub few_bytes : (piece : Record) → IsInGrammar piece.edit → length (payload piece) ≤ 206
 few_bytes piece g =
@@ -120,6 +125,24 @@ readings_are_bytes (r ∷ rest) =
     subst (λ (t : List ℕ). All is_byte t) (sym (flat_map-cons reading_bytes r rest))
     (All-append is_byte (reading_bytes r) (flat_map reading_bytes rest) (one_bytes r) (readings_are_bytes rest))
 
+points_are_bytes : (points : List (ℤ × ℤ)) → All is_byte (flat_map point_bytes points)
+points_are_bytes [] = All-nil is_byte
+points_are_bytes (p ∷ points) =
+    subst (λ (t : List ℕ). All is_byte t) (sym (flat_map-cons point_bytes p points))
+    (All-append is_byte (point_bytes p) (flat_map point_bytes points)
+    (All-append is_byte (signed_number p.0) (signed_number p.1) (bytes_64 (cast_unsigned w64 p.0)) (bytes_64 (cast_unsigned w64 p.1))) (points_are_bytes points))
+
+mark_byte : (mark : Bool) → mark_number mark < 256
+mark_byte false = omega arith
+mark_byte true = omega arith
+
+entry_is_bytes : (at : ℤ) (curve : List (ℤ × ℤ)) (prorate : Bool) → length curve ≤ 3 → All is_byte (entry_bytes at curve prorate)
+entry_is_bytes at curve prorate few =
+    All-append is_byte (signed_number at ++ curve_bytes curve) (mark_number prorate ∷ [])
+    (All-append is_byte (signed_number at) (curve_bytes curve) (bytes_64 (cast_unsigned w64 at))
+    (All-cons is_byte (length curve) (flat_map point_bytes curve) (omega (arith, few)) (points_are_bytes curve)))
+    (All-cons is_byte (mark_number prorate) [] (mark_byte prorate) (All-nil is_byte))
+
 fields_are_bytes : (what : What) → IsLawful what → All is_byte (fields what)
 fields_are_bytes (AddStation name zone gap stages discharges) law =
     let set = law.0 in
@@ -133,11 +156,21 @@ fields_are_bytes (SetStation name gap stages discharges) set =
     All-append is_byte (short_text name ++ to_le_bytes w32 gap ++ stages) discharges b (array_bytes discharges set.discharges)
 fields_are_bytes (PutReadings readings) are =
     All-append is_byte (to_le_bytes w32 (length readings)) (flat_map reading_bytes readings) (bytes_32 (length readings)) (readings_are_bytes readings)
+fields_are_bytes (PutCorrection set at curve prorate) law =
+    All-cons is_byte set (entry_bytes at curve prorate) (omega (arith, law.0.greatest)) (entry_is_bytes at curve prorate law.2.most)
+fields_are_bytes (DropCorrection set at) law =
+    All-cons is_byte set (signed_number at) (omega (arith, law.0.greatest)) (bytes_64 (cast_unsigned w64 at))
+fields_are_bytes (PutShift at curve prorate) law = entry_is_bytes at curve prorate law.1.most
+fields_are_bytes (DropShift at) law = bytes_64 (cast_unsigned w64 at)
 
 kind_byte : (what : What) → kind what < 256
 kind_byte (AddStation name zone gap stages discharges) = omega arith
 kind_byte (SetStation name gap stages discharges) = omega arith
 kind_byte (PutReadings readings) = omega arith
+kind_byte (PutCorrection set at curve prorate) = omega arith
+kind_byte (DropCorrection set at) = omega arith
+kind_byte (PutShift at curve prorate) = omega arith
+kind_byte (DropShift at) = omega arith
 
 payload_bytes : (piece : Record) → IsInGrammar piece.edit → All is_byte (payload piece)
 payload_bytes piece g =

@@ -1,3 +1,4 @@
+pub mod CurveLemmas
 pub mod Fields
 pub mod KindLemmas
 pub mod LawLemmas

@@ -3,12 +3,12 @@ use Rattle.std.specs.Prelude.{◌≡◌}
 use Rattle.edits.specs.Lawful.{IsLawful}
 use Rattle.edits.specs.Texts.{AreInitials, IsReference}
 use Rattle.edits.specs.declared.content.What.{What}
-use Rattle.edits.specs.declared.content.What.TheVariants.{AddStation, SetStation}
+use Rattle.edits.specs.declared.content.What.TheVariants.{AddStation, SetStation, PutCorrection, DropCorrection, PutShift, DropShift}
 use Rattle.fixed_units.specs.Quantities.{IsSite}
 use Rattle.records.specs.Reading.{Parts, put_one}
 use Rattle.records.specs.declared.drafts.Draft.{Draft}
 use Rattle.records.specs.declared.drafts.Fields.{Fields}
-use Rattle.records.specs.declared.drafts.Fields.TheVariants.{Addition, Setting, Put}
+use Rattle.records.specs.declared.drafts.Fields.TheVariants.{Addition, Setting, Put, Correction, DroppedCorrection, Shift, DroppedShift}
 use Rattle.records.specs.declared.payloads.Record.{Record}
 
 -- what an edit of these fields changes
@@ -17,6 +17,10 @@ what_of (Addition name zone gap stage_array discharge_array) =
     AddStation name.now zone.now gap stage_array.now discharge_array.now
 what_of (Setting name gap stage_array discharge_array) = SetStation name.now gap stage_array.now discharge_array.now
 what_of (Put draft) = put_one (draft.at, draft.raw)
+what_of (Correction set entry) = PutCorrection set entry.at entry.points.items entry.prorate
+what_of (DroppedCorrection set at) = DropCorrection set at
+what_of (Shift entry) = PutShift entry.at entry.points.items entry.prorate
+what_of (DroppedShift at) = DropShift at
 
 -- the parts that a draft lends
 abbrev pub parts : Draft → Parts

@@ -1,10 +1,10 @@
 -- The bytes of a record, one spelling for each. Numbers stand with their lowest byte first.
-use Rattle.std.specs.Prelude.{ℕ, List, [], ◌∷◌, ◌++◌, length, flat_map, ℤ}
+use Rattle.std.specs.Prelude.{ℕ, Bool, true, false, List, [], ◌∷◌, ◌++◌, length, flat_map, ℤ}
 use Rattle.std.specs.Int.{w32, w64, to_le_bytes, cast_unsigned}
 use Rattle.edits.specs.Texts.{AreInitials, IsReference}
 use Rattle.edits.specs.declared.content.Edit.{Edit}
 use Rattle.edits.specs.declared.content.What.{What}
-use Rattle.edits.specs.declared.content.What.TheVariants.{AddStation, SetStation, PutReadings}
+use Rattle.edits.specs.declared.content.What.TheVariants.{AddStation, SetStation, PutReadings, PutCorrection, DropCorrection, PutShift, DropShift}
 use Rattle.fixed_units.specs.Quantities.{SiteNumber, IsSite}
 use Rattle.fixed_units.specs.declared.readings.Flag.{Flag}
 use Rattle.fixed_units.specs.declared.readings.Flag.TheVariants.{Usable, Erroneous, Affected}
@@ -31,11 +31,30 @@ flag_number Affected = 2
 abbrev pub reading_bytes : Reading → List ℕ
 reading_bytes reading = signed_number reading.at ++ signed_number reading.raw ++ flag_number reading.flag ∷ []
 
+-- a curve: how many points it has, and each with its stage and its amount
+abbrev pub point_bytes : ℤ × ℤ → List ℕ
+point_bytes point = signed_number point.0 ++ signed_number point.1
+
+abbrev pub curve_bytes : List (ℤ × ℤ) → List ℕ
+curve_bytes points = length points ∷ flat_map point_bytes points
+
+-- an entry of a correction set or of the shifts: its instant, its curve, and whether it prorates
+abbrev pub mark_number : Bool → ℕ
+mark_number false = 0
+mark_number true = 1
+
+abbrev pub entry_bytes : ℤ → List (ℤ × ℤ) → Bool → List ℕ
+entry_bytes at curve prorate = signed_number at ++ curve_bytes curve ++ mark_number prorate ∷ []
+
 -- the kind of an edit
 abbrev pub kind : What → ℕ
 kind (AddStation name zone gap stage_array discharge_array) = 1
 kind (SetStation name gap stage_array discharge_array) = 2
 kind (PutReadings readings) = 3
+kind (PutCorrection set at curve prorate) = 6
+kind (DropCorrection set at) = 7
+kind (PutShift at curve prorate) = 8
+kind (DropShift at) = 9
 
 -- the fields of each kind
 abbrev pub fields : What → List ℕ
@@ -44,6 +63,10 @@ fields (AddStation name zone gap stage_array discharge_array) =
 fields (SetStation name gap stage_array discharge_array) =
     short_text name ++ to_le_bytes w32 gap ++ stage_array ++ discharge_array
 fields (PutReadings readings) = to_le_bytes w32 (length readings) ++ flat_map reading_bytes readings
+fields (PutCorrection set at curve prorate) = set ∷ entry_bytes at curve prorate
+fields (DropCorrection set at) = set ∷ signed_number at
+fields (PutShift at curve prorate) = entry_bytes at curve prorate
+fields (DropShift at) = signed_number at
 
 -- an edit: its kind, who makes it, under which reference, of which station, and the fields of its kind
 abbrev pub edit_bytes : Edit → List ℕ

@@ -1,8 +1,8 @@
 -- Reading a payload from left to right: each reader gives a value and the bytes after it, or nothing.
-use Rattle.std.specs.Prelude.{ℕ, List, [], ◌∷◌, length, take, drop, Option, Some, None, nat_lt, ◌==◌, ◌&&◌, if◌then◌else◌, ℤ}
+use Rattle.std.specs.Prelude.{ℕ, zero, suc, Bool, true, false, List, [], ◌∷◌, length, take, drop, Option, Some, None, nat_lt, nat_le, ◌==◌, ◌&&◌, if◌then◌else◌, ℤ}
 use Rattle.std.specs.Int.{Width, w32, w64, byte_len, from_le_bytes, cast_signed}
 use Rattle.edits.specs.declared.content.What.{What}
-use Rattle.edits.specs.declared.content.What.TheVariants.{AddStation, SetStation, PutReadings}
+use Rattle.edits.specs.declared.content.What.TheVariants.{AddStation, SetStation, PutReadings, PutCorrection, DropCorrection, PutShift, DropShift}
 use Rattle.fixed_units.specs.Quantities.{SiteNumber}
 use Rattle.fixed_units.specs.declared.readings.Flag.TheVariants.{Usable}
 use Rattle.fixed_units.specs.declared.readings.Reading.{Reading}
@@ -87,12 +87,67 @@ reading_at bytes = do
 unfoldable pub put_at : List ℕ → Option (What × List ℕ)
 put_at bytes = made_at put_one reading_at bytes
 
+-- so many points of a curve, each a stage and an amount
+unfoldable pub point_at : List ℕ → Option ((ℤ × ℤ) × List ℕ)
+point_at bytes = both_at signed_number_at signed_number_at bytes
+
+unfoldable pub points_at : ℕ → List ℕ → Option (List (ℤ × ℤ) × List ℕ)
+points_at zero bytes = Some ([], bytes)
+points_at (suc count) bytes = do
+  point ← point_at bytes
+  points ← points_at count point.1
+  Some (point.0 ∷ points.0, points.1)
+
+-- a curve: how many points there are, at most three, and the points
+unfoldable pub curve_at : List ℕ → Option (List (ℤ × ℤ) × List ℕ)
+curve_at bytes = byte_at bytes >>= λ count. if nat_le count.0 3 then points_at count.0 count.1 else None
+
+-- whether an entry prorates
+unfoldable pub mark_at : List ℕ → Option (Bool × List ℕ)
+mark_at bytes = do
+  mark ← byte_at bytes
+  if mark.0 == 0 then Some (false, mark.1) else (if mark.0 == 1 then Some (true, mark.1) else None)
+
+-- an entry: its instant, its curve, and whether it prorates
+unfoldable pub entry_at : List ℕ → Option ((ℤ × (List (ℤ × ℤ) × Bool)) × List ℕ)
+entry_at bytes = both_at signed_number_at (both_at curve_at mark_at) bytes
+
+-- the fields of an entry that is put into a correction set, and of one that is dropped
+abbrev pub correction : ℕ × (ℤ × (List (ℤ × ℤ) × Bool)) → What
+correction f = PutCorrection f.0 f.1.0 f.1.1.0 f.1.1.1
+
+unfoldable pub correction_at : List ℕ → Option (What × List ℕ)
+correction_at bytes = made_at correction (both_at byte_at entry_at) bytes
+
+abbrev pub dropped_correction : ℕ × ℤ → What
+dropped_correction f = DropCorrection f.0 f.1
+
+unfoldable pub dropped_correction_at : List ℕ → Option (What × List ℕ)
+dropped_correction_at bytes = made_at dropped_correction (both_at byte_at signed_number_at) bytes
+
+-- the fields of an entry that is put into the shifts, and of one that is dropped
+abbrev pub shift : ℤ × (List (ℤ × ℤ) × Bool) → What
+shift f = PutShift f.0 f.1.0 f.1.1
+
+unfoldable pub shift_at : List ℕ → Option (What × List ℕ)
+shift_at bytes = made_at shift entry_at bytes
+
+abbrev pub dropped_shift : ℤ → What
+dropped_shift at = DropShift at
+
+unfoldable pub dropped_shift_at : List ℕ → Option (What × List ℕ)
+dropped_shift_at bytes = made_at dropped_shift signed_number_at bytes
+
 -- the fields of a kind
 unfoldable pub fields_at : ℕ → List ℕ → Option (What × List ℕ)
 fields_at kind bytes =
     if kind == 1 then addition_at bytes
     else (if kind == 2 then setting_at bytes
-    else (if kind == 3 then put_at bytes else None))
+    else (if kind == 3 then put_at bytes
+    else (if kind == 6 then correction_at bytes
+    else (if kind == 7 then dropped_correction_at bytes
+    else (if kind == 8 then shift_at bytes
+    else (if kind == 9 then dropped_shift_at bytes else None))))))
 
 -- the parts of a whole payload, with nothing behind the last
 unfoldable pub parts_at : List ℕ → Option Parts

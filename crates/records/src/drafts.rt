@@ -9,8 +9,9 @@ ghost use Rattle.fixed_units.specs.RoundingArray.{IsRoundingArray};
 ghost use Rattle.records.specs.Drafts.{parts, what_of, AreLawful, HasParts};
 ghost use Rattle.records.specs.Reading.{usable};
 
+use crate::entry_drafts::{EntryDraft, curve_from, is_entry};
 use crate::payloads::Record;
-use edits::{By, Edit, Name, Ref, What, are_put_readings, are_settings, is_zone};
+use edits::{By, Edit, Name, Ref, What, are_put_readings, are_settings, is_set_number, is_zone};
 use fixed_units::{
     Flag, Micro, NoMemory, Reading, RoundingArray, Second, Site, Text, is_stage, is_stamp,
 };
@@ -47,6 +48,22 @@ pub(crate) enum Fields<'a> {
     },
     /// One usable reading that is put.
     Put(ReadingDraft),
+    /// An entry that is put into the correction set of a number.
+    Correction {
+        set: u8,
+        entry: EntryDraft,
+    },
+    /// An entry that is dropped from the correction set of a number.
+    DroppedCorrection {
+        set: u8,
+        at: i64,
+    },
+    /// An entry that is put into the shifts.
+    Shift(EntryDraft),
+    /// An entry that is dropped from the shifts.
+    DroppedShift {
+        at: i64,
+    },
 }
 
 /// The instant and the stage of a reading as they stand in a payload.
@@ -101,6 +118,10 @@ fn are_lawful(alloc: Global, fields: &Fields<'_>) -> Result<bool, NoMemory>
             discharge_array,
         } => Ok(are_settings(name, *gap, stage_array, discharge_array)),
         Fields::Put(reading) => Ok(is_put(reading)),
+        Fields::Correction { set, entry } => Ok(is_set_number(*set) && is_entry(entry)),
+        Fields::DroppedCorrection { set, at } => Ok(is_set_number(*set) && is_stamp(*at)),
+        Fields::Shift(entry) => Ok(is_entry(entry)),
+        Fields::DroppedShift { at } => Ok(is_stamp(*at)),
     }
 }
 
@@ -173,6 +194,24 @@ fn what_from(alloc: Global, fields: &Fields<'_>) -> Result<What, NoMemory>
             discharge_array: array_from(discharge_array),
         }),
         Fields::Put(reading) => put_from(alloc, reading),
+        Fields::Correction { set, entry } => Ok(What::PutCorrection {
+            set: *set,
+            at: Second::new(entry.at).unwrap(),
+            curve: curve_from(&entry.points).unwrap(),
+            prorate: entry.prorate,
+        }),
+        Fields::DroppedCorrection { set, at } => Ok(What::DropCorrection {
+            set: *set,
+            at: Second::new(*at).unwrap(),
+        }),
+        Fields::Shift(entry) => Ok(What::PutShift {
+            at: Second::new(entry.at).unwrap(),
+            curve: curve_from(&entry.points).unwrap(),
+            prorate: entry.prorate,
+        }),
+        Fields::DroppedShift { at } => Ok(What::DropShift {
+            at: Second::new(*at).unwrap(),
+        }),
     }
 }
 

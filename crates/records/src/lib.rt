@@ -2,6 +2,7 @@
 #![tactic(auto)]
 
 mod drafts;
+mod entry_drafts;
 pub mod laws;
 pub mod payloads;
 mod reading;

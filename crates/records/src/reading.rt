@@ -1,11 +1,13 @@
 //! The parts of a payload, read from left to right.
 
-ghost use Rattle.std.specs.Prelude.{◌≡◌, option_map};
+ghost use Rattle.std.specs.Prelude.{◌≡◌, ◌≤◌, option_map};
 ghost use Rattle.std.specs.Int.{w32, w64};
 ghost use Rattle.records.specs.Drafts.{parts, what_of};
-ghost use Rattle.records.specs.Reading.{byte_at, number_at, front_at, short_text_at, signed_number_at, site_number_at, sender_at, arrays_at, addition_at, setting_at, reading_at, put_at, fields_at, parts_at};
+ghost use Rattle.records.specs.Reading.{byte_at, number_at, front_at, short_text_at, signed_number_at, site_number_at, sender_at, arrays_at, addition_at, setting_at, reading_at, put_at, point_at, points_at, curve_at, mark_at, entry_at, correction_at, dropped_correction_at, shift_at, dropped_shift_at, fields_at, parts_at};
 
 use crate::drafts::{Draft, Fields, ReadingDraft};
+use crate::entry_drafts::EntryDraft;
+use arrayvec::ArrayVec;
 
 /// The parts of a whole payload, with nothing behind the last.
 #[tactic(auto, unfolding(crate::specs::Reading::parts_at))]
@@ -48,6 +50,10 @@ fn fields_of(kind: u8, bytes: &[u8]) -> Option<(Fields<'_>, &[u8])>
         1 => addition_of(bytes),
         2 => setting_of(bytes),
         3 => put_of(bytes),
+        6 => correction_of(bytes),
+        7 => dropped_correction_of(bytes),
+        8 => shift_of(bytes),
+        9 => dropped_shift_of(bytes),
         _ => None,
     }
 }
@@ -93,6 +99,111 @@ fn put_of(bytes: &[u8]) -> Option<(Fields<'_>, &[u8])>
 {
     let ((at, raw), rest) = reading_of(bytes)?;
     Some((Fields::Put(ReadingDraft { at, raw }), rest))
+}
+
+/// The fields of an entry that is put into a correction set.
+#[tactic(auto, unfolding(crate::specs::Reading::correction_at))]
+fn correction_of(bytes: &[u8]) -> Option<(Fields<'_>, &[u8])>
+    ensures { option_map (λ x. (what_of x.0, x.1.now)) result ≡ correction_at bytes.now }
+{
+    let (set, rest) = byte_of(bytes)?;
+    let (entry, rest) = entry_of(rest)?;
+    Some((Fields::Correction { set, entry }, rest))
+}
+
+/// The fields of an entry that is dropped from a correction set.
+#[tactic(auto, unfolding(crate::specs::Reading::dropped_correction_at))]
+fn dropped_correction_of(bytes: &[u8]) -> Option<(Fields<'_>, &[u8])>
+    ensures { option_map (λ x. (what_of x.0, x.1.now)) result ≡ dropped_correction_at bytes.now }
+{
+    let (set, rest) = byte_of(bytes)?;
+    let (at, rest) = i64_of(rest)?;
+    Some((Fields::DroppedCorrection { set, at }, rest))
+}
+
+/// The fields of an entry that is put into the shifts.
+#[tactic(auto, unfolding(crate::specs::Reading::shift_at))]
+fn shift_of(bytes: &[u8]) -> Option<(Fields<'_>, &[u8])>
+    ensures { option_map (λ x. (what_of x.0, x.1.now)) result ≡ shift_at bytes.now }
+{
+    let (entry, rest) = entry_of(bytes)?;
+    Some((Fields::Shift(entry), rest))
+}
+
+/// The fields of an entry that is dropped from the shifts.
+#[tactic(auto, unfolding(crate::specs::Reading::dropped_shift_at))]
+fn dropped_shift_of(bytes: &[u8]) -> Option<(Fields<'_>, &[u8])>
+    ensures { option_map (λ x. (what_of x.0, x.1.now)) result ≡ dropped_shift_at bytes.now }
+{
+    let (at, rest) = i64_of(bytes)?;
+    Some((Fields::DroppedShift { at }, rest))
+}
+
+/// An entry: its instant, its curve, and whether it prorates.
+#[tactic(auto, unfolding(crate::specs::Reading::entry_at))]
+fn entry_of(bytes: &[u8]) -> Option<(EntryDraft, &[u8])>
+    ensures { option_map (λ x. ((x.0.at, (x.0.points.items, x.0.prorate)), x.1.now)) result ≡ entry_at bytes.now }
+{
+    let (at, rest) = i64_of(bytes)?;
+    let (points, rest) = curve_of(rest)?;
+    let (prorate, rest) = mark_of(rest)?;
+    let entry = EntryDraft {
+        at,
+        points,
+        prorate,
+    };
+    Some((entry, rest))
+}
+
+/// How many points a curve has, at most three, and the points.
+#[tactic(auto, unfolding(crate::specs::Reading::curve_at))]
+fn curve_of(bytes: &[u8]) -> Option<(ArrayVec<(i64, i64), 3>, &[u8])>
+    ensures { option_map (λ x. (x.0.items, x.1.now)) result ≡ curve_at bytes.now }
+{
+    let (count, rest) = byte_of(bytes)?;
+    if count <= 3 {
+        points_of(rest, count)
+    } else {
+        None
+    }
+}
+
+/// So many points of a curve.
+fn points_of(bytes: &[u8], count: u8) -> Option<(ArrayVec<(i64, i64), 3>, &[u8])>
+    requires { count ≤ 3 }
+    ensures { option_map (λ x. (x.0.items, x.1.now)) result ≡ points_at count bytes.now }
+{
+    let mut points = ArrayVec::new();
+    let mut rest = bytes;
+    for _ in 0..count {
+        let (point, behind) = point_of(rest)?;
+        points.push(point);
+        rest = behind;
+    }
+    Some((points, rest))
+}
+
+/// The stage and the amount of a point.
+#[tactic(auto, unfolding(crate::specs::Reading::point_at))]
+fn point_of(bytes: &[u8]) -> Option<((i64, i64), &[u8])>
+    ensures { option_map (λ x. (x.0, x.1.now)) result ≡ point_at bytes.now }
+{
+    let (stage, rest) = i64_of(bytes)?;
+    let (amount, rest) = i64_of(rest)?;
+    Some(((stage, amount), rest))
+}
+
+/// Whether an entry prorates.
+#[tactic(auto, unfolding(crate::specs::Reading::mark_at))]
+fn mark_of(bytes: &[u8]) -> Option<(bool, &[u8])>
+    ensures { option_map (λ x. (x.0, x.1.now)) result ≡ mark_at bytes.now }
+{
+    let (mark, rest) = byte_of(bytes)?;
+    match mark {
+        0 => Some((false, rest)),
+        1 => Some((true, rest)),
+        _ => None,
+    }
 }
 
 /// A gap tolerance and two rounding arrays.

@@ -1,10 +1,11 @@
 //! The bytes of an edit's parts, added to a vector.
 
-ghost use Rattle.std.specs.Prelude.{◌≡◌, ◌≤◌, ◌<◌, ◌++◌, ◌∷◌, [], length, flat_map, OnOk};
+ghost use Rattle.std.specs.Prelude.{◌≡◌, ◌≤◌, ◌<◌, ◌++◌, ◌∷◌, [], length, flat_map, OnOk, ℤ, Bool};
 ghost use Rattle.std.specs.Int.{w32, w64, to_le_bytes};
 ghost use Rattle.edits.specs.Lawful.{IsLawful};
-ghost use Rattle.records.specs.Payloads.{short_text, signed_number, site_number, flag_number, reading_bytes, kind, fields, edit_bytes};
+ghost use Rattle.records.specs.Payloads.{short_text, signed_number, site_number, flag_number, reading_bytes, mark_number, point_bytes, curve_bytes, entry_bytes, kind, fields, edit_bytes};
 
+use curves::Curve;
 use edits::{Edit, What};
 use fixed_units::{Flag, Micro, NoMemory, Reading, RoundingArray, Second, Site};
 
@@ -29,7 +30,19 @@ fn fields_len(what: &What) -> usize
         What::AddStation { name, zone, .. } => 26 + name.as_slice().len() + zone.as_slice().len(),
         What::SetStation { name, .. } => 25 + name.as_slice().len(),
         What::PutReadings { readings } => 4 + 17 * readings.as_slice().len(),
+        What::PutCorrection { curve, .. } => 1 + entry_len(curve),
+        What::DropCorrection { .. } => 9,
+        What::PutShift { curve, .. } => entry_len(curve),
+        What::DropShift { .. } => 8,
     }
+}
+
+/// How many bytes an entry with this curve takes.
+fn entry_len(curve: &Curve) -> usize
+    ensures value { (at : ℤ) (prorate : Bool) → result ≡ length (entry_bytes at curve.now prorate) }
+    ensures few { result ≤ 58 }
+{
+    10 + 16 * curve.points().len()
 }
 
 /// Adds the bytes of an edit.
@@ -51,6 +64,10 @@ fn kind_of(what: &What) -> u8
         What::AddStation { .. } => 1,
         What::SetStation { .. } => 2,
         What::PutReadings { .. } => 3,
+        What::PutCorrection { .. } => 6,
+        What::DropCorrection { .. } => 7,
+        What::PutShift { .. } => 8,
+        What::DropShift { .. } => 9,
     }
 }
 
@@ -100,6 +117,21 @@ fn put_fields(out: &mut Vec<u8>, what: &What) -> Result<(), NoMemory>
             put_arrays(out, *gap, *stage_array, *discharge_array)
         }
         What::PutReadings { readings } => put_readings(out, readings.as_slice()),
+        What::PutCorrection {
+            set,
+            at,
+            curve,
+            prorate,
+        } => {
+            out.push(*set)?;
+            put_entry(out, *at, curve, *prorate)
+        }
+        What::DropCorrection { set, at } => {
+            out.push(*set)?;
+            put_second(out, *at)
+        }
+        What::PutShift { at, curve, prorate } => put_entry(out, *at, curve, *prorate),
+        What::DropShift { at } => put_second(out, *at),
     }
 }
 
@@ -138,6 +170,36 @@ fn put_reading(out: &mut Vec<u8>, reading: Reading) -> Result<(), NoMemory>
     put_micro(out, reading.raw)?;
     out.push(flag_of(reading.flag))?;
     Ok(())
+}
+
+/// Adds the instant of an entry, its curve, and whether it prorates.
+fn put_entry(out: &mut Vec<u8>, at: Second, curve: &Curve, prorate: bool) -> Result<(), NoMemory>
+    ensures { OnOk result (out.new.items ≡ out.old.items ++ entry_bytes at curve.now prorate) }
+{
+    put_second(out, at)?;
+    put_points(out, curve.points())?;
+    out.push(u8::from(prorate))?;
+    Ok(())
+}
+
+/// Adds how many points a curve has, and the points.
+fn put_points(out: &mut Vec<u8>, points: &[(Micro, Micro)]) -> Result<(), NoMemory>
+    requires { length points.now < 256 }
+    ensures { OnOk result (out.new.items ≡ out.old.items ++ curve_bytes points.now) }
+{
+    out.push(points.len() as u8)?;
+    for point in points {
+        put_point(out, *point)?;
+    }
+    Ok(())
+}
+
+/// Adds the stage and the amount of a point.
+fn put_point(out: &mut Vec<u8>, point: (Micro, Micro)) -> Result<(), NoMemory>
+    ensures { OnOk result (out.new.items ≡ out.old.items ++ point_bytes point) }
+{
+    put_micro(out, point.0)?;
+    put_micro(out, point.1)
 }
 
 /// Adds an instant.

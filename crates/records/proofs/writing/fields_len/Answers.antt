@@ -10,3 +10,13 @@ returns-in-PutReadings-clause-value c =
     let readings = c.in-PutReadings.readings in
     rw (c.in-PutReadings.is, c.as_slice-in-PutReadings.ensures)
     (omega (arith, length-readings readings, length-append (to_le_bytes w32 (length readings)) (flat_map reading_bytes readings)))
+
+pub returns-in-PutCorrection-clause-value : goal.returns-in-PutCorrection-clause-value
+returns-in-PutCorrection-clause-value c =
+    let put = c.in-PutCorrection in
+    rw put.is (omega (arith, c.entry_len.ensures.value put.at put.prorate))
+
+pub returns-in-PutShift-clause-value : goal.returns-in-PutShift-clause-value
+returns-in-PutShift-clause-value c =
+    let put = c.in-PutShift in
+    rw put.is (c.entry_len-in-PutShift.ensures.value put.at put.prorate)

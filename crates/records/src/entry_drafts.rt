@@ -1,0 +1,59 @@
+//! The entries of a payload that was read: their ranges, and the curves that they make.
+
+ghost use Rattle.std.specs.Prelude.{◌≡◌, ◌↔◌, true, IfSome, IfNone, All};
+ghost use Rattle.edits.specs.Lawful.{IsPutCurve, IsPutPoint};
+ghost use Rattle.fixed_units.specs.Quantities.{IsStamp};
+
+use arrayvec::ArrayVec;
+use curves::Curve;
+use edits::is_put_curve;
+use fixed_units::{Micro, is_stamp};
+
+/// An entry of a correction set or of the shifts as it stands in a payload: its instant, the stage and the amount of each
+/// point, and whether it prorates.
+#[derive(Drop)]
+pub(crate) struct EntryDraft {
+    pub(crate) at: i64,
+    pub(crate) points: ArrayVec<(i64, i64), 3>,
+    pub(crate) prorate: bool,
+}
+
+/// Whether the entry may be put.
+pub(crate) fn is_entry(draft: &EntryDraft) -> bool
+    ensures { result ≡ true ↔ IsStamp draft.now.at × IsPutCurve draft.now.points.items }
+{
+    is_stamp(draft.at) && is_curve(&draft.points)
+}
+
+/// Whether a curve of these points may be put.
+fn is_curve(points: &[(i64, i64)]) -> bool
+    ensures { result ≡ true ↔ IsPutCurve points.now }
+{
+    match curve_from(points) {
+        Some(curve) => is_put_curve(&curve),
+        None => false,
+    }
+}
+
+/// The curve of these points, or `None` only where it may not be put.
+pub(crate) fn curve_from(points: &[(i64, i64)]) -> Option<Curve>
+    ensures some { IfSome result (λ curve. curve ≡ points.now) }
+    ensures none { IfNone result (¬ IsPutCurve points.now) }
+{
+    match points {
+        [first] => Curve::new(&[place(first)?]).ok(),
+        [first, second] => Curve::new(&[place(first)?, place(second)?]).ok(),
+        [first, second, third] => {
+            Curve::new(&[place(first)?, place(second)?, place(third)?]).ok()
+        }
+        _ => None,
+    }
+}
+
+/// The point of this stage and this amount, or `None` only where it may not be put.
+fn place(point: &(i64, i64)) -> Option<(Micro, Micro)>
+    ensures some { IfSome result (λ place. place ≡ point.now) }
+    ensures none { IfNone result (¬ IsPutPoint point.now) }
+{
+    Some((Micro::new(point.0)?, Micro::new(point.1)?))
+}

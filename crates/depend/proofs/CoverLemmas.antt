@@ -1,5 +1,5 @@
 -- The days that are compared cover the interval of what is touched.
-use Rattle.std.specs.Prelude.{◌≡◌, ℕ, Bool, true, false, ◌&&◌, List, ◌⊎◌, Option, Some, None, ℤ, pos, ◌+ℤ◌, ◌-ℤ◌, ◌≤ℤ◌, ◌<ℤ◌, int_le, int_lt}
+use Rattle.std.specs.Prelude.{◌≡◌, ℕ, Bool, true, false, ◌&&◌, List, All, ◌⊎◌, Option, Some, None, ℤ, pos, ◌+ℤ◌, ◌-ℤ◌, ◌≤ℤ◌, ◌<ℤ◌, int_le, int_lt}
 use Rattle.std.specs.Int.{int_max, int_min}
 use Rattle.std.specs.List.{list_any}
 use Rattle.std.proofs.Common.{arith, refl, ap, sym, subst, ◌∙◌, inl, inr}
@@ -12,15 +12,20 @@ use Rattle.fixed_units.specs.Calendar.{calendar}
 use Rattle.fixed_units.proofs.CalendarLemmas.{calendar_any, calendar_any_none}
 use Rattle.rising.specs.Ends.{first, last}
 use Rattle.rising.proofs.Ends.{first-kept, last-kept}
+use Rattle.curves.specs.declared.entries.Entry.{Entry}
 use Rattle.civil_days.specs.Starts.{IsZone, IsIn, day_start_of, calendar_end}
 use Rattle.civil_days.proofs.RiseLemmas.{rise, zone_steps, zone_lengths}
 use Rattle.edits.specs.Lawful.{IsLawful, IsPutReading}
 use Rattle.edits.specs.declared.content.What.{What}
-use Rattle.edits.specs.declared.content.What.TheVariants.{AddStation, SetStation, PutReadings}
-use Rattle.office_inputs.specs.Stations.{StationRecord, station_of}
-use Rattle.office_inputs.specs.Touched.{is_filled, is_between_filled, in_reach, touched_by, between_readings, meets, most_gap_seconds, IsUsedSpan}
+use Rattle.edits.specs.declared.content.What.TheVariants.{AddStation, SetStation, PutReadings, PutCorrection, DropCorrection, PutShift, DropShift}
+use Rattle.office_inputs.specs.KeptStation.{IsStation}
+use Rattle.office_inputs.specs.Stations.{StationRecord, series_of, station_of}
+use Rattle.office_inputs.specs.declared.series.StationSeries.{StationSeries}
+use Rattle.office_inputs.specs.declared.series.StationSeries.TheVariants.{Correction, Shift}
+use Rattle.office_inputs.specs.Touched.{about_entry, about_entry_of, is_filled, is_between_filled, in_reach, touched_by, between_readings, meets, most_gap_seconds, IsUsedSpan}
 use Rattle.office_inputs.specs.declared.touched.Touched.TheVariants.{One, Between}
 use Rattle.depend.specs.Compared.{IsCover, AreCompared}
+use Rattle.depend.proofs.EntryLemmas.{entry_stamps, from_of, series_has, until_of}
 
 -- the starts of days
 start_from : (text : List ℕ) (a b : ℤ) → IsZone text → first_day ≤ℤ a → b ≤ℤ calendar_end → a ≤ℤ b → day_start_of text a ≤ℤ day_start_of text b
@@ -328,10 +333,31 @@ between_stamps (Some r) (Some t) from until cells h k e =
     let g : t.at ≡ until = cc in
     (subst IsStamp f (h r refl), subst IsStamp g (k t refl))
 
-pub stamps : (o : Option StationRecord) (what : What) (from until : ℤ) (cells : Bool) → IsLawful what → touched_by o what ≡ Between from until cells → IsStamp from × IsStamp until
-stamps o (AddStation name zone gap stages discharges) from until cells l e = absurd (cc)
-stamps o (SetStation name gap stages discharges) from until cells l e = absurd (cc)
-stamps o (PutReadings readings) from until cells l e =
+entry_between : (at : ℤ) (es : List Entry) (from until : ℤ) (cells : Bool) → IsStamp at → All (λ (e : Entry). IsStamp e.at) es
+    → about_entry at es ≡ Between from until cells → IsStamp from × IsStamp until
+entry_between at es from until cells h k e =
+    let stamps = entry_stamps at es h k in
+    let f : from_of at es ≡ from = cc in
+    let g : until_of at es ≡ until = cc in
+    (subst IsStamp f stamps.0, subst IsStamp g stamps.1)
+
+about_stamps : (o : Option StationRecord) (which : StationSeries) (at from until : ℤ) (cells : Bool) → ((s : StationRecord) → o ≡ Some s → IsStation s) → IsStamp at
+    → about_entry_of o which at ≡ Between from until cells → IsStamp from × IsStamp until
+about_stamps None which at from until cells k h e = absurd (cc)
+about_stamps (Some s) which at from until cells k h e =
+    let kept = (k s refl).entries_at_stamps in
+    entry_between at (series_of which s) from until cells h
+    (series_has (λ (es : List Entry). All (λ (x : Entry). IsStamp x.at) es) which s kept.first kept.second kept.third kept.shifts) e
+
+pub stamps : (o : Option StationRecord) (what : What) (from until : ℤ) (cells : Bool) → ((s : StationRecord) → o ≡ Some s → IsStation s) → IsLawful what
+    → touched_by o what ≡ Between from until cells → IsStamp from × IsStamp until
+stamps o (AddStation name zone gap stages discharges) from until cells k l e = absurd (cc)
+stamps o (SetStation name gap stages discharges) from until cells k l e = absurd (cc)
+stamps o (PutReadings readings) from until cells k l e =
     let all = All-weaker IsPutReading (λ (r : Reading). IsStamp r.at) (λ r k. k.stamp) readings l.each in
     between_stamps (first readings) (last readings) from until cells
     (λ r f. first-kept (λ (r : Reading). IsStamp r.at) readings r all f) (λ r f. last-kept (λ (r : Reading). IsStamp r.at) readings r all f) e
+stamps o (PutCorrection set at curve prorate) from until cells k l e = about_stamps o (Correction set) at from until cells k l.1 e
+stamps o (DropCorrection set at) from until cells k l e = about_stamps o (Correction set) at from until cells k l.1 e
+stamps o (PutShift at curve prorate) from until cells k l e = about_stamps o Shift at from until cells k l.0 e
+stamps o (DropShift at) from until cells k l e = about_stamps o Shift at from until cells k l e

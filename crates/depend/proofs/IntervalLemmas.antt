@@ -1,5 +1,5 @@
 -- No day outside the interval of an edit changes, kind by kind.
-use Rattle.std.specs.Prelude.{◌≡◌, ◌*◌, ◌≤◌, ℕ, Bool, true, false, cond, ◌&&◌, List, [], ◌∷◌, All, ◌⊎◌, Option, Some, None, is_some, ℤ, pos, ◌+ℤ◌, ◌-ℤ◌, ◌≤ℤ◌, ◌<ℤ◌, int_le}
+use Rattle.std.specs.Prelude.{◌≡◌, ◌*◌, ℕ, Bool, true, false, cond, ◌&&◌, List, [], ◌∷◌, All, ◌⊎◌, Option, Some, None, ℤ, pos, ◌+ℤ◌, ◌-ℤ◌, ◌≤ℤ◌, ◌<ℤ◌, int_le}
 use Rattle.std.proofs.Common.{arith, refl, ap, sym, subst, ◌∙◌, inl, inr}
 use Rattle.std.proofs.lemmas.Int.{ints, by_lt_z}
 use Rattle.std.proofs.lemmas.List.Elements.{All-head, All-tail, All-cons, All-weaker}
@@ -8,30 +8,40 @@ use Rattle.fixed_units.specs.Quantities.{IsDay, SiteNumber, site_place}
 use Rattle.fixed_units.specs.declared.readings.Reading.{Reading}
 use Rattle.fixed_units.proofs.CalendarLemmas.{calendar_any}
 use Rattle.rising.specs.Ends.{last}
+use Rattle.rising.specs.Lists as lists
 use Rattle.rising.proofs.Ends.{last-cons}
 use Rattle.rising.proofs.Selecting.{AllPairs-head, AllPairs-tail}
 use Rattle.readings.specs.Readings.{IsRising, put, put_all}
 use Rattle.readings.specs.Window.{window}
 use Rattle.readings.proofs.WindowLemmas.{far_leaves, put_rises}
 use Rattle.civil_days.proofs.RiseLemmas.{zone_steps}
-use Rattle.day_inputs.specs.DayInputs.{with_window, most_gap}
+use Rattle.curves.specs.declared.entries.Entry.{Entry}
+use Rattle.curves.specs.Entries as series
+use Rattle.curves.specs.Entries.{instant_of}
+use Rattle.curves.proofs.ChangeLemmas.{put_unchanged, without_unchanged}
+use Rattle.day_inputs.specs.DayInputs.{with_window}
 use Rattle.day_inputs.specs.Equality.{same_inputs}
 use Rattle.day_inputs.proofs.EqualityLemmas.{Decides-same_inputs}
 use Rattle.day_inputs.specs.declared.day_inputs.DayInputs.{DayInputs}
 use Rattle.day_inputs.specs.declared.day_inputs.DayInputs.TheVariants.{Empty, Day}
 use Rattle.edits.specs.Lawful.{IsLawful}
 use Rattle.edits.specs.declared.content.What.{What}
-use Rattle.edits.specs.declared.content.What.TheVariants.{AddStation, SetStation, PutReadings}
+use Rattle.edits.specs.declared.content.What.TheVariants.{AddStation, SetStation, PutReadings, PutCorrection, DropCorrection, PutShift, DropShift}
 use Rattle.edits.specs.declared.content.Edit.{Edit}
 use Rattle.office_inputs.specs.Changes.{keeps_day}
 use Rattle.office_inputs.specs.Kept.{AreStations, records_of}
 use Rattle.office_inputs.specs.KeptStation.{KeptStation, IsStation}
 use Rattle.office_inputs.specs.Refusals.{refusal_of, adds_station}
-use Rattle.office_inputs.specs.Stations.{StationRecord, station_of, station_day, inputs_of_day, after_what, place_of, described, with_readings, day_start}
-use Rattle.office_inputs.specs.Touched.{has_inputs, is_filled, is_between_filled, in_reach, touched_by, touched_of, between_readings, meets, most_gap_seconds}
+use Rattle.office_inputs.specs.Stations.{StationRecord, station_of, station_day, day_of_station, inputs_of_day, after_what, changed_at, place_of, described, series_of, with_readings, with_series, day_start}
+use Rattle.office_inputs.specs.Series.{entry_of}
+use Rattle.office_inputs.specs.declared.series.StationSeries.{StationSeries}
+use Rattle.office_inputs.specs.declared.series.StationSeries.TheVariants.{Correction, Shift}
+use Rattle.office_inputs.specs.declared.touched.Touched.TheVariants.{Between}
+use Rattle.office_inputs.specs.Touched.{about_entry_of, has_inputs, is_filled, is_between_filled, in_reach, touched_by, touched_of, between_readings, meets, meets_day, most_gap_seconds}
 use Rattle.office_inputs.specs.declared.limits.Limits.{Limits}
-use Rattle.office_inputs.proofs.KeepLemmas.{KeptTold, add_told, set_told, put_told}
+use Rattle.office_inputs.proofs.KeepLemmas.{adds_none, add_told, change_told}
 use Rattle.office_inputs.proofs.StationLemmas.{day_any}
+use Rattle.depend.proofs.EntryLemmas.{by_test, gap_seconds, Keeps, from_of, until_of, entry_meets}
 
 -- a station that is found keeps to its ranges
 station_step : (s t : StationRecord) (o : Option StationRecord) (b : Bool) → IsStation s → cond b (Some s) o ≡ Some t → (o ≡ Some t → IsStation t) → IsStation t
@@ -125,9 +135,6 @@ far_from first last a b gap r g h k =
       | inr l ↦ inl (omega (arith, ints))
     ]
 
-gap_seconds : (gap : ℕ) → gap ≤ most_gap → pos (60 * gap) ≤ℤ most_gap_seconds
-gap_seconds gap h = omega (arith, ints)
-
 far_day : (s : StationRecord) (day : ℤ) (r : Reading) (rs : List Reading) → IsStation s → IsDay day → IsRising (r ∷ rs)
     → meets r.at (last_of r rs).at (day_start s day) (day_start s (day +ℤ pos 1)) ≡ false
     → true ≡ same_inputs (station_day s day) (station_day (with_readings (r ∷ rs) s) day)
@@ -144,24 +151,15 @@ far_day s day r rs k d h m =
     (ap (λ (w : List Reading). with_window s.gap s.stage_array s.discharge_array a b s.corrections s.shifts w) (sym same)))
 
 -- an edit of a site that is not kept and that adds no station keeps each day
-none_set : (stations : List StationRecord) (site : SiteNumber) (name : List ℕ) (gap : ℕ) (stages discharges : List ℕ) (day : ℤ)
-    → station_of stations site ≡ None → KeptTold stations site day true (SetStation name gap stages discharges)
-none_set stations site name gap stages discharges day e = rw e (rw e refl)
-
-none_put : (stations : List StationRecord) (site : SiteNumber) (readings : List Reading) (day : ℤ)
-    → station_of stations site ≡ None → KeptTold stations site day true (PutReadings readings)
-none_put stations site readings day e = rw e (rw e refl)
+none_changed : (stations : List StationRecord) (site : SiteNumber) (change : StationRecord → StationRecord) (day : ℤ) → station_of stations site ≡ None
+    → true ≡ same_inputs (inputs_of_day stations site day) (inputs_of_day (changed_at site change stations) site day)
+none_changed stations site change day e = rw e (rw e refl)
 
 -- a station that is added was not kept
 not_kept : (limits : Limits) (stations : List StationRecord) (edit : Edit) (o : Option StationRecord) → adds_station edit.what ≡ true
     → refusal_of limits stations edit ≡ None → station_of stations edit.site ≡ o → station_of stations edit.site ≡ None
 not_kept limits stations edit None a r e = e
-not_kept limits stations edit (Some s) a r e = absurd (let k : is_some (station_of stations edit.site) ≡ true = ap is_some e in cc)
-
--- where a test fails, what follows from it is not so
-by_test : (b : Bool) {P : Type 0} → (b ≡ true → P) → (b ≡ false → P) → P
-by_test true t f = t refl
-by_test false t f = f refl
+not_kept limits stations edit (Some s) a r e = absurd (kept_not (adds_station edit.what) (sym a) (adds_none limits stations edit s r e))
 
 -- whether a day outside the interval may differ
 abbrev Reaches : List StationRecord → SiteNumber → ℤ → What → Type 0
@@ -171,12 +169,12 @@ Reaches stations site day what =
 
 set_reaches : (stations : List StationRecord) (site : SiteNumber) (day : ℤ) (name : List ℕ) (gap : ℕ) (stages discharges : List ℕ) (o : Option StationRecord)
     → IsDay day → station_of stations site ≡ o → Reaches stations site day (SetStation name gap stages discharges)
-set_reaches stations site day name gap stages discharges None d e n = absurd (kept_not _ (none_set stations site name gap stages discharges day e) n)
+set_reaches stations site day name gap stages discharges None d e n = absurd (kept_not _ (none_changed stations site (described name gap stages discharges) day e) n)
 set_reaches stations site day name gap stages discharges (Some s) d e n =
     by_test (has_inputs (station_day s day))
     (λ t. filled_between stations site day d (rw e t))
     (λ f. absurd (kept_not _
-    (set_told stations site (SetStation name gap stages discharges) day s name gap stages discharges true refl e (empty_kept s day name gap stages discharges f)) n))
+    (change_told stations site (SetStation name gap stages discharges) day s (described name gap stages discharges) true refl refl e (empty_kept s day name gap stages discharges f)) n))
 
 put_met : (stations : List StationRecord) (site : SiteNumber) (day : ℤ) (r : Reading) (rs : List Reading) (s : StationRecord) → station_of stations site ≡ Some s
     → meets r.at (last_of r rs).at (day_start s day) (day_start s (day +ℤ pos 1)) ≡ true → in_reach stations site (touched_by (station_of stations site) (PutReadings (r ∷ rs))) day ≡ true
@@ -185,13 +183,47 @@ put_met stations site day r rs s e t =
 
 put_reaches : (kept : List KeptStation) (site : SiteNumber) (day : ℤ) (r : Reading) (rs : List Reading) (o : Option StationRecord)
     → AreStations kept → IsDay day → IsRising (r ∷ rs) → station_of (records_of kept) site ≡ o → Reaches (records_of kept) site day (PutReadings (r ∷ rs))
-put_reaches kept site day r rs None k d h e n = absurd (kept_not _ (none_put (records_of kept) site (r ∷ rs) day e) n)
+put_reaches kept site day r rs None k d h e n = absurd (kept_not _ (none_changed (records_of kept) site (with_readings (r ∷ rs)) day e) n)
 put_reaches kept site day r rs (Some s) k d h e n =
     by_test (meets r.at (last_of r rs).at (day_start s day) (day_start s (day +ℤ pos 1)))
     (λ t. put_met (records_of kept) site day r rs s e t)
     (λ f. absurd (kept_not _
-    (put_told (records_of kept) site (PutReadings (r ∷ rs)) day s (r ∷ rs) true refl e
+    (change_told (records_of kept) site (PutReadings (r ∷ rs)) day s (with_readings (r ∷ rs)) true refl refl e
     (far_day s day r rs (station_is kept site s k.each e) d h f)) n))
+
+-- a day that has inputs and meets the time in which an entry has a say
+in_reach_about : (stations : List StationRecord) (site : SiteNumber) (from until day : ℤ) (s : StationRecord) → station_of stations site ≡ Some s
+    → meets from until (day_start s day) (day_start s (day +ℤ pos 1)) ≡ true → is_between_filled stations site day ≡ true
+    → in_reach stations site (Between from until true) day ≡ true
+in_reach_about stations site from until day s e m f =
+    both_true (meets_day from until (station_of stations site) day) (is_between_filled stations site day)
+    (ap (λ (o : Option StationRecord). meets_day from until o day) e ∙ m) f
+
+entry_reaches : (kept : List KeptStation) (site : SiteNumber) (day : ℤ) (what : What) (which : StationSeries) (at : ℤ) (change : List Entry → List Entry) (o : Option StationRecord)
+    → AreStations kept → IsDay day → after_what site what (records_of kept) ≡ changed_at site (with_series which change) (records_of kept)
+    → station_of (records_of kept) site ≡ o → ((es : List Entry) → series.IsRising es → Keeps at change es)
+    → same_inputs (inputs_of_day (records_of kept) site day) (inputs_of_day (after_what site what (records_of kept)) site day) ≡ false
+    → in_reach (records_of kept) site (about_entry_of (station_of (records_of kept) site) which at) day ≡ true
+entry_reaches kept site day what which at change None k d w e keeps n =
+    absurd (kept_not _
+    (none_changed (records_of kept) site (with_series which change) day e)
+    (ap (λ (after : List StationRecord). same_inputs (inputs_of_day (records_of kept) site day) (inputs_of_day after site day)) (sym w) ∙ n))
+entry_reaches kept site day what which at change (Some s) k d w e keeps n =
+    let stations = records_of kept in
+    let own : inputs_of_day stations site day ≡ station_day s day = ap (λ (o : Option StationRecord). day_of_station o day) e in
+    let told : same_inputs (station_day s day) (station_day (with_series which change s) day) ≡ same_inputs (inputs_of_day stations site day) (inputs_of_day (after_what site what stations) site day) =
+    change_told stations site what day s (with_series which change) (same_inputs (station_day s day) (station_day (with_series which change s) day)) w refl e refl in
+    let found = entry_meets s day which at change (station_is kept site s k.each e) d keeps (told ∙ n) in
+    ap (λ (o : Option StationRecord). in_reach stations site (about_entry_of o which at) day) e
+    ∙ in_reach_about stations site (from_of at (series_of which s)) (until_of at (series_of which s)) day s e found.1
+    (filled_between stations site day d (ap has_inputs own ∙ found.0))
+
+-- an entry that is put, and one that is taken out
+put_entry : (at : ℤ) (curve : List (ℤ × ℤ)) (prorate : Bool) (es : List Entry) → series.IsRising es → Keeps at (series.put (entry_of at curve prorate)) es
+put_entry at curve prorate es h lo hi o t = put_unchanged lo hi (entry_of at curve prorate) es (lists.at instant_of at es) h o refl t
+
+drop_entry : (at : ℤ) (es : List Entry) → series.IsRising es → Keeps at (series.without at) es
+drop_entry at es h lo hi o t = without_unchanged lo hi at es (lists.at instant_of at es) h o refl t
 
 by_kind : (limits : Limits) (kept : List KeptStation) (edit : Edit) (what : What) (day : ℤ) → edit.what ≡ what → IsLawful what → AreStations kept
     → refusal_of limits (records_of kept) edit ≡ None → IsDay day → Reaches (records_of kept) edit.site day what
@@ -204,6 +236,14 @@ by_kind limits kept edit (SetStation name gap stages discharges) day w l k r d n
 by_kind limits kept edit (PutReadings []) day w l k r d n = absurd (let f = l.fewest in omega arith)
 by_kind limits kept edit (PutReadings (x ∷ xs)) day w l k r d n =
     put_reaches kept edit.site day x xs (station_of (records_of kept) edit.site) k d l.rising refl n
+by_kind limits kept edit (PutCorrection set at curve prorate) day w l k r d n =
+    entry_reaches kept edit.site day (PutCorrection set at curve prorate) (Correction set) at (series.put (entry_of at curve prorate)) (station_of (records_of kept) edit.site) k d refl refl (put_entry at curve prorate) n
+by_kind limits kept edit (DropCorrection set at) day w l k r d n =
+    entry_reaches kept edit.site day (DropCorrection set at) (Correction set) at (series.without at) (station_of (records_of kept) edit.site) k d refl refl (drop_entry at) n
+by_kind limits kept edit (PutShift at curve prorate) day w l k r d n =
+    entry_reaches kept edit.site day (PutShift at curve prorate) Shift at (series.put (entry_of at curve prorate)) (station_of (records_of kept) edit.site) k d refl refl (put_entry at curve prorate) n
+by_kind limits kept edit (DropShift at) day w l k r d n =
+    entry_reaches kept edit.site day (DropShift at) Shift at (series.without at) (station_of (records_of kept) edit.site) k d refl refl (drop_entry at) n
 
 pub no_day_outside : (limits : Limits) (kept : List KeptStation) (edit : Edit) (day : ℤ) → AreStations kept → refusal_of limits (records_of kept) edit ≡ None
     → IsDay day → keeps_day (records_of kept) edit day ≡ false → in_reach (records_of kept) edit.site (touched_of (records_of kept) edit) day ≡ true

@@ -1,4 +1,5 @@
 pub mod CalendarLemmas
 pub mod IntervalLemmas
 pub mod CoverLemmas
+pub mod EntryLemmas
 pub mod ReachLemmas

@@ -39,7 +39,7 @@ pub fn reach<L: Ledger>(
     reach_at(alloc, inputs, inputs.place(edit.site), edit, steps)
 }
 
-/// The same at the place of the edit's site. Nothing is looked up.
+/// The same at the place of the edit's site. Nothing is looked up but where an entry stands in its series.
 ///
 /// # Errors
 ///

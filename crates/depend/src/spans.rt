@@ -23,12 +23,13 @@ pub fn compared_days(inputs: &Inputs, edit: &Edit) -> Option<(Day, Day)>
     compared_days_at(inputs, inputs.place(edit.site), edit)
 }
 
-/// The same at the place of the edit's site. Nothing is looked up.
+/// The same at the place of the edit's site. Nothing is looked up but where an entry stands in its series.
 pub fn compared_days_at(inputs: &Inputs, place: Place, edit: &Edit) -> Option<(Day, Day)>
     requires { IsPlaceOf (in_force inputs.now) edit.now.site place }
     ensures { AreCompared (in_reach (in_force inputs.now) edit.now.site (touched_of (in_force inputs.now) edit.now)) result }
 {
-    match inputs.touched(edit) {
+    stations_keep_to_their_ranges(inputs);
+    match inputs.touched_at(place, edit) {
         Touched::Nothing => None,
         Touched::One(day) => Some(day_alone(day)),
         Touched::Between {

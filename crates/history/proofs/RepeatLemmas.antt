@@ -1,14 +1,18 @@
 -- An accepted edit that comes again is told its number.
-use Rattle.std.specs.Prelude.{◌≡◌, ◌==◌, ℕ, zero, suc, ◌+◌, Bool, true, false, cond, bytes_eq, List, [], ◌∷◌, ◌++◌, length, map, slice_get, Option, Some, None}
+use Rattle.std.specs.Prelude.{◌≡◌, ◌==◌, ℕ, zero, suc, ◌+◌, Bool, true, false, cond, bytes_eq, ℤ, List, [], ◌∷◌, ◌++◌, length, map, slice_get, Option, Some, None}
 use Rattle.std.specs.Cmp.Lexicographic.{bytes_decides}
+use Rattle.std.specs.Ordering.{int_eq}
 use Rattle.std.proofs.Common.{arith, refl, ap, sym, subst, ◌∙◌}
-use Rattle.std.proofs.lemmas.Bool.Decides.{Decides-eqb}
+use Rattle.std.proofs.lemmas.Bool.Decides.{Decides-eqb, Decides-int_eq}
 use Rattle.std.proofs.lemmas.List.{append-nil, append_assoc, length-map, map-append}
 use Rattle.std.proofs.lemmas.Option.{same_Some}
+use Rattle.curves.proofs.EqualityLemmas.{entries_decide}
+use Rattle.curves.specs.Equality.{same_entry}
+use Rattle.curves.specs.declared.entries.Entry.{Entry}
 use Rattle.edits.specs.Same.{is_same, is_same_what}
 use Rattle.edits.specs.declared.content.Edit.{Edit}
 use Rattle.edits.specs.declared.content.What.{What}
-use Rattle.edits.specs.declared.content.What.TheVariants.{AddStation, SetStation, PutReadings}
+use Rattle.edits.specs.declared.content.What.TheVariants.{AddStation, SetStation, PutReadings, PutCorrection, DropCorrection, PutShift, DropShift}
 use Rattle.history.specs.Accepted.{Numbered, accepted, edit_of, edits_of, named}
 use Rattle.history.specs.Events.{Event, Accepted, Published, Faulted, History}
 use Rattle.history.specs.Legal.{IsLegal}
@@ -27,11 +31,22 @@ same_bytes bytes = (bytes_decides bytes bytes).1 refl
 same_number : (n : ℕ) → (n == n) ≡ true
 same_number n = (Decides-eqb n n).1 refl
 
+same_instant : (at : ℤ) → int_eq at at ≡ true
+same_instant at = (Decides-int_eq at at).1 refl
+
+own_entry : (entry : Entry) → same_entry entry entry ≡ true
+own_entry entry = (entries_decide entry entry).1 refl
+
 same_what : (what : What) → is_same_what what what ≡ true
 same_what (AddStation name zone gap stages discharges) =
     rw (same_bytes name, same_bytes zone, same_number gap, same_bytes stages, same_bytes discharges) refl
 same_what (SetStation name gap stages discharges) = rw (same_bytes name, same_number gap, same_bytes stages, same_bytes discharges) refl
 same_what (PutReadings readings) = sym (told_same readings readings refl)
+same_what (PutCorrection set at curve prorate) =
+    rw (same_number set) (own_entry (record { at = at; curve = curve; prorate = prorate }))
+same_what (DropCorrection set at) = rw (same_number set, same_instant at) refl
+same_what (PutShift at curve prorate) = own_entry (record { at = at; curve = curve; prorate = prorate })
+same_what (DropShift at) = same_instant at
 
 -- an edit is the same as itself
 same_as_itself : (edit : Edit) → is_same edit edit ≡ true

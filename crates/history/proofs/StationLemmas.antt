@@ -9,11 +9,13 @@ use Rattle.day_inputs.specs.declared.day_inputs.DayInputs.{DayInputs}
 use Rattle.day_inputs.proofs.EqualityLemmas.{Decides-same_inputs}
 use Rattle.edits.specs.declared.content.Edit.{Edit}
 use Rattle.edits.specs.declared.content.What.{What}
-use Rattle.edits.specs.declared.content.What.TheVariants.{AddStation, SetStation, PutReadings}
+use Rattle.edits.specs.declared.content.What.TheVariants.{AddStation, SetStation, PutReadings, PutCorrection, DropCorrection, PutShift, DropShift}
 use Rattle.fixed_units.specs.Quantities.{SiteNumber, site_place, same_site}
 use Rattle.history.specs.Accepted.{changes}
 use Rattle.office_inputs.specs.Changes.{keeps_day}
-use Rattle.office_inputs.specs.Stations.{StationRecord, place_of, station_of, with_changed, changed_at, new_station, described, with_readings, after_what, stations_after, day_of_station, inputs_of_day}
+use Rattle.office_inputs.specs.Series.{entry_of}
+use Rattle.office_inputs.specs.Stations.{StationRecord, place_of, station_of, with_changed, changed_at, new_station, described, with_readings, with_entry, without_entry, after_what, stations_after, day_of_station, inputs_of_day}
+use Rattle.office_inputs.specs.declared.series.StationSeries.TheVariants.{Correction, Shift}
 use Rattle.rising.specs.Lists.{at, put}
 use Rattle.rising.proofs.Placing.{at_put, at_put_other}
 
@@ -67,11 +69,27 @@ module _ (own site : SiteNumber) (stations : List StationRecord) where
   other_after (SetStation name gap stages discharges) apart =
       other_changed (described name gap stages discharges) (station_of stations own) refl (λ s. refl) apart
   other_after (PutReadings readings) apart = other_changed (with_readings readings) (station_of stations own) refl (λ s. refl) apart
+  other_after (PutCorrection set at curve prorate) apart =
+      other_changed (with_entry (Correction set) (entry_of at curve prorate)) (station_of stations own) refl (λ s. refl) apart
+  other_after (DropCorrection set at) apart =
+      other_changed (without_entry (Correction set) at) (station_of stations own) refl (λ s. refl) apart
+  other_after (PutShift at curve prorate) apart =
+      other_changed (with_entry Shift (entry_of at curve prorate)) (station_of stations own) refl (λ s. refl) apart
+  other_after (DropShift at) apart =
+      other_changed (without_entry Shift at) (station_of stations own) refl (λ s. refl) apart
 
   own_after : (what : What) → is_some (station_of stations own) ≡ true → is_some (station_of (after_what own what stations) own) ≡ true
   own_after (AddStation name zone gap stages discharges) h = ap is_some (at_put place_of (new_station own name zone gap stages discharges) stations)
   own_after (SetStation name gap stages discharges) h = own_changed (described name gap stages discharges) (station_of stations own) refl (λ s. refl) h
   own_after (PutReadings readings) h = own_changed (with_readings readings) (station_of stations own) refl (λ s. refl) h
+  own_after (PutCorrection set at curve prorate) h =
+      own_changed (with_entry (Correction set) (entry_of at curve prorate)) (station_of stations own) refl (λ s. refl) h
+  own_after (DropCorrection set at) h =
+      own_changed (without_entry (Correction set) at) (station_of stations own) refl (λ s. refl) h
+  own_after (PutShift at curve prorate) h =
+      own_changed (with_entry Shift (entry_of at curve prorate)) (station_of stations own) refl (λ s. refl) h
+  own_after (DropShift at) h =
+      own_changed (without_entry Shift at) (station_of stations own) refl (λ s. refl) h
 
 module _ (stations : List StationRecord) (edit : Edit) (site : SiteNumber) where
   -- an edit of another site leaves the station

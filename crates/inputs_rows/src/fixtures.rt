@@ -7,9 +7,10 @@ ghost use Rattle.office_inputs.specs.Refusals.{refusal_of};
 ghost use Rattle.office_inputs.specs.Stations.{stations_after};
 
 use civil_days::{read_day, read_instant};
+use curves::Curve;
 use depend::{DayList, reach};
 use edits::{By, Edit, Name, Ref, What};
-use fixed_units::{Day, Flag, Micro, NoMemory, Reading, RoundingArray, Site, Text};
+use fixed_units::{Day, Flag, Micro, NoMemory, Reading, RoundingArray, Second, Site, Text};
 use office_inputs::{Inputs, Limits, Refusal};
 use readings::ReadingList;
 use std::alloc::Global;
@@ -23,6 +24,9 @@ pub const POTOMAC: u64 = 1_646_500;
 /// The instant at which a stage is read, and the stage in millionths of a foot.
 pub type Stage = (&'static str, i64);
 
+/// The instant of an entry, its amount at every stage in millionths of a foot, and whether it prorates.
+pub type Amount = (&'static str, i64, bool);
+
 /// What a row sends.
 #[derive(Clone, Copy)]
 pub enum Sent {
@@ -32,6 +36,16 @@ pub enum Sent {
     Setting(u32),
     /// Puts a reading at a station.
     Put(u64, Stage),
+    /// Puts an entry into the correction set of a number.
+    Correction(u8, Amount),
+    /// Takes the entry at an instant out of the correction set of a number.
+    NoCorrection(u8, &'static str),
+    /// Puts an entry into the shifts.
+    Shift(Amount),
+    /// Takes the entry at an instant out of the shifts.
+    NoShift(&'static str),
+    /// Puts a shift of a tenth of a foot at this second.
+    ShiftAt(i64),
 }
 
 /// Adds the station.
@@ -96,12 +110,57 @@ fn put(alloc: Global, stage: Stage) -> Option<What> {
     })
 }
 
+/// The curve of one point, which has this amount at every stage.
+fn curve(amount: i64) -> Option<Curve> {
+    Curve::new(&[(Micro::new(0)?, Micro::new(amount)?)]).ok()
+}
+
+fn correction(set: u8, entry: Amount) -> Option<What> {
+    Some(What::PutCorrection {
+        set,
+        at: read_instant(entry.0.as_bytes())?,
+        curve: curve(entry.1)?,
+        prorate: entry.2,
+    })
+}
+
+fn shift(entry: Amount) -> Option<What> {
+    Some(What::PutShift {
+        at: read_instant(entry.0.as_bytes())?,
+        curve: curve(entry.1)?,
+        prorate: entry.2,
+    })
+}
+
+fn shift_at(second: i64) -> Option<What> {
+    Some(What::PutShift {
+        at: Second::new(second)?,
+        curve: curve(100_000)?,
+        prorate: false,
+    })
+}
+
+fn no_correction(set: u8, at: &str) -> Option<What> {
+    let at = read_instant(at.as_bytes())?;
+    Some(What::DropCorrection { set, at })
+}
+
+fn no_shift(at: &str) -> Option<What> {
+    let at = read_instant(at.as_bytes())?;
+    Some(What::DropShift { at })
+}
+
 /// The number of a site, and what is changed there.
 fn change(alloc: Global, sent: &Sent) -> Option<(u64, What)> {
     match *sent {
         Sent::Addition(number) => Some((number, addition(alloc)?)),
         Sent::Setting(gap) => Some((POTOMAC, setting(alloc, gap)?)),
         Sent::Put(number, stage) => Some((number, put(alloc, stage)?)),
+        Sent::Correction(set, entry) => Some((POTOMAC, correction(set, entry)?)),
+        Sent::NoCorrection(set, at) => Some((POTOMAC, no_correction(set, at)?)),
+        Sent::Shift(entry) => Some((POTOMAC, shift(entry)?)),
+        Sent::NoShift(at) => Some((POTOMAC, no_shift(at)?)),
+        Sent::ShiftAt(second) => Some((POTOMAC, shift_at(second)?)),
     }
 }
 

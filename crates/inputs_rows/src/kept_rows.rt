@@ -83,7 +83,7 @@ fn a_station_that_is_set_keeps_its_zone(rt: HostRuntime) {
 }
 
 /// What was sent, what is sent then, a day, and whether that keeps its inputs.
-type Kept = (
+pub type Kept = (
     &'static str,
     &'static [&'static Sent],
     &'static Sent,
@@ -168,7 +168,8 @@ fn both(alloc: Global, before: &[&Sent], sent: &Sent, day: &str) -> Option<[Opti
     Some([keeps, stay(&mut inputs, &edit, day)])
 }
 
-fn first_kept_otherwise(alloc: Global, rows: &[Kept]) -> Option<&'static str> {
+/// The first of some rows in which the edit keeps the inputs otherwise, as it is told before or found after.
+pub fn first_kept_otherwise(alloc: Global, rows: &[Kept]) -> Option<&'static str> {
     for (row, before, sent, day, kept) in rows {
         if both(alloc, before, sent, day) != Some([Some(*kept); 2]) {
             return Some(row);

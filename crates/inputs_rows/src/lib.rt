@@ -2,6 +2,8 @@
 #![tactic(auto)]
 
 #[cfg(test)]
+mod entry_rows;
+#[cfg(test)]
 mod fixtures;
 #[cfg(test)]
 mod kept_rows;

@@ -21,6 +21,14 @@ const TWELVE_HOURS_AFTER: &Sent = &Sent::Put(POTOMAC, ("2024-01-06T17:00:00Z", 1
 
 const A_SECOND_LATER: &Sent = &Sent::Put(POTOMAC, ("2024-01-06T17:00:01Z", 1_000_000));
 
+/// Puts a correction four days before the first reading.
+const EARLY_CORRECTION: &Sent = &Sent::Correction(2, ("2024-01-01T00:00:00Z", 100_000, false));
+
+/// Puts a shift that prorates thirteen hours after the end of the first reading's day, and one long after the last reading.
+const BETWEEN_DAYS: &Sent = &Sent::Shift(("2024-01-06T18:00:00Z", 100_000, true));
+
+const LAST_SHIFT: &Sent = &Sent::Shift(("2024-01-20T00:00:00Z", 0, false));
+
 /// What was sent, what is sent then, and the days that it changes.
 type Change = (
     &'static str,
@@ -29,7 +37,7 @@ type Change = (
     &'static [&'static str],
 );
 
-const CHANGES: [Change; 8] = [
+const CHANGES: [Change; 12] = [
     ("a station", &[], ADDITION, &[]),
     ("the first reading", &[ADDITION], FIRST, &["2024-01-05"]),
     (
@@ -67,6 +75,30 @@ const CHANGES: [Change; 8] = [
         &[ADDITION, FIRST, LATE],
         &Sent::Setting(720),
         &[],
+    ),
+    (
+        "an entry that governs two days, taken out",
+        &[ADDITION, FIRST, LATE, EARLY_CORRECTION],
+        &Sent::NoCorrection(2, "2024-01-01T00:00:00Z"),
+        &["2024-01-05", "2024-01-07"],
+    ),
+    (
+        "an entry between two days",
+        &[ADDITION, FIRST, LATE],
+        BETWEEN_DAYS,
+        &["2024-01-07"],
+    ),
+    (
+        "an entry after the last reading",
+        &[ADDITION, FIRST, LATE],
+        LAST_SHIFT,
+        &[],
+    ),
+    (
+        "an entry after the last reading, behind one that prorates",
+        &[ADDITION, FIRST, LATE, BETWEEN_DAYS],
+        LAST_SHIFT,
+        &["2024-01-07"],
     ),
 ];
 
@@ -117,7 +149,7 @@ fn an_edit_changes_the_days_near_it(rt: HostRuntime) {
 /// What was sent, what is sent then, and the first and the last of the days that are compared for it.
 type Compared = (&'static str, &'static [&'static Sent], &'static Sent, Span);
 
-const COMPARED: [Compared; 4] = [
+const COMPARED: [Compared; 5] = [
     ("a station", &[], ADDITION, None),
     (
         "the first reading",
@@ -136,6 +168,12 @@ const COMPARED: [Compared; 4] = [
         &[ADDITION, FIRST, LATE],
         &Sent::Setting(60),
         Some(("2024-01-05", "2024-01-07")),
+    ),
+    (
+        "an entry after the last reading, of its day",
+        &[ADDITION, FIRST, LATE],
+        &Sent::Shift(("2024-01-07T18:00:00Z", 100_000, true)),
+        Some(("2024-01-06", "2024-01-07")),
     ),
 ];
 

@@ -63,10 +63,39 @@ const TWO_READINGS_OF_A_DAY: [Row; 7] = [
     (LAST, None),
 ];
 
+const NO_ENTRY: Option<Refusal> = Some(Refusal::NoEntry);
+
+/// A correction and a shift at one instant, and the instant a second later.
+const CORRECTION: &Sent = &Sent::Correction(1, (AT, 100_000, false));
+
+const SHIFT: &Sent = &Sent::Shift((AT, 100_000, true));
+
+const AT: &str = "2024-01-01T00:00:00Z";
+
+const A_SECOND_LATER: &str = "2024-01-01T00:00:01Z";
+
+const DROPS: [Row; 15] = [
+    (CORRECTION, NO_STATION),
+    (&Sent::NoCorrection(1, AT), NO_STATION),
+    (SHIFT, NO_STATION),
+    (&Sent::NoShift(AT), NO_STATION),
+    (ADDITION, None),
+    (&Sent::NoCorrection(1, AT), NO_ENTRY),
+    (CORRECTION, None),
+    (&Sent::NoCorrection(2, AT), NO_ENTRY),
+    (&Sent::NoCorrection(3, AT), NO_ENTRY),
+    (&Sent::NoShift(AT), NO_ENTRY),
+    (&Sent::NoCorrection(1, A_SECOND_LATER), NO_ENTRY),
+    (SHIFT, None),
+    (&Sent::NoCorrection(1, AT), None),
+    (&Sent::NoCorrection(1, AT), NO_ENTRY),
+    (&Sent::NoShift(AT), None),
+];
+
 /// The limits of the stations, of all readings and of the readings of a local day, and what is sent under them.
 type History = (&'static str, u32, u64, u32, &'static [Row]);
 
-const HISTORIES: [History; 4] = [
+const HISTORIES: [History; 5] = [
     (
         "stations are asked for before limits",
         1,
@@ -94,6 +123,13 @@ const HISTORIES: [History; 4] = [
         3,
         2,
         &TWO_READINGS_OF_A_DAY,
+    ),
+    (
+        "a drop finds the entry of its own series alone",
+        1,
+        0,
+        0,
+        &DROPS,
     ),
 ];
 
@@ -135,4 +171,35 @@ fn first_otherwise(alloc: Global, histories: &[History]) -> Option<(&'static str
 fn edits_are_refused_for_the_first_cause(rt: HostRuntime) {
     let otherwise = first_otherwise(rt.alloc(), &HISTORIES);
     assert!(rt; otherwise.is_none(), "{otherwise:?}");
+}
+
+/// An entry more than a series has at most.
+const ENTRIES: Option<Refusal> = Some(Refusal::Limit(Which::Entries));
+
+/// What is sent once the shifts have an entry at each of the seconds from 0 to 9,999.
+const ONCE_FULL: [Row; 5] = [
+    (&Sent::ShiftAt(10_000), ENTRIES),
+    (&Sent::ShiftAt(9_999), None),
+    (CORRECTION, None),
+    (&Sent::NoShift("1970-01-01T00:00:00Z"), None),
+    (&Sent::ShiftAt(10_000), None),
+];
+
+/// A station with that many shifts.
+fn station_with_shifts(alloc: Global, count: i64) -> Inputs {
+    let mut inputs = Inputs::new(alloc, Limits::usual());
+    let _refusal = send(alloc, &mut inputs, ADDITION);
+    for second in 0..count {
+        let _refusal = send(alloc, &mut inputs, &Sent::ShiftAt(second));
+    }
+    inputs
+}
+
+fn count_right_once_full(alloc: Global) -> usize {
+    count_right(alloc, &mut station_with_shifts(alloc, 10_000), &ONCE_FULL)
+}
+
+#[test]
+fn a_full_series_takes_an_entry_in_place_of_another_alone(rt: HostRuntime) {
+    assert!(rt; count_right_once_full(rt.alloc()) == ONCE_FULL.len());
 }

@@ -1,21 +1,20 @@
 -- What an edit makes of the station of its site, and whether it keeps a day of it.
-use Rattle.std.specs.Prelude.{◌≡◌, Bool, true, false, cond, List, [], ◌∷◌, Option, Some, None, is_some, option_map, ℕ, ℤ}
+use Rattle.std.specs.Prelude.{◌≡◌, Bool, true, false, cond, List, [], ◌∷◌, Option, Some, None, option_map, ℕ, ℤ}
 use Rattle.std.specs.Ordering.{int_eq}
 use Rattle.std.proofs.Common.{refl, ap, sym, subst, ◌∙◌, Bor}
 use Rattle.std.proofs.lemmas.Bool.Decides.{Decides-int_eq}
 use Rattle.fixed_units.specs.Quantities.{SiteNumber, site_place}
-use Rattle.fixed_units.specs.declared.readings.Reading.{Reading}
 use Rattle.rising.proofs.Placing.{at_put}
 use Rattle.rising.specs.Lists.{at, put}
 use Rattle.day_inputs.specs.Equality.{same_inputs}
 use Rattle.day_inputs.specs.declared.day_inputs.DayInputs.TheVariants.{Empty}
 use Rattle.edits.specs.declared.content.What.{What}
-use Rattle.edits.specs.declared.content.What.TheVariants.{AddStation, SetStation, PutReadings}
+use Rattle.edits.specs.declared.content.What.TheVariants.{AddStation, SetStation, PutReadings, PutCorrection, DropCorrection, PutShift, DropShift}
 use Rattle.edits.specs.declared.content.Edit.{Edit}
 use Rattle.office_inputs.specs.Refusals.{refusal_of, adds_station}
-use Rattle.office_inputs.specs.Stations.{StationRecord, station_of, station_day, inputs_of_day, after_what, place_of, new_station, described, with_readings, with_changed}
+use Rattle.office_inputs.specs.Stations.{StationRecord, station_of, station_day, inputs_of_day, after_what, place_of, new_station, with_changed, changed_at}
 use Rattle.office_inputs.specs.declared.limits.Limits.{Limits}
-use Rattle.office_inputs.specs.declared.refusals.Refusal.TheVariants.{NoStation}
+use Rattle.office_inputs.specs.declared.refusals.Refusal.TheVariants.{NoStation, StationExists}
 use Rattle.office_inputs.specs.KeptStation.{KeptStation}
 
 -- the station of a site is of that site
@@ -55,21 +54,13 @@ changed_there stations site change s e f =
     ap (λ (o : Option StationRecord). station_of (with_changed change o stations) site) e
     ∙ put_there stations site (change s) (f ∙ at_place place_of (site_place site) stations s e)
 
-pub set_told : (stations : List StationRecord) (site : SiteNumber) (what : What) (day : ℤ) (s : StationRecord) (name : List ℕ) (gap : ℕ) (stages discharges : List ℕ) (b : Bool)
-    → what ≡ SetStation name gap stages discharges → station_of stations site ≡ Some s
-    → b ≡ same_inputs (station_day s day) (station_day (described name gap stages discharges s) day) → KeptTold stations site day b what
-set_told stations site what day s name gap stages discharges b w e g =
-    subst (KeptTold stations site day b) (sym w)
-    (told_days stations (after_what site (SetStation name gap stages discharges) stations) site day s (described name gap stages discharges s) b e
-    (changed_there stations site (described name gap stages discharges) s e refl) g)
-
-pub put_told : (stations : List StationRecord) (site : SiteNumber) (what : What) (day : ℤ) (s : StationRecord) (readings : List Reading) (b : Bool)
-    → what ≡ PutReadings readings → station_of stations site ≡ Some s
-    → b ≡ same_inputs (station_day s day) (station_day (with_readings readings s) day) → KeptTold stations site day b what
-put_told stations site what day s readings b w e g =
-    subst (KeptTold stations site day b) (sym w)
-    (told_days stations (after_what site (PutReadings readings) stations) site day s (with_readings readings s) b e
-    (changed_there stations site (with_readings readings) s e refl) g)
+-- an edit that changes the station of its site keeps a day where the change does
+pub change_told : (stations : List StationRecord) (site : SiteNumber) (what : What) (day : ℤ) (s : StationRecord) (change : StationRecord → StationRecord) (b : Bool)
+    → after_what site what stations ≡ changed_at site change stations → place_of (change s) ≡ place_of s → station_of stations site ≡ Some s
+    → b ≡ same_inputs (station_day s day) (station_day (change s) day) → KeptTold stations site day b what
+change_told stations site what day s change b w p e g =
+    told_days stations (after_what site what stations) site day s (change s) b e
+    (ap (λ (ss : List StationRecord). station_of ss site) w ∙ changed_there stations site change s e p) g
 
 none_some : {X : Type 0} {x : X} → None ≡ Some x → ⊥
 none_some e = absurd (cc)
@@ -93,6 +84,10 @@ add_told limits stations edit (AddStation name zone gap stages discharges) day w
     added_step stations edit.site day (new_station edit.site name zone gap stages discharges) e refl (new_day edit.site name zone gap stages discharges day)
 add_told limits stations edit (SetStation name gap stages discharges) day w r e = absurd (not_refused limits stations edit (ap (λ (x : What). adds_station x) w) e r)
 add_told limits stations edit (PutReadings readings) day w r e = absurd (not_refused limits stations edit (ap (λ (x : What). adds_station x) w) e r)
+add_told limits stations edit (PutCorrection set at curve prorate) day w r e = absurd (not_refused limits stations edit (ap (λ (x : What). adds_station x) w) e r)
+add_told limits stations edit (DropCorrection set at) day w r e = absurd (not_refused limits stations edit (ap (λ (x : What). adds_station x) w) e r)
+add_told limits stations edit (PutShift at curve prorate) day w r e = absurd (not_refused limits stations edit (ap (λ (x : What). adds_station x) w) e r)
+add_told limits stations edit (DropShift at) day w r e = absurd (not_refused limits stations edit (ap (λ (x : What). adds_station x) w) e r)
 
 -- the record of a station that was found
 pub lent_is : (found : Option (Bor KeptStation)) (kept : Option StationRecord) (s : Bor KeptStation) → option_map (λ (s : Bor KeptStation). s.now.station) found ≡ kept
@@ -105,10 +100,14 @@ lent_none None kept e n = sym e
 lent_none (Some s) kept e n = absurd (n s refl)
 
 -- an edit of a station that is kept and that is not refused adds none
+already : (limits : Limits) (stations : List StationRecord) (edit : Edit) (s : StationRecord) → adds_station edit.what ≡ true → station_of stations edit.site ≡ Some s
+    → refusal_of limits stations edit ≡ Some StationExists
+already limits stations edit s a e = rw (a, e) refl
+
 adds_step : (limits : Limits) (stations : List StationRecord) (edit : Edit) (s : StationRecord) (b : Bool) → adds_station edit.what ≡ b
     → refusal_of limits stations edit ≡ None → station_of stations edit.site ≡ Some s → adds_station edit.what ≡ false
 adds_step limits stations edit s false a r e = a
-adds_step limits stations edit s true a r e = absurd (let k : is_some (station_of stations edit.site) ≡ true = ap is_some e in cc)
+adds_step limits stations edit s true a r e = absurd (none_some (sym r ∙ already limits stations edit s a e))
 
 pub adds_none : (limits : Limits) (stations : List StationRecord) (edit : Edit) (s : StationRecord) → refusal_of limits stations edit ≡ None
     → station_of stations edit.site ≡ Some s → adds_station edit.what ≡ false

@@ -14,10 +14,12 @@ use Rattle.day_inputs.specs.Equality.{same_inputs}
 use Rattle.day_inputs.specs.declared.day_inputs.DayInputs.{DayInputs}
 use Rattle.day_inputs.specs.declared.day_inputs.DayInputs.TheVariants.{Empty, Day}
 use Rattle.edits.specs.declared.content.What.{What}
-use Rattle.edits.specs.declared.content.What.TheVariants.{AddStation, SetStation, PutReadings}
+use Rattle.edits.specs.declared.content.What.TheVariants.{AddStation, SetStation, PutReadings, PutCorrection, DropCorrection, PutShift, DropShift}
 use Rattle.edits.specs.declared.content.Edit.{Edit}
 use Rattle.office_inputs.specs.Changes.{changed_days, keeps_day}
-use Rattle.office_inputs.specs.Stations.{StationRecord, station_of, stations_after, stations_of, inputs_of_day, day_of_station, after_what, place_of, with_changed, new_station, described, with_readings}
+use Rattle.office_inputs.specs.Stations.{StationRecord, station_of, stations_after, stations_of, inputs_of_day, day_of_station, after_what, place_of, with_changed, new_station, described, with_readings, with_entry, without_entry}
+use Rattle.office_inputs.specs.Series.{entry_of}
+use Rattle.office_inputs.specs.declared.series.StationSeries.TheVariants.{Correction, Shift}
 use Rattle.office_inputs.specs.Touched.{has_inputs, is_filled}
 use Rattle.office_inputs.proofs.KeepLemmas.{at_place}
 
@@ -45,6 +47,14 @@ by_kind stations own site (SetStation name gap stages discharges) n =
     change_leaves (described name gap stages discharges) stations own site (station_of stations own) (λ s. refl) refl n
 by_kind stations own site (PutReadings readings) n =
     change_leaves (with_readings readings) stations own site (station_of stations own) (λ s. refl) refl n
+by_kind stations own site (PutCorrection set at curve prorate) n =
+    change_leaves (with_entry (Correction set) (entry_of at curve prorate)) stations own site (station_of stations own) (λ s. refl) refl n
+by_kind stations own site (DropCorrection set at) n =
+    change_leaves (without_entry (Correction set) at) stations own site (station_of stations own) (λ s. refl) refl n
+by_kind stations own site (PutShift at curve prorate) n =
+    change_leaves (with_entry Shift (entry_of at curve prorate)) stations own site (station_of stations own) (λ s. refl) refl n
+by_kind stations own site (DropShift at) n =
+    change_leaves (without_entry Shift at) stations own site (station_of stations own) (λ s. refl) refl n
 
 pub station_left : (stations : List StationRecord) (edit : Edit) (site : SiteNumber) → same_site edit.site site ≡ false
     → station_of (stations_after stations edit) site ≡ station_of stations site

@@ -7,5 +7,8 @@ pub mod PlaceLemmas
 pub mod ApplyLemmas
 pub mod RefusalLemmas
 pub mod CountLemmas
+pub mod SeriesLemmas
+pub mod BearingDays
+pub mod WindowSpans
 pub mod RefusingLemmas
 pub mod LawLemmas

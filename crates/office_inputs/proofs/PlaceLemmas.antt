@@ -11,7 +11,7 @@ use Rattle.rising.proofs.Parting.{IsAfter, lt_yes, lt_no, all_after}
 use Rattle.rising.proofs.Placing.{some_stands, passed_over}
 use Rattle.rising.proofs.Splitting.{none_before, rest_rises, rest_is_later}
 use Rattle.office_inputs.specs.KeptStation.{KeptStation}
-use Rattle.office_inputs.specs.Kept.{records_of, kept_at, place_of_kept, HasReadingRoom}
+use Rattle.office_inputs.specs.Kept.{records_of, kept_at, place_of_kept}
 use Rattle.office_inputs.specs.Places.{Placed, IsPlace, IsPlaceOf, station_in}
 use Rattle.office_inputs.specs.Stations.{StationRecord, station_of, place_of}
 use Rattle.office_inputs.proofs.InputsLemmas.{record_at}
@@ -109,6 +109,6 @@ none_stands kept place p e = p.found ∙ ap (station_in (records_of kept)) e
 pub not_kept : (kept : List KeptStation) (place : Placed) → IsPlace (records_of kept) place → place.index ≡ None → kept_at kept place.site ≡ None
 not_kept kept place p e = none_kept (kept_at kept place.site) (sym (record_at kept place.site) ∙ none_stands kept place p e)
 
-pub no_room_asked : (kept : List KeptStation) (place : Placed) (count : ℕ) → IsPlace (records_of kept) place → place.index ≡ None
-    → HasReadingRoom kept place.site count
-no_room_asked kept place count p e = subst (λ (o : Option KeptStation). IfSome o (λ k. count ≤ k.spare)) (sym (not_kept kept place p e)) tt
+pub no_room_asked : (P : KeptStation → Type 0) (kept : List KeptStation) (place : Placed) → IsPlace (records_of kept) place → place.index ≡ None
+    → IfSome (kept_at kept place.site) P
+no_room_asked P kept place p e = subst (λ (o : Option KeptStation). IfSome o P) (sym (not_kept kept place p e)) tt

@@ -4,8 +4,8 @@ use Rattle.std.proofs.Common.{refl, ap, sym, ◌∙◌}
 use Rattle.edits.specs.declared.content.Edit.{Edit}
 use Rattle.office_inputs.specs.KeptStation.{KeptStation}
 use Rattle.office_inputs.specs.Kept.{records_of, kept_at}
-use Rattle.office_inputs.specs.Refusals.{refusal_of, adds_station, is_kept, passes, passed_limit, limit_refusal, reading_count}
-use Rattle.office_inputs.specs.Stations.{StationRecord, stations_after}
+use Rattle.office_inputs.specs.Refusals.{refusal_of, adds_station, is_kept, passes, passed_limit, refusal_by, finds_nothing, reading_count}
+use Rattle.office_inputs.specs.Stations.{StationRecord, station_of, stations_after}
 use Rattle.office_inputs.specs.declared.limits.Limits.{Limits}
 use Rattle.office_inputs.specs.declared.refusals.Refusal.{Refusal}
 use Rattle.office_inputs.specs.declared.refusals.Refusal.TheVariants.{NoStation, StationExists}
@@ -21,9 +21,9 @@ first_off : (b : Bool) (r : Refusal) (o : Option Refusal) → cond b (Some r) o 
 first_off true r o e = absurd (some_none e)
 first_off false r o e = (refl, e)
 
-limit_off : (o : Option Which) → limit_refusal o ≡ None → o ≡ None
-limit_off None e = refl
-limit_off (Some w) e = absurd (some_none e)
+limit_off : (o : Option Which) (nothing : Bool) → refusal_by o nothing ≡ None → o ≡ None
+limit_off None nothing e = refl
+limit_off (Some w) nothing e = absurd (some_none e)
 
 first_which : (b : Bool) (w : Which) (o : Option Which) → cond b (Some w) o ≡ None → (b ≡ false) × (o ≡ None)
 first_which true w o e = absurd (some_none e)
@@ -39,7 +39,7 @@ accepted limits stations edit e =
     let after = stations_after stations edit in
     let a = first_off (not (adds_station edit.what) && not (is_kept stations edit.site)) NoStation _ e in
     let b = first_off (adds_station edit.what && is_kept stations edit.site) StationExists _ a.1 in
-    let w = limit_off (passed_limit limits edit.site stations after) b.1 in
+    let w = limit_off (passed_limit limits edit.site stations after) (finds_nothing (station_of stations edit.site) edit.what) b.1 in
     let c = first_which _ counts.Stations _ w in
     let d = first_which (passes limits.readings (reading_count stations) (reading_count after)) counts.Readings _ c.1 in
     record { needed = a.0; new = b.0; readings = d.0 }

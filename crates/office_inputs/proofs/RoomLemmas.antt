@@ -1,5 +1,5 @@
 -- A station written over in its place.
-use Rattle.std.specs.Prelude.{◌≡◌, ℕ, zero, suc, ◌<◌, ◌≤◌, List, [], ◌∷◌, length, slice_get, slice_set, slice_index_or, Option, Some, IfSome, ℤ}
+use Rattle.std.specs.Prelude.{◌≡◌, ℕ, zero, suc, ◌<◌, List, [], ◌∷◌, length, slice_get, slice_set, slice_index_or, Option, Some, IfSome, ℤ}
 use Rattle.std.proofs.Common.{arith, refl, ap, sym, subst, ◌∙◌}
 use Rattle.fixed_units.specs.Quantities.{SiteNumber, site_place}
 use Rattle.rising.specs.Lists.{at, put}
@@ -7,7 +7,7 @@ use Rattle.rising.proofs.Placing.{at_put}
 use Rattle.rising.proofs.Selecting.{slice_get_at}
 use Rattle.office_inputs.specs.KeptStation.{KeptStation}
 use Rattle.office_inputs.specs.Stations.{StationRecord}
-use Rattle.office_inputs.specs.Kept.{records_of, kept_at, place_of_kept, HasReadingRoom}
+use Rattle.office_inputs.specs.Kept.{records_of, kept_at, place_of_kept}
 use Rattle.office_inputs.proofs.KeepLemmas.{at_place}
 
 cons_same : (x y : StationRecord) (xs ys : List StationRecord) → x ≡ y → xs ≡ ys → x ∷ xs ≡ y ∷ ys
@@ -39,11 +39,10 @@ written_found kept site i x y h e p =
     let n : place_of_kept y ≡ site_place site = p ∙ at_place place_of_kept (site_place site) kept x (stands_at kept site i x h.within e h.found) in
     ap (λ (z : List KeptStation). kept_at z site) (h.written y n) ∙ ap (λ (m : ℤ). at place_of_kept m (put place_of_kept y kept)) (sym n) ∙ at_put place_of_kept y kept
 
-pub room_there : (kept : List KeptStation) (site : SiteNumber) (count : ℕ) (y : KeptStation) → kept_at kept site ≡ Some y → count ≤ y.spare → HasReadingRoom kept site count
-room_there kept site count y e l = subst (λ (o : Option KeptStation). IfSome o (λ k. count ≤ k.spare)) (sym e) l
+pub room_there : (P : KeptStation → Type 0) (kept : List KeptStation) (site : SiteNumber) (y : KeptStation) → kept_at kept site ≡ Some y → P y → IfSome (kept_at kept site) P
+room_there P kept site y e l = subst (λ (o : Option KeptStation). IfSome o P) (sym e) l
 
 -- and where room was made the station there has it
-pub room_here : (kept : List KeptStation) (site : SiteNumber) (i : ℕ) (x : KeptStation) (count : ℕ) → StandsAt site i kept → x ≡ slice_index_or kept i x
-    → HasReadingRoom kept site count → count ≤ x.spare
-room_here kept site i x count h e r =
-    subst (λ (o : Option KeptStation). IfSome o (λ k. count ≤ k.spare)) (stands_at kept site i x h.within e h.found) r
+pub room_here : (P : KeptStation → Type 0) (kept : List KeptStation) (site : SiteNumber) (i : ℕ) (x : KeptStation) → StandsAt site i kept → x ≡ slice_index_or kept i x
+    → IfSome (kept_at kept site) P → P x
+room_here P kept site i x h e r = subst (λ (o : Option KeptStation). IfSome o P) (stands_at kept site i x h.within e h.found) r

@@ -104,14 +104,14 @@ unfolding window_of
 window_told gap stages discharges from until sets shifts [] = refl
 window_told gap stages discharges from until sets shifts (r ∷ rs) = refl
 
-same_of : (p q : DayInputs) → p ≡ q → same_inputs p q ≡ true
+pub same_of : (p q : DayInputs) → p ≡ q → same_inputs p q ≡ true
 same_of p q e = (Decides-same_inputs p q).1 e
 
 other_step : (p q : DayInputs) (b : Bool) → (p ≢ q) → same_inputs p q ≡ b → b ≡ false
 other_step p q true n e = absurd (n ((Decides-same_inputs p q).0 e))
 other_step p q false n e = refl
 
-other_of : (p q : DayInputs) → p ≢ q → same_inputs p q ≡ false
+pub other_of : (p q : DayInputs) → p ≢ q → same_inputs p q ≡ false
 other_of p q n = other_step p q (same_inputs p q) n refl
 
 -- a test that tells whether the window of a day alters tells whether its inputs do
@@ -309,5 +309,6 @@ put_station s rs new h k e = record {
   gap_high = h.gap_high;
   corrections_are = h.corrections_are;
   shifts_are = h.shifts_are;
+  entries_at_stamps = h.entries_at_stamps;
   readings_are = subst AreReadings (sym e) (put_all_are rs s.readings k h.readings_are);
 }

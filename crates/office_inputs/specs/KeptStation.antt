@@ -3,10 +3,12 @@ use Rattle.std.specs.Prelude.{ℕ, ◌≤◌, List, All}
 use Rattle.fixed_units.specs.Quantities.{IsSite, IsStage, IsStamp}
 use Rattle.fixed_units.specs.declared.readings.Reading.{Reading}
 use Rattle.readings.specs.Readings.{IsRising}
+use Rattle.curves.specs.declared.entries.Entry.{Entry}
 use Rattle.curves.specs.Entries.{IsSeries}
-use Rattle.curves.specs.Corrections.{AreCorrections}
+use Rattle.curves.specs.Corrections.{Corrections, AreCorrections}
 use Rattle.civil_days.specs.Starts.{IsZone}
 use Rattle.day_inputs.specs.DayInputs.{most_gap}
+use Rattle.office_inputs.specs.Series.{SeriesRoom}
 use Rattle.office_inputs.specs.Stations.{StationRecord}
 
 -- readings in force: stages at stamps, rising by instant
@@ -14,6 +16,13 @@ pub record AreReadings (readings : List Reading) : Type 0 where
   pub rising : IsRising readings
   pub stages : All (λ r. IsStage r.raw) readings
   pub stamps : All (λ r. IsStamp r.at) readings
+
+-- the entries of the correction sets and of the shifts stand at stamps
+pub record AreAtStamps (sets : Corrections) (series : List Entry) : Type 0 where
+  pub first : All (λ e. IsStamp e.at) sets.first
+  pub second : All (λ e. IsStamp e.at) sets.second
+  pub third : All (λ e. IsStamp e.at) sets.third
+  pub shifts : All (λ e. IsStamp e.at) series
 
 -- what each station keeps to
 pub record IsStation (station : StationRecord) : Type 0 where
@@ -23,9 +32,11 @@ pub record IsStation (station : StationRecord) : Type 0 where
   pub gap_high : station.gap ≤ most_gap
   pub corrections_are : AreCorrections station.corrections
   pub shifts_are : IsSeries station.shifts
+  pub entries_at_stamps : AreAtStamps station.corrections station.shifts
   pub readings_are : AreReadings station.readings
 
--- a station that is kept, and for how many more readings it has room
+-- a station that is kept, and for how many more readings, and more entries of each series, it has room
 pub record KeptStation : Type 0 where
   pub station : StationRecord
   pub spare : ℕ
+  pub entry_room : SeriesRoom

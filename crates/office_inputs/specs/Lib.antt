@@ -4,5 +4,6 @@ pub mod Kept
 pub mod KeptStation
 pub mod Places
 pub mod Refusals
+pub mod Series
 pub mod Stations
 pub mod Touched

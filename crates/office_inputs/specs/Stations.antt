@@ -1,5 +1,5 @@
 -- The inputs in force: the record of each station that is kept, and what an edit makes of them.
-use Rattle.std.specs.Prelude.{ℕ, ◌*◌, List, [], Option, Some, None, ℤ, ◌+ℤ◌, pos, fold}
+use Rattle.std.specs.Prelude.{ℕ, ◌*◌, Bool, List, [], Option, Some, None, ℤ, ◌+ℤ◌, pos, fold}
 use Rattle.fixed_units.specs.Quantities.{SiteNumber, site_place}
 use Rattle.fixed_units.specs.declared.readings.Reading.{Reading}
 use Rattle.rising.specs.Lists as lists
@@ -7,13 +7,17 @@ use Rattle.readings.specs.Readings.{put_all}
 use Rattle.readings.specs.Window.{window}
 use Rattle.curves.specs.declared.entries.Entry.{Entry}
 use Rattle.curves.specs.Corrections.{Corrections}
+use Rattle.curves.specs.Entries as series
 use Rattle.civil_days.specs.Starts.{day_start_of}
 use Rattle.day_inputs.specs.DayInputs.{day_inputs}
 use Rattle.day_inputs.specs.declared.day_inputs.DayInputs.{DayInputs}
 use Rattle.day_inputs.specs.declared.day_inputs.DayInputs.TheVariants.{Empty}
 use Rattle.edits.specs.declared.content.What.{What}
-use Rattle.edits.specs.declared.content.What.TheVariants.{AddStation, SetStation, PutReadings}
+use Rattle.edits.specs.declared.content.What.TheVariants.{AddStation, SetStation, PutReadings, PutCorrection, DropCorrection, PutShift, DropShift}
 use Rattle.edits.specs.declared.content.Edit.{Edit}
+use Rattle.office_inputs.specs.Series.{corrections_with, entries_in, entry_of, shifts_with}
+use Rattle.office_inputs.specs.declared.series.StationSeries.{StationSeries}
+use Rattle.office_inputs.specs.declared.series.StationSeries.TheVariants.{Correction, Shift}
 
 -- what is in force at a station
 pub record StationRecord : Type 0 where
@@ -85,6 +89,31 @@ with_readings readings s = record {
   readings = put_all readings s.readings;
 }
 
+-- the entries of a series of a station
+abbrev pub series_of : StationSeries → StationRecord → List Entry
+series_of which s = entries_in which s.corrections s.shifts
+
+-- a station with one of its series changed: all else of it stays
+abbrev pub with_series : StationSeries → (List Entry → List Entry) → StationRecord → StationRecord
+with_series which change s = record {
+  site = s.site;
+  name = s.name;
+  zone = s.zone;
+  gap = s.gap;
+  stage_array = s.stage_array;
+  discharge_array = s.discharge_array;
+  corrections = corrections_with which change s.corrections;
+  shifts = shifts_with which change s.shifts;
+  readings = s.readings;
+}
+
+-- a station with an entry put into a series, in place of the one at its instant, and with the one at an instant taken out
+abbrev pub with_entry : StationSeries → Entry → StationRecord → StationRecord
+with_entry which entry s = with_series which (series.put entry) s
+
+abbrev pub without_entry : StationSeries → ℤ → StationRecord → StationRecord
+without_entry which at s = with_series which (series.without at) s
+
 -- the stations after an edit of a site
 abbrev pub after_what : SiteNumber → What → List StationRecord → List StationRecord
 after_what site (AddStation name zone gap stage_array discharge_array) stations =
@@ -92,6 +121,10 @@ after_what site (AddStation name zone gap stage_array discharge_array) stations 
 after_what site (SetStation name gap stage_array discharge_array) stations =
     changed_at site (described name gap stage_array discharge_array) stations
 after_what site (PutReadings readings) stations = changed_at site (with_readings readings) stations
+after_what site (PutCorrection set at curve prorate) stations = changed_at site (with_entry (Correction set) (entry_of at curve prorate)) stations
+after_what site (DropCorrection set at) stations = changed_at site (without_entry (Correction set) at) stations
+after_what site (PutShift at curve prorate) stations = changed_at site (with_entry Shift (entry_of at curve prorate)) stations
+after_what site (DropShift at) stations = changed_at site (without_entry Shift at) stations
 
 abbrev pub stations_after : List StationRecord → Edit → List StationRecord
 stations_after stations edit = after_what edit.site edit.what stations

@@ -2,19 +2,23 @@
 
 ghost use Rattle.std.specs.Prelude.{◌≡◌, ℕ, List, ◌+◌, ◌≤◌, ◌<◌, false, None, [], length, All, vec_len, vec_capacity};
 ghost use Rattle.day_inputs.specs.DayInputs.{most_gap};
-ghost use Rattle.edits.specs.Lawful.{IsPutReading};
-ghost use Rattle.office_inputs.specs.Kept.{HasRoom, IsStagedName, IsStagedStation, HasReadingRoom, IsStagedNew, AreStations, in_force, records_of, kept_at};
+ghost use Rattle.edits.specs.Lawful.{IsPutCurve, IsPutReading};
+ghost use Rattle.fixed_units.specs.Quantities.{IsStamp};
+ghost use Rattle.office_inputs.specs.Kept.{HasRoom, IsStagedName, IsStagedStation, HasReadingRoom, HasEntryRoom, IsStagedNew, AreStations, in_force, records_of, kept_at};
 ghost use Rattle.office_inputs.specs.Places.{IsPlace, IsPlaceOf};
 ghost use Rattle.office_inputs.specs.Refusals.{refusal_of, reading_count, passes};
-ghost use Rattle.office_inputs.specs.Stations.{StationRecord, stations_after, changed_at, described, with_readings, place_of};
+ghost use Rattle.office_inputs.specs.Series.{IsOfStation};
+ghost use Rattle.office_inputs.specs.Stations.{StationRecord, stations_after, changed_at, described, with_readings, with_entry, without_entry, place_of};
 ghost use Rattle.rising.specs.Lists.{put};
 
 use crate::inputs::Inputs;
 use crate::places::Place;
+use crate::series::StationSeries;
 use crate::staged::Staged;
 use crate::stations::Station;
+use curves::Entry;
 use edits::{Edit, Name, What};
-use fixed_units::{Reading, RoundingArray, Site};
+use fixed_units::{Reading, RoundingArray, Second, Site};
 use rising::put_in;
 use std::mem;
 
@@ -47,6 +51,31 @@ impl Inputs {
                 ..
             } => self.describe_staged(place, *gap, *stage_array, *discharge_array),
             What::PutReadings { readings } => self.put(place, readings.as_slice()),
+            What::PutCorrection {
+                set,
+                at,
+                curve,
+                prorate,
+            } => {
+                let entry = Entry {
+                    at: *at,
+                    curve: *curve,
+                    prorate: *prorate,
+                };
+                self.put_entry(place, StationSeries::Correction(*set), entry)
+            }
+            What::DropCorrection { set, at } => {
+                self.drop_entry(place, StationSeries::Correction(*set), *at)
+            }
+            What::PutShift { at, curve, prorate } => {
+                let entry = Entry {
+                    at: *at,
+                    curve: *curve,
+                    prorate: *prorate,
+                };
+                self.put_entry(place, StationSeries::Shift, entry)
+            }
+            What::DropShift { at } => self.drop_entry(place, StationSeries::Shift, *at),
         }
     }
 
@@ -101,6 +130,29 @@ impl Inputs {
         let added = put_readings_in(&mut self.stations, place, readings);
         self.readings += added as u64;
     }
+
+    /// Puts an entry into a series at a place.
+    fn put_entry(&mut self, place: Place, which: StationSeries, entry: Entry)
+        requires place { IsPlace (in_force self.old) place }
+        requires series { IsOfStation which }
+        requires room { HasEntryRoom self.old.kept place.site which }
+        requires lawful { IsPutCurve entry.curve }
+        requires stamp { IsStamp entry.at }
+        ensures stations { in_force self.new ≡ changed_at place.site (with_entry which entry) (in_force self.old) }
+        ensures limits { self.new.limits ≡ self.old.limits }
+    {
+        put_entry_in(&mut self.stations, place, which, entry);
+    }
+
+    /// Takes the entry at an instant out of a series at a place.
+    fn drop_entry(&mut self, place: Place, which: StationSeries, at: Second)
+        requires place { IsPlace (in_force self.old) place }
+        requires series { IsOfStation which }
+        ensures stations { in_force self.new ≡ changed_at place.site (without_entry which at) (in_force self.old) }
+        ensures limits { self.new.limits ≡ self.old.limits }
+    {
+        drop_entry_in(&mut self.stations, place, which, at);
+    }
 }
 
 /// Adds a station that is not kept yet and has no readings.
@@ -152,5 +204,36 @@ fn put_readings_in(stations: &mut Vec<Station>, place: Place, readings: &[Readin
     match place.index() {
         Some(index) => stations[index].put(readings),
         None => 0,
+    }
+}
+
+/// Puts an entry into a series of the station at a place, where its site is kept.
+fn put_entry_in(stations: &mut Vec<Station>, place: Place, which: StationSeries, entry: Entry)
+    requires kept { AreStations stations.old.items }
+    requires place { IsPlace (records_of stations.old.items) place }
+    requires series { IsOfStation which }
+    requires room { HasEntryRoom stations.old.items place.site which }
+    requires lawful { IsPutCurve entry.curve }
+    requires stamp { IsStamp entry.at }
+    ensures records { records_of stations.new.items ≡ changed_at place.site (with_entry which entry) (records_of stations.old.items) }
+    ensures count { reading_count (records_of stations.new.items) ≡ reading_count (records_of stations.old.items) }
+    ensures kept { AreStations stations.new.items }
+{
+    if let Some(index) = place.index() {
+        stations[index].put_entry(which, entry);
+    }
+}
+
+/// Takes the entry at an instant out of a series of the station at a place, where its site is kept.
+fn drop_entry_in(stations: &mut Vec<Station>, place: Place, which: StationSeries, at: Second)
+    requires kept { AreStations stations.old.items }
+    requires place { IsPlace (records_of stations.old.items) place }
+    requires series { IsOfStation which }
+    ensures records { records_of stations.new.items ≡ changed_at place.site (without_entry which at) (records_of stations.old.items) }
+    ensures count { reading_count (records_of stations.new.items) ≡ reading_count (records_of stations.old.items) }
+    ensures kept { AreStations stations.new.items }
+{
+    if let Some(index) = place.index() {
+        stations[index].drop_entry(which, at);
     }
 }

@@ -6,7 +6,9 @@ ghost use Rattle.office_inputs.specs.Refusals.{adds_station};
 ghost use Rattle.office_inputs.specs.Stations.{StationRecord, station_of};
 
 use crate::inputs::only_one;
+use crate::series::StationSeries;
 use crate::stations::Station;
+use curves::Entry;
 use edits::{Edit, What};
 use fixed_units::Day;
 use std::sync::ledger::Ledger;
@@ -40,6 +42,31 @@ impl Station {
             What::PutReadings { readings } => {
                 self.keeps_day_with(only_one(readings.as_slice()), day)
             }
+            What::PutCorrection {
+                set,
+                at,
+                curve,
+                prorate,
+            } => {
+                let entry = Entry {
+                    at: *at,
+                    curve: *curve,
+                    prorate: *prorate,
+                };
+                self.keeps_day_with_entry(StationSeries::Correction(*set), &entry, day)
+            }
+            What::DropCorrection { set, at } => {
+                self.keeps_day_without_entry(StationSeries::Correction(*set), *at, day)
+            }
+            What::PutShift { at, curve, prorate } => {
+                let entry = Entry {
+                    at: *at,
+                    curve: *curve,
+                    prorate: *prorate,
+                };
+                self.keeps_day_with_entry(StationSeries::Shift, &entry, day)
+            }
+            What::DropShift { at } => self.keeps_day_without_entry(StationSeries::Shift, *at, day),
         }
     }
 }

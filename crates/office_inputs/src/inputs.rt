@@ -7,15 +7,13 @@ ghost use Rattle.office_inputs.specs.Kept.{AreStations, HasRoom, in_force};
 ghost use Rattle.office_inputs.specs.Places.{IsPlace, IsPlaceOf};
 ghost use Rattle.office_inputs.specs.Refusals.{refusal_of};
 ghost use Rattle.office_inputs.specs.Stations.{station_of, stations_after, inputs_of_day};
-ghost use Rattle.office_inputs.specs.Touched.{IsUsedSpan, between_readings, touched_of};
-ghost use Rattle.rising.specs.Ends.{first, last};
+ghost use Rattle.office_inputs.specs.Touched.{IsUsedSpan};
 
 use crate::limits::Limits;
 use crate::places::{Place, find_place, station_there};
 use crate::refusals::{Refusal, Which};
 use crate::staged::Staged;
 use crate::stations::Station;
-use crate::touched::Touched;
 use civil_days::StationZone;
 use day_inputs::DayInputs;
 use edits::{Edit, Name, What};
@@ -146,17 +144,6 @@ impl Inputs {
             None => None,
         }
     }
-
-    /// What an edit touches of the station of its site as it is before. It takes no memory.
-    pub fn touched(&self, edit: &Edit) -> Touched
-        ensures { result ≡ touched_of (in_force self.now) edit.now }
-    {
-        match &edit.what {
-            What::AddStation { .. } => Touched::Nothing,
-            What::SetStation { .. } => Touched::Cells,
-            What::PutReadings { readings } => touched_by(readings.as_slice()),
-        }
-    }
 }
 
 /// The stations that are kept rise by site, and each keeps to its ranges.
@@ -172,18 +159,4 @@ pub(crate) fn only_one(readings: &[Reading]) -> Reading
     ensures { readings.now ≡ result ∷ [] }
 {
     readings[0]
-}
-
-/// What putting readings touches.
-fn touched_by(readings: &[Reading]) -> Touched
-    ensures { result ≡ between_readings (first readings.now) (last readings.now) }
-{
-    match (readings.first().copied(), readings.last().copied()) {
-        (Some(first), Some(last)) => Touched::Between {
-            first: first.at,
-            last: last.at,
-            cells_only: false,
-        },
-        _ => Touched::Nothing,
-    }
 }

@@ -3,6 +3,7 @@
 
 mod applying;
 mod comparing;
+mod days;
 pub mod inputs;
 pub mod laws;
 pub mod limits;
@@ -10,6 +11,7 @@ pub mod places;
 pub mod refusals;
 mod refusing;
 pub mod rooms;
+pub mod series;
 pub mod staged;
 pub mod stations;
 pub mod touched;
@@ -19,5 +21,6 @@ pub use inputs::{Inputs, stations_keep_to_their_ranges};
 pub use limits::Limits;
 pub use places::Place;
 pub use refusals::{Full, Refusal, Which};
+pub use series::StationSeries;
 pub use stations::Station;
 pub use touched::Touched;

@@ -11,6 +11,8 @@ pub enum Which {
     Readings,
     /// The readings of a local day of a station.
     DayReadings,
+    /// The entries of a correction set, or of the shifts, of a station.
+    Entries,
 }
 
 /// What a history has no room for.
@@ -37,6 +39,9 @@ pub enum Refusal {
     /// A count would pass its limit.
     #[error("a count would pass its limit")]
     Limit(Which),
+    /// A drop finds no entry at its instant in its series.
+    #[error("nothing stands where the edit would take it out")]
+    NoEntry,
     /// The history has no room.
     #[error("the history is full")]
     HistoryFull(Full),

@@ -1,23 +1,27 @@
 //! Which edits the inputs in force refuse.
 
-ghost use Rattle.std.specs.Prelude.{◌≡◌, length};
+ghost use Rattle.std.specs.Prelude.{◌≡◌, length, None, Some};
 ghost use Rattle.fixed_units.specs.Quantities.{IsStamp};
-ghost use Rattle.office_inputs.specs.Counting.{reading_limit, station_limit, without_station, IsRefusalAt, IsLimitedOn};
+ghost use Rattle.office_inputs.specs.Counting.{entry_limit, reading_limit, station_limit, without_station, IsRefusalAt, IsLimitedOn};
 ghost use Rattle.edits.specs.Lawful.{IsLawful};
 ghost use Rattle.office_inputs.specs.Kept.{in_force};
 ghost use Rattle.office_inputs.specs.Places.{IsPlaceOf};
-ghost use Rattle.office_inputs.specs.Refusals.{refusal_of, limit_refusal, reading_count};
+ghost use Rattle.office_inputs.specs.Series.{IsOfStation};
+ghost use Rattle.office_inputs.specs.Refusals.{refusal_of, lacks_entry, limit_refusal, reading_count, refusal_by};
 
 use crate::inputs::{Inputs, only_one, stations_keep_to_their_ranges};
+use crate::limits::MOST_ENTRIES;
 use crate::places::Place;
 use crate::refusals::{Refusal, Which};
+use crate::series::StationSeries;
 use crate::stations::Station;
 use edits::{Edit, What};
-use fixed_units::{Day, Reading};
+use fixed_units::{Day, Reading, Second};
 
 impl Inputs {
     /// Why the inputs in force refuse an edit, or `None` exactly where they do not: no station of the site, a station that is kept
-    /// already, or the first count that the edit would raise past its limit. It takes no memory.
+    /// already, the first count that the edit would raise past its limit, or a drop that finds no entry at its instant in its
+    /// series. It takes no memory.
     pub fn refusal(&self, edit: &Edit) -> Option<Refusal>
         ensures { result ≡ refusal_of self.now.limits (in_force self.now) edit.now }
     {
@@ -60,6 +64,14 @@ impl Inputs {
             What::PutReadings { readings } => {
                 self.reading_limit(station, only_one(readings.as_slice()))
             }
+            What::PutCorrection { set, at, .. } => {
+                entry_limit(station, StationSeries::Correction(*set), *at)
+            }
+            What::DropCorrection { set, at } => {
+                entry_lack(station, StationSeries::Correction(*set), *at)
+            }
+            What::PutShift { at, .. } => entry_limit(station, StationSeries::Shift, *at),
+            What::DropShift { at } => entry_lack(station, StationSeries::Shift, *at),
         }
     }
 
@@ -99,4 +111,27 @@ impl Inputs {
         }
         None
     }
+}
+
+/// Whether an entry put at an instant would raise its series past the limit: it raises nothing where one stands there.
+fn entry_limit(station: &Station, which: StationSeries, at: Second) -> Option<Refusal>
+    requires { IsOfStation which }
+    ensures { result ≡ limit_refusal (entry_limit station.now.station which at) }
+{
+    let full = station.entries(which).len() >= MOST_ENTRIES;
+    if full && !station.has_entry_at(which, at) {
+        return Some(Refusal::Limit(Which::Entries));
+    }
+    None
+}
+
+/// Whether no entry stands at an instant of the series that one is to be taken out of.
+fn entry_lack(station: &Station, which: StationSeries, at: Second) -> Option<Refusal>
+    requires { IsOfStation which }
+    ensures { result ≡ refusal_by None (lacks_entry (Some station.now.station) which at) }
+{
+    if station.has_entry_at(which, at) {
+        return None;
+    }
+    Some(Refusal::NoEntry)
 }

@@ -4,12 +4,14 @@ ghost use Rattle.std.specs.Prelude.{◌≡◌, ◌≤◌, ◌<◌, OnOk, IfSome,
 ghost use Rattle.std.specs.Prelude.{vec_len, vec_capacity};
 ghost use Rattle.civil_days.specs.Starts.{IsZone};
 ghost use Rattle.day_inputs.specs.DayInputs.{most_gap};
-ghost use Rattle.office_inputs.specs.Kept.{HasRoom, IsStagedStation, IsStagedName, HasReadingRoom, AreStations, in_force, records_of};
+ghost use Rattle.office_inputs.specs.Kept.{HasRoom, IsStagedStation, IsStagedName, HasReadingRoom, HasEntryRoom, AreStations, in_force, records_of};
 ghost use Rattle.office_inputs.specs.Places.{IsPlace, IsPlaceOf};
+ghost use Rattle.office_inputs.specs.Series.{IsOfStation};
 ghost use Rattle.office_inputs.specs.Stations.{new_station};
 
 use crate::inputs::Inputs;
 use crate::places::Place;
+use crate::series::StationSeries;
 use crate::staged::Staged;
 use crate::stations::Station;
 use crate::zones::zone_of;
@@ -44,6 +46,11 @@ impl Inputs {
             } => self.stage_station(edit.site, name, zone, *gap, *stage_array, *discharge_array),
             What::SetStation { name, .. } => self.stage_name(name),
             What::PutReadings { readings } => self.reserve(place, readings.as_slice().len()),
+            What::PutCorrection { set, .. } => {
+                self.reserve_entry(place, StationSeries::Correction(*set))
+            }
+            What::PutShift { .. } => self.reserve_entry(place, StationSeries::Shift),
+            What::DropCorrection { .. } | What::DropShift { .. } => Ok(()),
         }
     }
 
@@ -99,6 +106,17 @@ impl Inputs {
     {
         reserve_in(&mut self.stations, place, count)
     }
+
+    /// Makes room for one entry more in a series of the station at a place, where its site is kept.
+    fn reserve_entry(&mut self, place: Place, which: StationSeries) -> Result<(), NoMemory>
+        requires place { IsPlace (in_force self.old) place }
+        requires series { IsOfStation which }
+        ensures stations { in_force self.new ≡ in_force self.old }
+        ensures limits { self.new.limits ≡ self.old.limits }
+        ensures room { OnOk result (HasEntryRoom self.new.kept place.site which) }
+    {
+        reserve_entry_in(&mut self.stations, place, which)
+    }
 }
 
 /// Makes room for so many readings more of the station at a place among the stations that are kept.
@@ -113,6 +131,27 @@ fn reserve_in(stations: &mut Vec<Station>, place: Place, count: usize) -> Result
 {
     match place.index() {
         Some(index) => stations[index].reserve(count),
+        None => Ok(()),
+    }
+}
+
+/// Makes room for one entry more in a series of the station at a place among the stations that are kept.
+fn reserve_entry_in(
+    stations: &mut Vec<Station>,
+    place: Place,
+    which: StationSeries,
+) -> Result<(), NoMemory>
+    requires stations { AreStations stations.old.items }
+    requires place { IsPlace (records_of stations.old.items) place }
+    requires series { IsOfStation which }
+    ensures records { records_of stations.new.items ≡ records_of stations.old.items }
+    ensures kept { AreStations stations.new.items }
+    ensures len { vec_len stations.new ≡ vec_len stations.old }
+    ensures capacity { vec_capacity stations.new ≡ vec_capacity stations.old }
+    ensures room { OnOk result (HasEntryRoom stations.new.items place.site which) }
+{
+    match place.index() {
+        Some(index) => stations[index].reserve_entry(which),
         None => Ok(()),
     }
 }

@@ -12,12 +12,14 @@ use Rattle.day_cells.specs.KeptDays.{KeptDays}
 use Rattle.day_inputs.proofs.EqualityLemmas.{Decides-same_inputs}
 use Rattle.edits.specs.declared.content.Edit.{Edit}
 use Rattle.edits.specs.declared.content.What.{What}
-use Rattle.edits.specs.declared.content.What.TheVariants.{AddStation, SetStation, PutReadings}
+use Rattle.edits.specs.declared.content.What.TheVariants.{AddStation, SetStation, PutReadings, PutCorrection, DropCorrection, PutShift, DropShift}
 use Rattle.fixed_units.specs.Calendar.{calendar}
 use Rattle.fixed_units.specs.Quantities.{SiteNumber, IsDay, site_place, same_site}
 use Rattle.fixed_units.proofs.CalendarLemmas.{calendar_any}
 use Rattle.office_inputs.specs.Changes.{keeps_day, changed_days}
-use Rattle.office_inputs.specs.Stations.{StationRecord, place_of, station_of, with_changed, new_station, described, with_readings, after_what, stations_after, day_of_station, inputs_of_day}
+use Rattle.office_inputs.specs.Series.{entry_of}
+use Rattle.office_inputs.specs.Stations.{StationRecord, place_of, station_of, with_changed, new_station, described, with_readings, with_entry, without_entry, after_what, stations_after, day_of_station, inputs_of_day}
+use Rattle.office_inputs.specs.declared.series.StationSeries.TheVariants.{Correction, Shift}
 use Rattle.rising.specs.Lists.{at}
 use Rattle.rising.proofs.Placing.{at_put_other}
 use Rattle.recompute.specs.Cells.{SaysTheSame, Marks, TakesOut, Publishes, awaited_in, is_day_of}
@@ -52,6 +54,14 @@ module _ (own site : SiteNumber) (stations : List StationRecord) (apart : site_p
       at_put_other place_of (new_station own name zone gap stages discharges) (site_place site) stations apart
   other_after (SetStation name gap stages discharges) = other_changed (described name gap stages discharges) (station_of stations own) refl (λ s. refl)
   other_after (PutReadings readings) = other_changed (with_readings readings) (station_of stations own) refl (λ s. refl)
+  other_after (PutCorrection set at curve prorate) =
+      other_changed (with_entry (Correction set) (entry_of at curve prorate)) (station_of stations own) refl (λ s. refl)
+  other_after (DropCorrection set at) =
+      other_changed (without_entry (Correction set) at) (station_of stations own) refl (λ s. refl)
+  other_after (PutShift at curve prorate) =
+      other_changed (with_entry Shift (entry_of at curve prorate)) (station_of stations own) refl (λ s. refl)
+  other_after (DropShift at) =
+      other_changed (without_entry Shift at) (station_of stations own) refl (λ s. refl)
 
 -- the same day of two sites that are one
 same_day : (stations : List StationRecord) (a b : SiteNumber) (day : ℤ) → site_place a ≡ site_place b → inputs_of_day stations a day ≡ inputs_of_day stations b day

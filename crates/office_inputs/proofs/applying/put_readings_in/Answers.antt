@@ -1,5 +1,5 @@
 -- The station is written over, with the readings put.
-use Rattle.std.specs.Prelude.{length}
+use Rattle.std.specs.Prelude.{length, ◌≤◌}
 use Rattle.std.proofs.Common.{arith, ap, refl, sym, ◌∙◌}
 use Rattle.fixed_units.specs.Quantities.{site_place}
 use Rattle.office_inputs.specs.Kept.{records_of}
@@ -15,7 +15,7 @@ index_mut-requires c = omega (arith, index_within c.args.stations.now.items c.ar
 pub put-requires-clause-room : goal.put-requires-clause-room
 put-requires-clause-room c =
     let h = stands c.args.stations.now.items c.args.place c.in-Some.index c.requires.kept.rising c.requires.place (sym c.index.ensures ∙ c.in-Some.is) in
-    room_here c.args.stations.now.items c.args.place.site c.in-Some.index c.index_mut.result.now (length c.args.readings.now) h c.index_mut.ensures.value c.requires.room
+    room_here (λ k. length c.args.readings.now ≤ k.spare) c.args.stations.now.items c.args.place.site c.in-Some.index c.index_mut.result.now h c.index_mut.ensures.value c.requires.room
 
 pub returns-in-Some-clause-records : goal.returns-in-Some-clause-records
 returns-in-Some-clause-records c =

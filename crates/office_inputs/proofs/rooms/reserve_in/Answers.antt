@@ -1,4 +1,5 @@
 -- The station is written over with the same record and more room.
+use Rattle.std.specs.Prelude.{◌≤◌}
 use Rattle.std.proofs.Common.{arith, ap, sym, ◌∙◌}
 use Rattle.std.proofs.lemmas.Result.{on_ok_weaker}
 use Rattle.fixed_units.specs.Quantities.{site_place}
@@ -19,10 +20,10 @@ pub returns-in-Some-clause-room : goal.returns-in-Some-clause-room
 returns-in-Some-clause-room c =
     let h = stands c.args.stations.now.items c.args.place c.in-Some.index c.requires.stations.rising c.requires.place (sym c.index.ensures ∙ c.in-Some.is) in
     on_ok_weaker c.reserve.result
-    (room_there _ c.args.place.site c.args.count c.reserve.new.self
+    (room_there (λ k. c.args.count ≤ k.spare) _ c.args.place.site c.reserve.new.self
     (written_found c.args.stations.now.items c.args.place.site c.in-Some.index c.index_mut.result.now c.reserve.new.self h c.index_mut.ensures.value
     (ap (λ (s : StationRecord). site_place s.site) c.reserve.ensures.station)))
     c.reserve.ensures.room
 
 pub returns-in-None-clause-room : goal.returns-in-None-clause-room
-returns-in-None-clause-room c = no_room_asked c.args.stations.now.items c.args.place c.args.count c.requires.place (sym c.index.ensures ∙ c.in-None.is)
+returns-in-None-clause-room c = no_room_asked (λ k. c.args.count ≤ k.spare) c.args.stations.now.items c.args.place c.requires.place (sym c.index.ensures ∙ c.in-None.is)

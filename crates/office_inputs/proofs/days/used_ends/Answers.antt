@@ -1,7 +1,7 @@
 -- Where a reading is used, the last one is found too.
 use Rattle.std.proofs.Common.{sym, ◌∙◌}
 use Rattle.office_inputs.proofs.SpanLemmas.{ends_agree_back}
-use Rattle.office_inputs.proofs.stations.used_ends.Goals as goal
+use Rattle.office_inputs.proofs.days.used_ends.Goals as goal
 
 pub unreachable-requires : goal.unreachable-requires
 unreachable-requires c =

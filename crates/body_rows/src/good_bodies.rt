@@ -1,6 +1,7 @@
 //! Bodies that are edits, in each spelling.
 
 use crate::fixtures::{Sent, is_read};
+use json::Scratch;
 use std::alloc::Global;
 
 const ADDITION: &Sent = &Sent::Addition("POTOMAC", 60);
@@ -54,10 +55,69 @@ const BODIES: [(&str, &Sent); 9] = [
     ),
 ];
 
-/// The number from 0 on of the first body that is read otherwise or not at all.
+/// Bodies of corrections and shifts, and of rounding arrays, and what each sends: in order, in another order with spaces, with the
+/// ends of ranges, with a member that comes twice, and with escapes.
+const ENTRIES: [(&str, &Sent); 10] = [
+    (
+        r#"{"kind":"PutCorrection","by":"AB","ref":"a-1","site":"01646500","set":1,"at":"2023-09-01T00:00:00Z","points":[["0","0.10"]],"prorate":false}"#,
+        &Sent::Correction(1, "2023-09-01T00:00:00Z", &[(0, 100_000)], false),
+    ),
+    (
+        r#" { "prorate" : true , "points" : [ [ "0" , "0.00" ] , [ "5" , "-.05" ] , [ "10.5" , "+0" ] ] , "at" : "2023-04-01T00:00:00Z" , "set" : 3 , "site" : "01646500" , "ref" : "a-1" , "by" : "AB" , "kind" : "PutCorrection" } "#,
+        &Sent::Correction(
+            3,
+            "2023-04-01T00:00:00Z",
+            &[(0, 0), (5_000_000, -50_000), (10_500_000, 0)],
+            true,
+        ),
+    ),
+    (
+        r#"{"kind":"PutCorrection","by":"AB","ref":"a-1","site":"01646500","set":2,"at":"2099-12-28T23:59:59Z","points":[["-100000","1000"],["100000.000000","-1000"]],"prorate":false}"#,
+        &Sent::Correction(
+            2,
+            "2099-12-28T23:59:59Z",
+            &[
+                (-100_000_000_000, 1_000_000_000),
+                (100_000_000_000, -1_000_000_000),
+            ],
+            false,
+        ),
+    ),
+    (
+        r#"{"kind":"PutCorrection","by":"AB","ref":"a-1","site":"01646500","set":0,"at":"2023-06-01T00:00:00Z","points":[["0","0.10"]],"prorate":true,"s\u0065t":2}"#,
+        &Sent::Correction(2, "2023-06-01T00:00:00Z", &[(0, 100_000)], true),
+    ),
+    (
+        r#"{"kind":"DropCorrection","by":"AB","ref":"a-1","site":"01646500","set":2,"at":"1900-01-03T00:00:00Z"}"#,
+        &Sent::DroppedCorrection(2, "1900-01-03T00:00:00Z"),
+    ),
+    (
+        r#"{"kind":"PutShift","by":"AB","ref":"a-1","site":"01646500","at":"2023-04-01T00:00:00Z","points":[["0","0"],["0.000001","0.000001"]],"prorate":true}"#,
+        &Sent::Shift("2023-04-01T00:00:00Z", &[(0, 0), (1, 1)], true),
+    ),
+    (
+        r#"{"kind":"PutShift","by":"AB","ref":"a-1","site":"01646500","at":"2023-04-01T00:00:00Z","po\u0069nts":[["-1.5","1\u002e25"]],"prorate":false}"#,
+        &Sent::Shift("2023-04-01T00:00:00Z", &[(-1_500_000, 1_250_000)], false),
+    ),
+    (
+        r#"{"kind":"DropShift","by":"AB","ref":"a-1","site":"01646500","at":"2023-04-01T00:00:00Z"}"#,
+        &Sent::DroppedShift("2023-04-01T00:00:00Z"),
+    ),
+    (
+        r#"{"kind":"SetStation","by":"AB","ref":"a-1","site":"01646500","name":"POTOMAC","gap":60,"stage_array":"9999999992","discharge_array":"0222233332"}"#,
+        &Sent::Arrays("9999999992", "0222233332"),
+    ),
+    (
+        r#"{"kind":"SetStation","by":"AB","ref":"a-1","site":"01646500","name":"POTOMAC","gap":60,"stage_array":"0000000000","discharge_array":"1234567896"}"#,
+        &Sent::Arrays("0000000000", "1234567896"),
+    ),
+];
+
+/// The number from 0 on of the first body that is read otherwise or not at all, where all are read with one scratch.
 fn first_otherwise(alloc: Global, bodies: &[(&str, &Sent)]) -> Option<usize> {
+    let mut scratch = Scratch::new(alloc);
     for (row, (body, sent)) in bodies.iter().enumerate() {
-        if is_read(alloc, body.as_bytes(), sent) != Some(true) {
+        if is_read(alloc, body.as_bytes(), sent, &mut scratch) != Some(true) {
             return Some(row);
         }
     }
@@ -67,5 +127,11 @@ fn first_otherwise(alloc: Global, bodies: &[(&str, &Sent)]) -> Option<usize> {
 #[test]
 fn bodies_are_read_in_each_spelling(rt: HostRuntime) {
     let otherwise = first_otherwise(rt.alloc(), &BODIES);
+    assert!(rt; otherwise.is_none(), "{otherwise:?}");
+}
+
+#[test]
+fn entries_are_read_in_each_spelling(rt: HostRuntime) {
+    let otherwise = first_otherwise(rt.alloc(), &ENTRIES);
     assert!(rt; otherwise.is_none(), "{otherwise:?}");
 }

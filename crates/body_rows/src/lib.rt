@@ -2,6 +2,8 @@
 #![tactic(auto)]
 
 #[cfg(test)]
+mod entry_refusals;
+#[cfg(test)]
 mod fixtures;
 #[cfg(test)]
 mod good_bodies;

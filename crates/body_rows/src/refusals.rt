@@ -1,11 +1,9 @@
 //! What refuses a body: the first member that is missing or ill formed, a further one, or the text itself.
 
-use crate::fixtures::is_refused;
+use crate::fixtures::{Row, first_misnamed_of_all, is_refused};
 use edit_bodies::{BodyFault, Member};
+use json::Scratch;
 use std::alloc::Global;
-
-/// A body, and the member that refuses it.
-type Row = (&'static str, Member);
 
 /// Each member is missing once, and the first of two.
 const MISSING: [Row; 16] = [
@@ -351,29 +349,9 @@ const TABLES: [(&str, &[Row]); 7] = [
     ("other values", &VALUES),
 ];
 
-/// The number from 0 on of the first row whose body another member refuses, or none.
-fn first_misnamed(alloc: Global, rows: &[Row]) -> Option<usize> {
-    for (row, (body, member)) in rows.iter().enumerate() {
-        if !is_refused(alloc, body.as_bytes(), BodyFault::Body(*member)) {
-            return Some(row);
-        }
-    }
-    None
-}
-
-/// The first table with such a row, and the number of the row.
-fn first_misnamed_of_all(alloc: Global) -> Option<(&'static str, usize)> {
-    for (table, rows) in &TABLES {
-        if let Some(row) = first_misnamed(alloc, rows) {
-            return Some((table, row));
-        }
-    }
-    None
-}
-
 #[test]
 fn bodies_are_refused_by_their_first_bad_member(rt: HostRuntime) {
-    let misnamed = first_misnamed_of_all(rt.alloc());
+    let misnamed = first_misnamed_of_all(rt.alloc(), &TABLES);
     assert!(rt; misnamed.is_none(), "{misnamed:?}");
 }
 
@@ -393,8 +371,9 @@ const NO_JSON: [&str; 10] = [
 
 /// The number from 0 on of the first that is not refused as no JSON.
 fn first_json(alloc: Global, bodies: &[&str]) -> Option<usize> {
+    let mut scratch = Scratch::new(alloc);
     for (row, body) in bodies.iter().enumerate() {
-        if !is_refused(alloc, body.as_bytes(), BodyFault::Json) {
+        if !is_refused(alloc, body.as_bytes(), BodyFault::Json, &mut scratch) {
             return Some(row);
         }
     }
@@ -409,5 +388,13 @@ fn other_texts_are_no_json(rt: HostRuntime) {
 
 #[test]
 fn other_bytes_are_no_json(rt: HostRuntime) {
-    assert!(rt; is_refused(rt.alloc(), b"{\"a\":\"\xff\"}", BodyFault::Json));
+    let mut scratch = Scratch::new(rt.alloc());
+    assert!(rt;
+        is_refused(
+            rt.alloc(),
+            b"{\"a\":\"\xff\"}",
+            BodyFault::Json,
+            &mut scratch
+        )
+    );
 }

@@ -2,6 +2,7 @@ pub mod AnswerLemmas
 pub mod ChainLemmas
 pub mod FieldLemmas
 pub mod MemberLemmas
+pub mod PointLemmas
 pub mod RowLemmas
 pub mod SiteLemmas
 pub mod TextLemmas

@@ -1,7 +1,7 @@
 -- Members that are taken out of an object, and strings that are read of them.
-use Rattle.std.proofs.Common.{◌≡◌, ℕ, List, Option, Some, None, option_and_then, option_map, Bor, Ok, Err, refl, sym, ap, ◌∙◌}
+use Rattle.std.proofs.Common.{◌≡◌, ℕ, List, Option, Some, None, option_and_then, option_map, Bor, Result, Ok, Err, refl, sym, ap, ◌∙◌}
 use Rattle.std.specs.Option.{ok_or}
-use Rattle.edit_bodies.specs.Answers.{IsRead, text_of}
+use Rattle.edit_bodies.specs.Answers.{IsFound, IsRead, text_of}
 use Rattle.edit_bodies.specs.Grammars.{string_of}
 use Rattle.edit_bodies.specs.Members.{without, found_or, required, member_text}
 use Rattle.edit_bodies.specs.declared.faults.BodyFault.{BodyFault}
@@ -45,16 +45,22 @@ module _ {A : Type 0} (which : Member) (read : List ℕ → Option A) where
   value_at before = get_member (member_text which) before
 
   -- a string that is there is read
+  read_there : (before after : Members) (text : List ℕ) → required which as_str before ≡ Ok (text, after) → required which (string_of read) before ≡ found_or which (read text) after
+  read_there before after text there =
+      ap (λ o. found_or which o (without (member_text which) before)) (of_value (value_at before)) ∙ string_found (option_and_then as_str (value_at before)) (without (member_text which) before) text after there
+
   pub string_read : (before after : Members) (text : List ℕ) (found : Option A) → required which as_str before ≡ Ok (text, after) → found ≡ read text
       → IsRead (required which (string_of read)) before (ok_or found (Body which)) after
-  string_read before after text found there is = by found is
-    where
-      e : required which (string_of read) before ≡ found_or which (read text) after
-      e = ap (λ o. found_or which o (without (member_text which) before)) (of_value (value_at before)) ∙ string_found (option_and_then as_str (value_at before)) (without (member_text which) before) text after there
+  string_read before after text None there is = read_there before after text there ∙ ap (λ o. found_or which o after) (sym is)
+  string_read before after text (Some x) there is = read_there before after text there ∙ ap (λ o. found_or which o after) (sym is)
 
-      by : (found : Option A) → found ≡ read text → IsRead (required which (string_of read)) before (ok_or found (Body which)) after
-      by None is = e ∙ ap (λ o. found_or which o after) (sym is)
-      by (Some x) is = e ∙ ap (λ o. found_or which o after) (sym is)
+  -- as it is found, where that may want memory
+  pub string_found_so : (before after : Members) (text : List ℕ) (result : Result A BodyFault) → required which as_str before ≡ Ok (text, after) → IsFound which (read text) result
+      → IsRead (required which (string_of read)) before result after
+  string_found_so before after text (Ok x) stated is = read_there before after text stated ∙ ap (λ o. found_or which o after) is
+  string_found_so before after text (Err (Body other)) stated is = read_there before after text stated ∙ ap (λ o. found_or which o after) is.0 ∙ ap Err (sym is.1)
+  string_found_so before after text (Err Json) stated is = is
+  string_found_so before after text (Err NoMemory) stated is = tt
 
   -- and one that is missing is not
   pub string_not_read : (before after : Members) (fault : BodyFault) → IsRead (required which as_str) before (Err fault) after

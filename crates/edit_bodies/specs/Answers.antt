@@ -1,5 +1,5 @@
 -- What is answered for members that are read. Want of memory may come in place of any answer.
-use Rattle.std.specs.Prelude.{◌≡◌, ℕ, List, Result, Ok, Err}
+use Rattle.std.specs.Prelude.{◌≡◌, ℕ, List, Option, Some, None, Result, Ok, Err}
 use Rattle.std.specs.Borrow.{Bor}
 use Rattle.edit_bodies.specs.Bodies.{Parts, parts}
 use Rattle.edit_bodies.specs.Members.{Reader, required}
@@ -17,6 +17,13 @@ IsRead read before (Ok value) after = read before ≡ Ok (value, after)
 IsRead read before (Err (Body name)) after = read before ≡ Err name
 IsRead read before (Err Json) after = ⊥
 IsRead read before (Err NoMemory) after = Unit {0}
+
+-- what was found of a member, or that there is nothing, for which that member is named
+abbrev pub IsFound : {A : Type 0} → Member → Option A → Result A BodyFault → Type 0
+IsFound which found (Ok value) = found ≡ Some value
+IsFound which found (Err (Body name)) = (found ≡ None) × (name ≡ which)
+IsFound which found (Err Json) = ⊥
+IsFound which found (Err NoMemory) = Unit {0}
 
 -- it was taken out of the members
 abbrev pub IsTaken : {A : Type 0} → Reader A → Fields → Result A BodyFault → Fields → Type 0

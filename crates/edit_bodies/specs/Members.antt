@@ -17,6 +17,10 @@ member_text named.Gap = codes "gap"
 member_text named.StageArray = codes "stage_array"
 member_text named.DischargeArray = codes "discharge_array"
 member_text named.Readings = codes "readings"
+member_text named.Set = codes "set"
+member_text named.At = codes "at"
+member_text named.Points = codes "points"
+member_text named.Prorate = codes "prorate"
 member_text named.Further = codes "?"
 
 -- the members but the one of that name

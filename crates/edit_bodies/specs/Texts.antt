@@ -1,10 +1,11 @@
--- The texts of an edit's members, as tests: of what `edits` says they are.
-use Rattle.std.specs.Prelude.{ℕ, Bool, ◌&&◌, ◌||◌, ◌==◌, nat_le, List, length, bytes_eq, codes, Option, Some, None, if◌then◌else◌}
+-- The texts of an edit's members, as tests: of what `edits` and `fixed_units` say they are.
+use Rattle.std.specs.Prelude.{ℕ, Bool, ◌&&◌, ◌||◌, ◌==◌, nat_le, List, length, Option, Some, None, if◌then◌else◌}
 use Rattle.std.specs.List.{list_all}
 use Rattle.std.specs.Char.{is_ascii_digit}
 use Rattle.std.specs.Str.Parse.{digits_value}
 use Rattle.edits.specs.Texts.{is_letter, is_digit, is_printed}
 use Rattle.fixed_units.specs.Quantities.{SiteNumber}
+use Rattle.fixed_units.specs.RoundingArray.{most_decimals}
 
 -- a text of so many characters at least and at most, each of a kind
 abbrev pub is_text_of : ℕ → ℕ → (ℕ → Bool) → List ℕ → Bool
@@ -20,9 +21,9 @@ is_reference text = is_text_of 1 40 (λ code. is_letter code || (is_digit code |
 abbrev pub is_name : List ℕ → Bool
 is_name text = is_text_of 1 60 is_printed text
 
--- the one rounding array that a body may name so far: amounts of any size have two decimals
-abbrev pub is_known_array : List ℕ → Bool
-is_known_array text = bytes_eq text (codes "9999999992")
+-- a rounding array
+abbrev pub is_array : List ℕ → Bool
+is_array text = is_text_of 10 10 is_ascii_digit text && nat_le (most_decimals text) 6
 
 -- the site of a text of 8 to 15 digits
 abbrev pub site_of_text : List ℕ → Option SiteNumber

@@ -52,7 +52,7 @@ fn value_of<'a>(
     match read_tree(alloc, text, scratch) {
         Ok(value) => Ok(value),
         Err(Error::Invalid) => Err(BodyFault::Json),
-        Err(_) => Err(BodyFault::NoMemory),
+        Err(Error::OutOfMemory | Error::TooLong | Error::DuplicateKey) => Err(BodyFault::NoMemory),
     }
 }
 

@@ -1,22 +1,24 @@
 //! The members of bodies, each read by its grammar as it is taken out of an object.
 
-ghost use Rattle.std.specs.Prelude.{◌≡◌, ◌↔◌, true, IfOk, IfSome, IsSome, option_and_then, option_map};
-ghost use Rattle.edit_bodies.specs.Answers.{IsTaken, IsTextTaken};
-ghost use Rattle.edit_bodies.specs.Grammars.{by_of, reference_of, site_of, name_of, zone_of, gap_of, array_of};
+ghost use Rattle.std.specs.Prelude.{◌≡◌, ◌≤◌, IfOk, IfSome, option_and_then, option_map};
+ghost use Rattle.edit_bodies.specs.Answers.{IsFound, IsTaken, IsTextTaken};
+ghost use Rattle.edit_bodies.specs.Grammars.{array_of, by_of, gap_of, instant_of, kept_if, name_of, reference_of, set_of, site_of, whole_of, zone_of};
 ghost use Rattle.edit_bodies.specs.Members.{member_text, required};
+ghost use Rattle.edit_bodies.specs.Texts.{is_name};
 ghost use Rattle.edit_bodies.specs.Trees.{left, stated};
-ghost use Rattle.edits.specs.Lawful.{IsGap, IsStationZone};
-ghost use Rattle.edit_bodies.specs.Texts.{is_known_array};
+ghost use Rattle.edits.specs.Lawful.{IsGap, IsSetNumber, IsStationZone};
 ghost use Rattle.edits.specs.Texts.{IsName};
+ghost use Rattle.fixed_units.specs.Quantities.{IsStamp};
 ghost use Rattle.fixed_units.specs.RoundingArray.{IsRoundingArray};
-ghost use Rattle.serde_json.specs.Find.{as_str, get_member};
+ghost use Rattle.serde_json.specs.Find.{as_bool, as_str, get_member};
 
 use crate::faults::BodyFault;
 use crate::members::{Fields, Member, remove, value_at};
 use crate::numbers::number_in;
 use crate::sites::read_site;
-use edits::{By, Name, Ref, is_zone};
-use fixed_units::{NoMemory, RoundingArray, Site, Text};
+use civil_days::read_instant;
+use edits::{By, Name, Ref, is_name, is_zone};
+use fixed_units::{NoMemory, RoundingArray, Second, Site, Text};
 use json::Value;
 use std::alloc::Global;
 
@@ -34,18 +36,6 @@ fn text_at<'a>(fields: &Fields<'a>, member: Member) -> Option<&'a str>
     ensures { option_map (λ text. text.now) result ≡ option_and_then as_str (get_member (member_text member) (left fields.now)) }
 {
     value_at(fields, member)?.as_str()
-}
-
-/// Takes out a string, as a text of its own.
-fn take_own_text(alloc: Global, fields: &mut Fields<'_>, member: Member) -> Result<Text, BodyFault>
-    ensures { IsTaken (required member as_str) fields.old result fields.new }
-{
-    let text = take_text(fields, member)?;
-    let mut own = Text::new(alloc);
-    match own.push_slice(text.as_bytes()) {
-        Ok(()) => Ok(own),
-        Err(NoMemory) => Err(BodyFault::NoMemory),
-    }
 }
 
 /// Takes out the initials of the person who makes the edit.
@@ -77,8 +67,8 @@ pub(crate) fn take_name(alloc: Global, fields: &mut Fields<'_>) -> Result<Name, 
     ensures read { IsTaken (required Member.Name name_of) fields.old result fields.new }
     ensures named { IfOk result IsName }
 {
-    let text = take_own_text(alloc, fields, Member::Name)?;
-    Name::new(text).ok_or(BodyFault::Body(Member::Name))
+    let text = take_text(fields, Member::Name)?;
+    own_name(alloc, text, Member::Name)
 }
 
 /// Takes out the text of the station's zone.
@@ -86,58 +76,26 @@ pub(crate) fn take_zone(alloc: Global, fields: &mut Fields<'_>) -> Result<Name, 
     ensures read { IsTaken (required Member.Zone zone_of) fields.old result fields.new }
     ensures zone { IfOk result IsStationZone }
 {
-    let text = take_own_text(alloc, fields, Member::Zone)?;
-    match is_zone(alloc, text.as_slice()) {
-        Ok(true) => Name::new(text).ok_or(BodyFault::Body(Member::Zone)),
+    let text = take_text(fields, Member::Zone)?;
+    match is_zone(alloc, text.as_bytes()) {
+        Ok(true) => own_name(alloc, text, Member::Zone),
         Ok(false) => Err(BodyFault::Body(Member::Zone)),
         Err(NoMemory) => Err(BodyFault::NoMemory),
     }
 }
 
-/// Takes out the gap tolerance in minutes.
-pub(crate) fn take_gap(fields: &mut Fields<'_>) -> Result<u32, BodyFault>
-    ensures read { IsTaken (required Member.Gap gap_of) fields.old result fields.new }
-    ensures near { IfOk result IsGap }
+/// The name that a member states, which is copied only where it is one.
+fn own_name(alloc: Global, text: &str, member: Member) -> Result<Name, BodyFault>
+    ensures read { IsFound member (kept_if is_name text.now) result }
+    ensures named { IfOk result IsName }
 {
-    let found = gap_at(fields);
-    remove(fields, Member::Gap);
-    found.ok_or(BodyFault::Body(Member::Gap))
-}
-
-/// The gap tolerance that is there.
-fn gap_at(fields: &Fields<'_>) -> Option<u32>
-    ensures value { result ≡ option_and_then gap_of (get_member (member_text Member.Gap) (left fields.now)) }
-    ensures near { IfSome result IsGap }
-{
-    gap_in(value_at(fields, Member::Gap)?)
-}
-
-/// The gap tolerance that a value states.
-fn gap_in(value: &Value<'_>) -> Option<u32>
-    ensures value { result ≡ gap_of (stated value.now) }
-    ensures near { IfSome result IsGap }
-{
-    let minutes = number_in(value.as_number()?)?.as_u64()?;
-    if (1..=720).contains(&minutes) {
-        Some(minutes as u32)
-    } else {
-        None
+    if !is_name(text.as_bytes()) {
+        return Err(BodyFault::Body(member));
     }
-}
-
-/// The rounding array that bodies may name so far.
-const ONLY_ARRAY: &[u8] = b"9999999992";
-
-/// The rounding array of a text, or `None` exactly where it is not the one that is known so far.
-fn known_array(text: &[u8]) -> Option<RoundingArray>
-    ensures range { IsSome result ↔ is_known_array text.now ≡ true }
-    ensures value { IfSome result (λ array. array ≡ text.now) }
-    ensures array { IfSome result IsRoundingArray }
-{
-    if text == ONLY_ARRAY {
-        RoundingArray::read(text)
-    } else {
-        None
+    let mut own = Text::new(alloc);
+    match own.push_slice(text.as_bytes()) {
+        Ok(()) => Name::new(own).ok_or(BodyFault::Body(member)),
+        Err(NoMemory) => Err(BodyFault::NoMemory),
     }
 }
 
@@ -150,5 +108,78 @@ pub(crate) fn take_array(
     ensures array { IfOk result IsRoundingArray }
 {
     let text = take_text(fields, member)?;
-    known_array(text.as_bytes()).ok_or(BodyFault::Body(member))
+    RoundingArray::read(text.as_bytes()).ok_or(BodyFault::Body(member))
+}
+
+/// Takes out the gap tolerance in minutes.
+pub(crate) fn take_gap(fields: &mut Fields<'_>) -> Result<u32, BodyFault>
+    ensures read { IsTaken (required Member.Gap gap_of) fields.old result fields.new }
+    ensures near { IfOk result IsGap }
+{
+    take_whole(fields, Member::Gap, 720)
+}
+
+/// Takes out the number of a correction set.
+pub(crate) fn take_set(fields: &mut Fields<'_>) -> Result<u8, BodyFault>
+    ensures read { IsTaken (required Member.Set set_of) fields.old result fields.new }
+    ensures number { IfOk result IsSetNumber }
+{
+    let number = take_whole(fields, Member::Set, 3)?;
+    Ok(number as u8)
+}
+
+/// Takes out a whole number from 1 to the greatest that it may be.
+fn take_whole(fields: &mut Fields<'_>, member: Member, greatest: u32) -> Result<u32, BodyFault>
+    ensures read { IsTaken (required member (whole_of 1 greatest)) fields.old result fields.new }
+    ensures range { IfOk result (λ number. (1 ≤ number) × (number ≤ greatest)) }
+{
+    let found = whole_at(fields, member, greatest);
+    remove(fields, member);
+    found.ok_or(BodyFault::Body(member))
+}
+
+/// The whole number that is there.
+fn whole_at(fields: &Fields<'_>, member: Member, greatest: u32) -> Option<u32>
+    ensures value { result ≡ option_and_then (whole_of 1 greatest) (get_member (member_text member) (left fields.now)) }
+    ensures range { IfSome result (λ number. (1 ≤ number) × (number ≤ greatest)) }
+{
+    whole_in(value_at(fields, member)?, greatest)
+}
+
+/// The whole number that a value states.
+fn whole_in(value: &Value<'_>, greatest: u32) -> Option<u32>
+    ensures value { result ≡ whole_of 1 greatest (stated value.now) }
+    ensures range { IfSome result (λ number. (1 ≤ number) × (number ≤ greatest)) }
+{
+    let number = number_in(value.as_number()?)?.as_u64()?;
+    if (1..=u64::from(greatest)).contains(&number) {
+        Some(number as u32)
+    } else {
+        None
+    }
+}
+
+/// Takes out the instant of an entry.
+pub(crate) fn take_at(fields: &mut Fields<'_>) -> Result<Second, BodyFault>
+    ensures read { IsTaken (required Member.At instant_of) fields.old result fields.new }
+    ensures stamp { IfOk result IsStamp }
+{
+    let text = take_text(fields, Member::At)?;
+    read_instant(text.as_bytes()).ok_or(BodyFault::Body(Member::At))
+}
+
+/// Takes out whether an entry goes over to the next one in a straight line.
+pub(crate) fn take_prorate(fields: &mut Fields<'_>) -> Result<bool, BodyFault>
+    ensures { IsTaken (required Member.Prorate as_bool) fields.old result fields.new }
+{
+    let found = prorate_at(fields);
+    remove(fields, Member::Prorate);
+    found.ok_or(BodyFault::Body(Member::Prorate))
+}
+
+/// Whether it does, if it is said.
+fn prorate_at(fields: &Fields<'_>) -> Option<bool>
+    ensures { result ≡ option_and_then as_bool (get_member (member_text Member.Prorate) (left fields.now)) }
+{
+    value_at(fields, Member::Prorate)?.as_bool()
 }

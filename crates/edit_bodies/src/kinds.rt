@@ -6,8 +6,11 @@ ghost use Rattle.edit_bodies.specs.Kinds.{kind_of, kind_of_text, row};
 ghost use Rattle.edit_bodies.specs.Members.{required};
 ghost use Rattle.edits.specs.Lawful.{IsLawful};
 
+use crate::curve_points::take_points;
 use crate::faults::BodyFault;
-use crate::grammars::{take_array, take_gap, take_name, take_text, take_zone};
+use crate::grammars::{
+    take_array, take_at, take_gap, take_name, take_prorate, take_set, take_text, take_zone,
+};
 use crate::members::{Fields, Member};
 use crate::reading_rows::take_readings;
 use edits::What;
@@ -22,6 +25,14 @@ pub enum Kind {
     SetStation,
     /// Puts readings.
     PutReadings,
+    /// Puts an entry of a correction set.
+    PutCorrection,
+    /// Takes out an entry of a correction set.
+    DropCorrection,
+    /// Puts an entry of the shifts.
+    PutShift,
+    /// Takes out an entry of the shifts.
+    DropShift,
 }
 
 /// Takes the kind out of the members.
@@ -42,6 +53,14 @@ fn kind_named(text: &[u8]) -> Option<Kind>
         Some(Kind::SetStation)
     } else if text == b"PutReadings".as_slice() {
         Some(Kind::PutReadings)
+    } else if text == b"PutCorrection".as_slice() {
+        Some(Kind::PutCorrection)
+    } else if text == b"DropCorrection".as_slice() {
+        Some(Kind::DropCorrection)
+    } else if text == b"PutShift".as_slice() {
+        Some(Kind::PutShift)
+    } else if text == b"DropShift".as_slice() {
+        Some(Kind::DropShift)
     } else {
         None
     }
@@ -60,6 +79,10 @@ pub(crate) fn take_what(
         Kind::AddStation => take_addition(alloc, fields),
         Kind::SetStation => take_setting(alloc, fields),
         Kind::PutReadings => take_put(alloc, fields),
+        Kind::PutCorrection => take_correction(fields),
+        Kind::DropCorrection => take_dropped_correction(fields),
+        Kind::PutShift => take_shift(fields),
+        Kind::DropShift => take_dropped_shift(fields),
     }
 }
 
@@ -106,4 +129,51 @@ fn take_put(alloc: Global, fields: &mut Fields<'_>) -> Result<What, BodyFault>
 {
     let readings = take_readings(alloc, fields)?;
     Ok(What::PutReadings { readings })
+}
+
+/// The put of an entry of a correction set.
+fn take_correction(fields: &mut Fields<'_>) -> Result<What, BodyFault>
+    ensures read { IsTaken (row Kind.PutCorrection) fields.old result fields.new }
+    ensures lawful { IfOk result IsLawful }
+{
+    let set = take_set(fields)?;
+    let at = take_at(fields)?;
+    let curve = take_points(fields)?;
+    let prorate = take_prorate(fields)?;
+    Ok(What::PutCorrection {
+        set,
+        at,
+        curve,
+        prorate,
+    })
+}
+
+/// The drop of an entry of a correction set.
+fn take_dropped_correction(fields: &mut Fields<'_>) -> Result<What, BodyFault>
+    ensures read { IsTaken (row Kind.DropCorrection) fields.old result fields.new }
+    ensures lawful { IfOk result IsLawful }
+{
+    let set = take_set(fields)?;
+    let at = take_at(fields)?;
+    Ok(What::DropCorrection { set, at })
+}
+
+/// The put of an entry of the shifts.
+fn take_shift(fields: &mut Fields<'_>) -> Result<What, BodyFault>
+    ensures read { IsTaken (row Kind.PutShift) fields.old result fields.new }
+    ensures lawful { IfOk result IsLawful }
+{
+    let at = take_at(fields)?;
+    let curve = take_points(fields)?;
+    let prorate = take_prorate(fields)?;
+    Ok(What::PutShift { at, curve, prorate })
+}
+
+/// The drop of an entry of the shifts.
+fn take_dropped_shift(fields: &mut Fields<'_>) -> Result<What, BodyFault>
+    ensures read { IsTaken (row Kind.DropShift) fields.old result fields.new }
+    ensures lawful { IfOk result IsLawful }
+{
+    let at = take_at(fields)?;
+    Ok(What::DropShift { at })
 }

@@ -2,12 +2,14 @@
 #![tactic(auto)]
 
 pub mod bodies;
+mod curve_points;
 pub mod faults;
 mod grammars;
 pub mod kinds;
 pub mod members;
 mod numbers;
 mod reading_rows;
+mod rows;
 pub mod sites;
 mod trees;
 

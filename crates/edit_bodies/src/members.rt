@@ -31,6 +31,14 @@ pub enum Member {
     DischargeArray,
     /// The readings that are put.
     Readings,
+    /// The number of a correction set.
+    Set,
+    /// The instant of an entry.
+    At,
+    /// The points of an entry's curve.
+    Points,
+    /// Whether an entry goes over to the next one in a straight line.
+    Prorate,
     /// A member that no such edit has.
     Further,
 }
@@ -51,6 +59,10 @@ impl Member {
             Member::StageArray => "stage_array",
             Member::DischargeArray => "discharge_array",
             Member::Readings => "readings",
+            Member::Set => "set",
+            Member::At => "at",
+            Member::Points => "points",
+            Member::Prorate => "prorate",
             Member::Further => "?",
         }
     }

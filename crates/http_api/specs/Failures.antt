@@ -2,7 +2,7 @@
 use Rattle.std.specs.Prelude.{ℕ, List, [], ◌++◌, codes, decimal, Option, Some, None}
 use Rattle.edit_bodies.specs.Members.{member_text}
 use Rattle.office_inputs.specs.declared.refusals.Which.{Which}
-use Rattle.office_inputs.specs.declared.refusals.Which.TheVariants.{Stations, Readings, DayReadings}
+use Rattle.office_inputs.specs.declared.refusals.Which.TheVariants.{Stations, Readings, DayReadings, Entries}
 use Rattle.office_inputs.specs.declared.refusals.Full.{Full}
 use Rattle.office_inputs.specs.declared.refusals.Full.TheVariants.{Events, Cells}
 use Rattle.office_inputs.specs.declared.refusals.Refusal.{Refusal}
@@ -47,6 +47,7 @@ refusal_row (refusals.RefReused edit) = row 409 (codes "RefReused") (details.Edi
 refusal_row refusals.NoStation = row 409 (codes "NoStation") details.Nothing
 refusal_row refusals.StationExists = row 409 (codes "StationExists") details.Nothing
 refusal_row (refusals.Limit which) = row 409 (codes "Limit") (details.Limit which)
+refusal_row refusals.NoEntry = row 409 (codes "NoEntry") details.Nothing
 refusal_row (refusals.HistoryFull full) = row 409 (codes "HistoryFull") (details.Full full)
 refusal_row refusals.JournalFull = row 409 (codes "JournalFull") details.Nothing
 refusal_row refusals.NoMemory = row 507 (codes "NoMemory") details.Nothing
@@ -72,6 +73,7 @@ abbrev pub which_text : Which → List ℕ
 which_text Stations = codes "Stations"
 which_text Readings = codes "Readings"
 which_text DayReadings = codes "DayReadings"
+which_text Entries = codes "Entries"
 
 abbrev pub full_text : Full → List ℕ
 full_text Events = codes "Events"

@@ -110,6 +110,7 @@ fn refusal_failure(refusal: Refusal) -> Failure
         Refusal::NoStation => told(409, b"NoStation", Detail::Nothing),
         Refusal::StationExists => told(409, b"StationExists", Detail::Nothing),
         Refusal::Limit(which) => told(409, b"Limit", Detail::Limit(which)),
+        Refusal::NoEntry => told(409, b"NoEntry", Detail::Nothing),
         Refusal::HistoryFull(full) => told(409, b"HistoryFull", Detail::Full(full)),
         Refusal::JournalFull => told(409, b"JournalFull", Detail::Nothing),
         Refusal::NoMemory => told(507, b"NoMemory", Detail::Nothing),
@@ -169,6 +170,7 @@ fn which_name(which: Which) -> &'static [u8]
         Which::Stations => b"Stations",
         Which::Readings => b"Readings",
         Which::DayReadings => b"DayReadings",
+        Which::Entries => b"Entries",
     }
 }
 

@@ -1,0 +1,62 @@
+//! The items of an array, and the strings among them.
+
+ghost use Rattle.std.specs.Prelude.{◌≡◌, IfSome, option_map};
+ghost use Rattle.edit_bodies.specs.Grammars.{amount_of, instant_of, quantity_of, stage_of};
+ghost use Rattle.edit_bodies.specs.Trees.{items_stated, stated};
+ghost use Rattle.fixed_units.specs.Quantities.{IsAmount, IsStage, IsStamp};
+ghost use Rattle.serde_json.specs.Find.{as_array};
+
+use civil_days::read_instant;
+use fixed_units::{Micro, Second, is_amount, is_stage, read_decimal};
+use json::Value;
+
+/// The items of an array.
+pub(crate) fn items_in<'v, 'a>(value: &'v Value<'a>) -> Option<&'v [Value<'a>]>
+    ensures { option_map (λ items. items_stated items.now) result ≡ as_array (stated value.now) }
+{
+    match value {
+        Value::Array(items) => Some(items.as_slice()),
+        _ => None,
+    }
+}
+
+/// The stamp that a string writes.
+pub(crate) fn instant_in(value: &Value<'_>) -> Option<Second>
+    ensures value { result ≡ instant_of (stated value.now) }
+    ensures stamp { IfSome result IsStamp }
+{
+    read_instant(value.as_str()?.as_bytes())
+}
+
+/// The stage that a string writes.
+pub(crate) fn stage_in(value: &Value<'_>) -> Option<Micro>
+    ensures value { result ≡ stage_of (stated value.now) }
+    ensures stage { IfSome result IsStage }
+{
+    let stage = quantity_in(value)?;
+    if is_stage(stage.get()) {
+        Some(stage)
+    } else {
+        None
+    }
+}
+
+/// The amount of a correction or of a shift that a string writes.
+pub(crate) fn amount_in(value: &Value<'_>) -> Option<Micro>
+    ensures value { result ≡ amount_of (stated value.now) }
+    ensures amount { IfSome result IsAmount }
+{
+    let amount = quantity_in(value)?;
+    if is_amount(amount.get()) {
+        Some(amount)
+    } else {
+        None
+    }
+}
+
+/// The quantity that a string writes.
+fn quantity_in(value: &Value<'_>) -> Option<Micro>
+    ensures { result ≡ quantity_of (stated value.now) }
+{
+    read_decimal(value.as_str()?.as_bytes()).ok()
+}

@@ -1,5 +1,5 @@
 -- What is kept in memory tells what is read off the history, also after each step.
-use Rattle.std.specs.Prelude.{◌≡◌, ℕ, ◌+◌, ◌<◌, ◌^◌, Bool, true, false, cond, List, [], ◌∷◌, ◌++◌, length, map, bytes_eq, Option, Some, None, IfSome, ℤ}
+use Rattle.std.specs.Prelude.{◌≡◌, ℕ, ◌+◌, ◌<◌, ◌^◌, Bool, true, false, cond, List, [], ◌∷◌, ◌++◌, length, map, bytes_eq, Option, Some, None, IfSome, ℤ, Result, Ok, Err, OnOk, OnErr}
 use Rattle.std.proofs.Common.{arith, refl, ap, sym, subst, ◌∙◌, length-append}
 use Rattle.std.proofs.lemmas.List.Sums.{sum_by-append, sum_by-cons}
 use Rattle.std.specs.Cmp.Lexicographic.{bytes_decides}
@@ -23,7 +23,7 @@ use Rattle.recompute.specs.Cells.{SaysTheSame, Marks, TakesOut, Publishes}
 use Rattle.records.specs.Payloads.{payload}
 use Rattle.records.specs.declared.payloads.Record.{Record}
 use Rattle.register.specs.Keeping.{Keeps, PlacesAll, Tells}
-use Rattle.register.specs.References.{Placed, place_for}
+use Rattle.register.specs.References.{Placed, IsPlacedFor}
 use Rattle.register.specs.Registered.{registered}
 use Rattle.register.proofs.TellsLemmas.{tells_none, tells_marked, tells_same, tells_taken, tells_faulted, tells_published}
 
@@ -55,14 +55,14 @@ keeps_empty inputs cells places spare events pieces h c p e q = rw (c, p, e, q) 
 
 -- the place that is kept for each reference that names an accepted edit
 abbrev pub IsPlaced : List Placed → List ℕ → Numbered → Type 0
-IsPlaced kept reference n = (place : ℕ) × (place_for kept reference ≡ Some place) × (n.number ≡ place + 1)
+IsPlaced kept reference n = (place : ℕ) × IsPlacedFor kept reference place × (n.number ≡ place + 1)
 
-module _ (edits : List Edit) (edit : Edit) (kept : List Placed) (room : place_for kept edit.reference ≡ Some (length edits)) where
+module _ (edits : List Edit) (edit : Edit) (kept : List Placed) (room : IsPlacedFor kept edit.reference (length edits)) where
   new_place : (reference : List ℕ) (b : Bool) → bytes_eq edit.reference reference ≡ b
       → IfSome (cond b (Some (record { number = 1 + length edits; edit = edit })) None) (IsPlaced kept reference)
   new_place reference true e =
       let same : edit.reference ≡ reference = (bytes_decides edit.reference reference).0 e in
-      (length edits, ap (place_for kept) (sym same) ∙ room, omega arith)
+      (length edits, subst (λ (r : List ℕ). IsPlacedFor kept r (length edits)) same room, omega arith)
   new_place reference false e = tt
 
   place_step : (reference : List ℕ) (found : Option Numbered) → named edits reference ≡ found → IfSome found (IsPlaced kept reference)
@@ -75,6 +75,19 @@ module _ (edits : List Edit) (edit : Edit) (kept : List Placed) (room : place_fo
 
   pub places_more : PlacesAll edits kept → PlacesAll (edits ++ edit ∷ []) kept
   places_more h reference = place_step reference (named edits reference) refl (h reference)
+
+-- places that are kept for more references
+places_kept : (old new : List Placed) (reference : List ℕ) (found : Option Numbered) → ((other : List ℕ) (its : ℕ) → IsPlacedFor old other its → IsPlacedFor new other its)
+    → IfSome found (IsPlaced old reference) → IfSome found (IsPlaced new reference)
+places_kept old new reference None more h = tt
+places_kept old new reference (Some n) more h = (h.0, more reference h.0 h.1, h.2)
+
+-- after a place was put, or there was no memory for it
+pub places_put : {E : Type 0} (edits : List Edit) (old new : List Placed) (told : Result (Unit {0}) E)
+    → OnOk told ((other : List ℕ) (its : ℕ) → IsPlacedFor old other its → IsPlacedFor new other its) → OnErr told (new ≡ old)
+    → PlacesAll edits old → PlacesAll edits new
+places_put edits old new (Ok u) more same h reference = places_kept old new reference (named edits reference) more (h reference)
+places_put edits old new (Err e) more same h reference = subst (λ (l : List Placed). IfSome (named edits reference) (IsPlaced l reference)) (sym same) (h reference)
 
 pub journal_more : (pieces : List Record) (piece : Record) → journal_size (pieces ++ piece ∷ []) ≡ journal_size pieces + (5 + length (payload piece))
 journal_more pieces piece =
@@ -111,7 +124,7 @@ module _ (opened : ℕ) (inputs : InForce) (cells : List KeptDays) (places : Lis
       → named (edits_of events) piece.edit.reference ≡ None → refusals.refusal_of inputs.limits (stations_at events) piece.edit ≡ None
       → in_force new ≡ stations_after (in_force inputs) piece.edit → new.limits ≡ inputs.limits
       → number ≡ length pieces + 1 → Marks cells more piece.edit.site (changed_days (stations_at events) piece.edit) number
-      → place_for places piece.edit.reference ≡ Some (length (edits_of events))
+      → IsPlacedFor places piece.edit.reference (length (edits_of events))
       → counted ≡ count + 1 → size ≡ bytes + (5 + length (payload piece)) → size < 2 ^ 64
       → length (events ++ Accepted piece ∷ []) + length (pending_days (events ++ Accepted piece ∷ [])) < 2 ^ 64
       → Keeps (registered opened new more places room (events ++ Accepted piece ∷ [])) (pieces ++ piece ∷ []) counted size

@@ -1,8 +1,7 @@
 -- For which edit there is room.
-use Rattle.std.specs.Prelude.{◌≡◌, ℕ, ◌+◌, ◌-◌, ◌≤◌, List, length, map, Some, bytes_eq, ℤ}
-use Rattle.std.proofs.Common.{arith, ap, sym, subst, ◌∙◌, cond}
+use Rattle.std.specs.Prelude.{◌≡◌, ℕ, ◌+◌, ◌-◌, ◌≤◌, List, length, map, ℤ}
+use Rattle.std.proofs.Common.{arith, ap, sym, subst, ◌∙◌}
 use Rattle.std.proofs.lemmas.List.{length-map}
-use Rattle.std.specs.Cmp.Lexicographic.{bytes_decides}
 use Rattle.day_cells.specs.KeptDays.{KeptDays}
 use Rattle.edits.specs.declared.content.Edit.{Edit}
 use Rattle.history.specs.Accepted.{accepted, edit_of, edits_of, stations_at}
@@ -13,7 +12,7 @@ use Rattle.office_inputs.specs.Kept as kept_inputs
 use Rattle.office_inputs.specs.Stations.{stations_of}
 use Rattle.recompute.specs.Cells as kept_cells
 use Rattle.records.specs.declared.payloads.Record.{Record}
-use Rattle.register.specs.References.{Placed, place_for}
+use Rattle.register.specs.References.{Placed, IsPlacedFor}
 use Rattle.register.specs.Registered.{registered, IsReady}
 
 module _ (opened : ℕ) (inputs : InForce) (cells : List KeptDays) (references : List Placed) (events : List Event) where
@@ -23,23 +22,23 @@ module _ (opened : ℕ) (inputs : InForce) (cells : List KeptDays) (references :
   ready_kept spare more edit same h = record {
     inputs = h.inputs;
     cells = subst (λ (ps : List Record). kept_cells.HasRoom cells edit.site (changed_days (stations_of (map edit_of ps)) edit)) (sym same) h.cells;
-    reference = h.reference ∙ ap (λ (ps : List Record). Some (length (map edit_of ps))) (sym same);
+    reference = subst (λ (ps : List Record). IsPlacedFor references edit.reference (length (map edit_of ps))) (sym same) h.reference;
     edits = h.edits;
   }
 
   -- room was made in each part
-  pub ready_made : (capacity used place : ℕ) (old : List Placed) (pieces : List Record) (edit : Edit) (days : List ℤ) (told : List ℕ) → kept_inputs.HasRoom inputs edit
+  pub ready_made : (capacity used place : ℕ) (pieces : List Record) (edit : Edit) (days : List ℤ) (told : List ℕ) → kept_inputs.HasRoom inputs edit
       → days ≡ changed_days (stations_at events) edit → kept_cells.HasRoom cells edit.site days
       → pieces ≡ accepted events → place ≡ length pieces
-      → told ≡ edit.reference → place_for references edit.reference ≡ cond (bytes_eq told edit.reference) (Some place) (place_for old edit.reference)
+      → told ≡ edit.reference → IsPlacedFor references told place
       → used + 1 ≤ capacity → IsReady (registered opened inputs cells references (capacity - used) events) edit
-  ready_made capacity used place old pieces edit days told i d c p n same r room =
+  ready_made capacity used place pieces edit days told i d c p n same r room =
       let few : place ≡ length (edits_of events) = n ∙ ap (λ (ps : List Record). length ps) p ∙ sym (length-map (accepted events) edit_of) in
       record {
         inputs = i;
         cells = subst (λ (l : List ℤ). kept_cells.HasRoom cells edit.site l) d c;
         reference =
-            r ∙ ap (λ b. cond b (Some place) (place_for old edit.reference)) ((bytes_decides told edit.reference).1 same)
-            ∙ ap (λ k. Some k) few;
+            subst (λ k. IsPlacedFor references edit.reference k) few
+            (subst (λ (t : List ℕ). IsPlacedFor references t place) same r);
         edits = omega arith;
       }

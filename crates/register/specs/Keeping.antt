@@ -1,5 +1,5 @@
 -- What is kept in memory tells what is read off the history.
-use Rattle.std.specs.Prelude.{◌≡◌, ℕ, ◌+◌, ◌<◌, ◌≤◌, ◌^◌, List, length, Some, None, IfSome, ℤ}
+use Rattle.std.specs.Prelude.{◌≡◌, ℕ, ◌+◌, ◌<◌, ◌≤◌, ◌^◌, List, length, None, IfSome, ℤ}
 use Rattle.day_cells.specs.KeptDays.{KeptDays}
 use Rattle.day_cells.specs.Spans.{with_days}
 use Rattle.edits.specs.declared.content.Edit.{Edit}
@@ -11,7 +11,7 @@ use Rattle.history.specs.Legal.{IsLegal}
 use Rattle.office_inputs.specs.Kept.{in_force}
 use Rattle.recompute.specs.Cells.{awaited_in, value_in, span_in}
 use Rattle.records.specs.declared.payloads.Record.{Record}
-use Rattle.register.specs.References.{Placed, place_for}
+use Rattle.register.specs.References.{Placed, IsPlacedFor}
 use Rattle.register.specs.Registered.{Registered}
 
 -- the cells tell which edit each day awaits, the value of each day that awaits none, and the days of each station from the first to the
@@ -24,7 +24,7 @@ pub record Tells (events : List Event) (cells : List KeptDays) : Type 0 where
 -- the place of each accepted edit is kept for its reference
 abbrev pub PlacesAll : List Edit → List Placed → Type 0
 PlacesAll edits kept = (reference : List ℕ)
-    → IfSome (named edits reference) (λ (n : Numbered). (place : ℕ) × (place_for kept reference ≡ Some place) × (n.number ≡ place + 1))
+    → IfSome (named edits reference) (λ (n : Numbered). (place : ℕ) × IsPlacedFor kept reference place × (n.number ≡ place + 1))
 
 -- the events, and a publication of each pending day, keep to the limit
 abbrev pub KeepsToTheLimit : History → Type 0

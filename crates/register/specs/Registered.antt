@@ -1,5 +1,5 @@
 -- What an office keeps in memory, as contracts see it: what happened, which claims are out, and for what there is room.
-use Rattle.std.specs.Prelude.{◌≡◌, ℕ, ◌≤◌, Bool, true, false, not, ◌&&◌, if◌then◌else◌, List, length, take, find, Option, Some, ℤ}
+use Rattle.std.specs.Prelude.{◌≡◌, ℕ, ◌≤◌, Bool, true, false, not, ◌&&◌, if◌then◌else◌, List, length, take, find, Option, ℤ}
 use Rattle.std.specs.List.{list_any}
 use Rattle.day_cells.specs.Days.{contains_day}
 use Rattle.day_cells.specs.KeptDays.{KeptDays}
@@ -15,7 +15,7 @@ use Rattle.office_inputs.specs.Kept.{InForce}
 use Rattle.recompute.specs.Cells as kept_cells
 use Rattle.recompute.specs.Cells.{is_out_in}
 use Rattle.recompute.specs.Jobs.{DayJob}
-use Rattle.register.specs.References.{Placed, place_for}
+use Rattle.register.specs.References.{Placed, IsPlacedFor}
 
 -- what happened; beside it the inputs, the cells and the places of references as they are kept, and for how many more edits there is
 -- room
@@ -79,5 +79,5 @@ pub record IsSettledTo (old new : Registered) (count : ℕ) : Type 0 where
 pub record IsReady (r : Registered) (edit : Edit) : Type 0 where
   pub inputs : kept_inputs.HasRoom r.inputs edit
   pub cells : kept_cells.HasRoom r.cells edit.site (changed_days (stations_at r.history.events) edit)
-  pub reference : place_for r.references edit.reference ≡ Some (length (edits_of r.history.events))
+  pub reference : IsPlacedFor r.references edit.reference (length (edits_of r.history.events))
   pub edits : 1 ≤ r.spare

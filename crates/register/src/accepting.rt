@@ -39,8 +39,7 @@ impl Register {
         self.cells.prepare(edit.site, days)?;
         self.pieces.reserve(1)?;
         let number = self.pieces.len() as u64;
-        self.references
-            .put(self.alloc, edit.reference.as_slice(), number)
+        self.references.put(edit.reference.as_slice(), number)
     }
 
     /// Accepts an edit by its record, for which room is made: the days that it changes await it from then on, and their claims are no

@@ -121,11 +121,8 @@ impl Register {
     pub(crate) fn named(&self, reference: &[u8]) -> Option<(u64, &Edit)>
         ensures { option_map (λ known. record { number = known.0; edit = known.1.now }) result ≡ named (edits_of self.now.history.events) reference.now }
     {
-        let place = self.references.place(reference)?;
+        let place = self.references.place(reference, self.pieces.as_slice())?;
         let piece = self.pieces.get(place as usize)?;
-        if piece.edit.reference.as_slice() != reference {
-            return None;
-        }
         Some((place + 1, &piece.edit))
     }
 

@@ -72,6 +72,7 @@ module _ (h : History) (edit : Edit) (reply : List ℕ) (next : History) where
   refused_by refusals.NoStation is told fault = refused refusals.NoStation is told
   refused_by refusals.StationExists is told fault = refused refusals.StationExists is told
   refused_by (refusals.Limit which) is told fault = refused (refusals.Limit which) is told
+  refused_by refusals.NoEntry is told fault = refused refusals.NoEntry is told
   refused_by (refusals.HistoryFull full) is told fault = refused (refusals.HistoryFull full) is told
   refused_by refusals.JournalFull is told fault = refused refusals.JournalFull is told
   refused_by refusals.NoMemory is told fault = forgone (no_memory reply told) is
@@ -107,6 +108,7 @@ unwritten (refusals.RefReused n) told reply old new fault stays none = stays ref
 unwritten refusals.NoStation told reply old new fault stays none = stays refl
 unwritten refusals.StationExists told reply old new fault stays none = stays refl
 unwritten (refusals.Limit which) told reply old new fault stays none = stays refl
+unwritten refusals.NoEntry told reply old new fault stays none = stays refl
 unwritten (refusals.HistoryFull full) told reply old new fault stays none = stays refl
 unwritten refusals.JournalFull told reply old new fault stays none = stays refl
 unwritten refusals.NoMemory told reply old new fault stays none = stays refl

@@ -129,6 +129,7 @@ module _ {D : Type 0} (g : Ghosts D) where
   passes_refused h after edit refusals.NoStation old new is counted cause leaves told = passes_none h after old new is.1 counted leaves told
   passes_refused h after edit refusals.StationExists old new is counted cause leaves told = passes_none h after old new is.1 counted leaves told
   passes_refused h after edit (refusals.Limit which) old new is counted cause leaves told = passes_none h after old new is.1 counted leaves told
+  passes_refused h after edit refusals.NoEntry old new is counted cause leaves told = passes_none h after old new is.1 counted leaves told
   passes_refused h after edit (refusals.HistoryFull full) old new is counted cause leaves told = passes_none h after old new is.1 counted leaves told
   passes_refused h after edit refusals.JournalFull old new is counted cause leaves told = passes_none h after old new is.1 counted leaves told
   passes_refused h after edit refusals.NoMemory old new is counted cause leaves told = passes_none h after old new is counted leaves told

@@ -9,7 +9,7 @@ use Rattle.history.specs.Verdicts.{Accepts, record_of, verdict}
 use Rattle.history.specs.declared.recorded.NotKept.{NotKept}
 use Rattle.history.specs.declared.recorded.NotKept.TheVariants as not_kept
 use Rattle.history.proofs.EventLemmas.{accepted_faulted}
-use Rattle.office.specs.Steps.{Step, GoesOver, IsReopened, IsStep, added_by}
+use Rattle.office.specs.Steps.{Step, GoesOver, IsReopened, IsStep, added_by, cut_off}
 use Rattle.office.proofs.CourseLemmas.{by_steps}
 use Rattle.office.proofs.DoubtLemmas.{accepted_publications, doubt_publications}
 use Rattle.office.proofs.EditLemmas.{doubt_accepted, doubt_faulted}
@@ -41,15 +41,15 @@ no_doubt : (o : Option Record) (piece : Record) → o ≡ None → o ≡ Some pi
 no_doubt None piece e h = cc
 no_doubt (Some other) piece e h = cc
 
-bounded_course : (h : History) (edits : List Edit) (new : History) → Course h edits new → IsBounded h → IsBounded new
-bounded_course h edits new (Still e is) b = subst IsBounded (sym is) b
-bounded_course h edits new (Taken edit e v is) b =
+bounded_course : (h : History) (asked : Option Edit) (edits : List Edit) (new : History) → Course h asked edits new → IsBounded h → IsBounded new
+bounded_course h asked edits new (Still e is) b = subst IsBounded (sym is) b
+bounded_course h asked edits new (Taken edit its e v is) b =
     subst IsBounded (sym is) (record {
       keeps = edit_keeps_to h edit v;
       no_longer = no_longer_accepted h.events (record_of h edit) b.no_longer;
       in_doubt = λ piece d. absurd (no_doubt _ piece (doubt_accepted h edit) d);
     })
-bounded_course h edits new (Failed edit left e v may is) b =
+bounded_course h asked edits new (Failed edit left its e v may is) b =
     subst IsBounded (sym is) (record {
       keeps = refused_keeps_to h edit left v;
       no_longer = no_longer_faulted h.events left b.no_longer;
@@ -57,7 +57,7 @@ bounded_course h edits new (Failed edit left e v may is) b =
           subst (λ (l : List Record). KeepsToTheLimit (reopen h.limits (l ++ piece ∷ []))) (sym (accepted_faulted h.events left))
           (left_keeps h edit may.0 b v piece (sym may.1 ∙ sym (doubt_faulted h left) ∙ d));
     })
-bounded_course h edits new (Shown days e p is) b =
+bounded_course h asked edits new (Shown days e p is) b =
     subst IsBounded (sym is) (record {
       keeps = published_keep h days p b.keeps;
       no_longer = no_longer_published h.events days p b.no_longer;
@@ -73,22 +73,23 @@ bounded_opened limits pieces k = record {
   in_doubt = λ piece d. absurd (no_doubt _ piece (doubt_reopened limits pieces) d);
 }
 
-bounded_reopened : (old : Registered) (found : Option Record) (new : Registered) → IsReopened old found new → IsBounded old.history → IsBounded new.history
-bounded_reopened old None new is b =
+bounded_reopened : (old : Registered) (cut : Option Edit) (found : Option Record) (new : Registered) → IsReopened old cut found new → IsBounded old.history
+    → IsBounded new.history
+bounded_reopened old cut None new is b =
     subst IsBounded (sym is.0) (bounded_opened old.history.limits (accepted old.history.events) (opened_keeps_to old.history b.no_longer b.keeps))
-bounded_reopened old (Some piece) new is b =
+bounded_reopened old cut (Some piece) new is b =
     let h = old.history in
     subst IsBounded (sym is.1) (bounded_opened h.limits (accepted h.events ++ piece ∷ []) (elim is.0 [
       | inl left ↦ b.in_doubt piece left
       | inr flown ↦
-          subst (λ (p : Record). KeepsToTheLimit (reopen h.limits (accepted h.events ++ p ∷ []))) (sym flown.2)
-          (opened_with_keeps_to h flown.0 flown.1 b.no_longer)
+          subst (λ (p : Record). KeepsToTheLimit (reopen h.limits (accepted h.events ++ p ∷ []))) (sym flown.3)
+          (opened_with_keeps_to h flown.0 flown.2 b.no_longer)
     ]))
 
 bounded_step : (old : Registered) (step : Step) (new : Registered) → IsStep old step new → IsBounded old.history → IsBounded new.history
 bounded_step old step new is b = elim (step_course old step new is) [
-  | inl course ↦ bounded_course old.history (added_by step) new.history course b
-  | inr stop ↦ bounded_reopened old stop.0 new stop.2 b
+  | inl course ↦ bounded_course old.history (cut_off step) (added_by step) new.history course b
+  | inr stop ↦ bounded_reopened old stop.0 stop.1 new stop.3 b
 ]
 
 pub limit_from_opening : (old new : Registered) (steps : List Step) (pieces : List Record) → old.history ≡ reopen old.history.limits pieces

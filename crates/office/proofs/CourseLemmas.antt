@@ -20,7 +20,7 @@ use Rattle.history.proofs.EventLemmas.{accepted_accepted}
 use Rattle.history.proofs.LastChangeLemmas.{awaits_last_change}
 use Rattle.history.proofs.RepeatLemmas.{is_repeated, repeats_still}
 use Rattle.office.specs.Edits.{IsTaken}
-use Rattle.office.specs.Steps.{Step, AnEdit, AClaim, ALook, APublication, ATurn, ASettlement, AnAnswer, AStop, Gives, GoesOver, IsCall, IsStep, added, added_by}
+use Rattle.office.specs.Steps.{Step, AnEdit, AClaim, ALook, APublication, ATurn, ASettlement, AnAnswer, AStop, Gives, GoesOver, IsCall, IsStep, added, added_by, cut_off}
 use Rattle.office.specs.declared.offices.Accepted as told
 use Rattle.office.proofs.StepLemmas.{Adds, Course, Still, Taken, Failed, Shown, adds_step, legal_step, limit_course, step_course}
 use Rattle.office_inputs.specs.Stations.{station_of, stations_of, inputs_of_day}
@@ -193,24 +193,25 @@ record GoesOn (h new : History) : Type 0 where
 events_in : History → List Event
 events_in h = h.events
 
-course_goes_on : (h : History) (edits : List Edit) (new : History) → Course h edits new → GoesOn h new
+course_goes_on : (h : History) (asked : Option Edit) (edits : List Edit) (new : History) → Course h asked edits new → GoesOn h new
 unfolding events_in
-course_goes_on h edits new (Still e is) = record { since = []; events_are = ap events_in is ∙ sym (append-nil h.events) }
-course_goes_on h edits new (Taken edit e v is) = record { since = Accepted (record_of h edit) ∷ []; events_are = ap events_in is }
-course_goes_on h edits new (Failed edit left e v may is) = record { since = Faulted left ∷ []; events_are = ap events_in is }
-course_goes_on h edits new (Shown days e p is) = record { since = map publication days; events_are = ap events_in is }
+course_goes_on h asked edits new (Still e is) = record { since = []; events_are = ap events_in is ∙ sym (append-nil h.events) }
+course_goes_on h asked edits new (Taken edit its e v is) = record { since = Accepted (record_of h edit) ∷ []; events_are = ap events_in is }
+course_goes_on h asked edits new (Failed edit left its e v may is) = record { since = Faulted left ∷ []; events_are = ap events_in is }
+course_goes_on h asked edits new (Shown days e p is) = record { since = map publication days; events_are = ap events_in is }
 
-pub call_course : (old : Registered) (step : Step) (new : Registered) → IsCall step → IsStep old step new → Course old.history (added_by step) new.history
+pub call_course : (old : Registered) (step : Step) (new : Registered) → IsCall step → IsStep old step new
+    → Course old.history (cut_off step) (added_by step) new.history
 call_course old step new call is = elim (step_course old step new is) [
   | inl course ↦ course
-  | inr stop ↦ absurd (subst IsCall stop.1 call)
+  | inr stop ↦ absurd (subst IsCall stop.2 call)
 ]
 
 calls_go_on : (old : Registered) (steps : List Step) (new : Registered) → All IsCall steps → GoesOver old steps new → GoesOn old.history new.history
 unfolding events_in
 calls_go_on old [] new calls g = record { since = []; events_are = ap (λ (r : Registered). r.history.events) g ∙ sym (append-nil old.history.events) }
 calls_go_on old (step ∷ steps) new calls g =
-    let first = course_goes_on old.history (added_by step) g.0.history (call_course old step g.0 (All-head IsCall step steps calls) g.1) in
+    let first = course_goes_on old.history (cut_off step) (added_by step) g.0.history (call_course old step g.0 (All-head IsCall step steps calls) g.1) in
     let rest = calls_go_on g.0 steps new (All-tail IsCall step steps calls) g.2 in
     record {
       since = first.since ++ rest.since;
@@ -223,7 +224,7 @@ pub limit_steps : (old : Registered) (steps : List Step) (new : Registered) → 
 limit_steps old [] new calls g k = subst (λ (r : Registered). KeepsToTheLimit r.history) (sym g) k
 limit_steps old (step ∷ steps) new calls g k =
     limit_steps g.0 steps new (All-tail IsCall step steps calls) g.2
-    (limit_course old.history (added_by step) g.0.history (call_course old step g.0 (All-head IsCall step steps calls) g.1) k)
+    (limit_course old.history (cut_off step) (added_by step) g.0.history (call_course old step g.0 (All-head IsCall step steps calls) g.1) k)
 
 -- where a job was given: its day awaited its edit, and it has the inputs that were in force
 record WasGiven (h new : History) (job : DayJob) : Type 0 where
@@ -260,7 +261,7 @@ was_given old (APublication other outcome) new job gives is = absurd gives
 was_given old (ATurn result) new job gives is = absurd gives
 was_given old (ASettlement result) new job gives is = absurd gives
 was_given old (AnAnswer site day answer) new job gives is = absurd gives
-was_given old (AStop found) new job gives is = absurd gives
+was_given old (AStop cut found) new job gives is = absurd gives
 
 -- what becomes of the publication of a job that was given before, where these events have come since
 job_published : (events since now : List Event) (d : SiteDay) (job : DayJob) (outcome : Publish) → job ≡ job_at events d

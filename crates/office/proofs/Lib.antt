@@ -1,5 +1,5 @@
 pub mod BoundLemmas
-pub mod CallLemmas
+pub mod ClaimLemmas
 pub mod CourseLemmas
 pub mod DoubtLemmas
 pub mod EditLemmas

@@ -9,23 +9,25 @@ use Rattle.history.specs.Verdicts.{Repeats, Refuses, or_else, refused_by_station
 use Rattle.journal.specs.Writing.{Lists}
 use Rattle.office.specs.Edits.{IsRefusedBy, RefusalCalls, is_fault}
 use Rattle.office_inputs.specs.Refusals as inputs
-use Rattle.office_inputs.specs.Stations.{stations_after}
+use Rattle.office_inputs.specs.Stations.{station_of, stations_after}
 use Rattle.office_inputs.specs.declared.refusals.Full.TheVariants as fulls
 use Rattle.office_inputs.specs.declared.refusals.Refusal.{Refusal}
-use Rattle.office_inputs.specs.declared.refusals.Refusal.TheVariants.{RefReused, NoStation, StationExists, Limit, HistoryFull, JournalFull, NoMemory, JournalFault}
+use Rattle.office_inputs.specs.declared.refusals.Refusal.TheVariants.{RefReused, NoStation, StationExists, Limit, NoEntry, HistoryFull, JournalFull, NoMemory, JournalFault}
 use Rattle.office_inputs.specs.declared.refusals.Which.{Which}
 
 abbrev NoFault : Option Refusal → Type 0
 NoFault o = IfSome o (λ refusal. is_fault refusal ≡ false)
 
-of_limit : (o : Option Which) → NoFault (inputs.limit_refusal o)
-of_limit None = tt
-of_limit (Some which) = refl
+of_inputs : (o : Option Which) (nothing : Bool) → NoFault (inputs.refusal_by o nothing)
+of_inputs None true = refl
+of_inputs None false = tt
+of_inputs (Some which) nothing = refl
 
-of_stations : (missing kept : Bool) (o : Option Which) → NoFault (cond missing (Some NoStation) (cond kept (Some StationExists) (inputs.limit_refusal o)))
-of_stations true kept o = refl
-of_stations false true o = refl
-of_stations false false o = of_limit o
+of_stations : (missing kept : Bool) (o : Option Which) (nothing : Bool)
+    → NoFault (cond missing (Some NoStation) (cond kept (Some StationExists) (inputs.refusal_by o nothing)))
+of_stations true kept o nothing = refl
+of_stations false true o nothing = refl
+of_stations false false o nothing = of_inputs o nothing
 
 of_room : (events cells journal : Bool) → NoFault (or_else (refused_where events (HistoryFull fulls.Events))
     (or_else (refused_where cells (HistoryFull fulls.Cells)) (refused_where journal JournalFull)))
@@ -42,7 +44,7 @@ by_stations : (h : History) (edit : Edit) → NoFault (refused_by_stations h edi
 by_stations h edit =
     let stations = stations_at h.events in
     of_stations (not (inputs.adds_station edit.what) && not (inputs.is_kept stations edit.site)) (inputs.adds_station edit.what && inputs.is_kept stations edit.site)
-    (inputs.passed_limit h.limits edit.site stations (stations_after stations edit))
+    (inputs.passed_limit h.limits edit.site stations (stations_after stations edit)) (inputs.finds_nothing (station_of stations edit.site) edit.what)
 
 by_history : (h : History) (edit : Edit) → NoFault (refusal_of h edit)
 by_history h edit =
@@ -73,6 +75,7 @@ refused_by h edit (RefReused number) v f = (v, refl)
 refused_by h edit NoStation v f = (v, refl)
 refused_by h edit StationExists v f = (v, refl)
 refused_by h edit (Limit which) v f = (v, refl)
+refused_by h edit NoEntry v f = (v, refl)
 refused_by h edit (HistoryFull full) v f = (v, refl)
 refused_by h edit JournalFull v f = (v, refl)
 refused_by h edit NoMemory v f = refl
@@ -87,12 +90,13 @@ no_calls old edit new (RefReused number) f = refl
 no_calls old edit new NoStation f = refl
 no_calls old edit new StationExists f = refl
 no_calls old edit new (Limit which) f = refl
+no_calls old edit new NoEntry f = refl
 no_calls old edit new (HistoryFull full) f = refl
 no_calls old edit new JournalFull f = refl
 no_calls old edit new NoMemory f = refl
 no_calls old edit new (JournalFault in_doubt) f = absurd (cc)
 
-lists_none : (content : Option (List ℕ)) (calls : List Bool) (faults : ℕ) (P : List Bool → Type 0) → P [] → Lists content calls calls faults P
+pub lists_none : (content : Option (List ℕ)) (calls : List Bool) (faults : ℕ) (P : List Bool → Type 0) → P [] → Lists content calls calls faults P
 lists_none None calls faults P p = tt
 lists_none (Some bytes) calls faults P p = inl ([], sym (append-nil calls), p)
 

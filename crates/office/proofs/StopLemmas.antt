@@ -1,7 +1,8 @@
 -- An opening behind a stop is a step of the office that was stopped.
-use Rattle.std.specs.Prelude.{◌≡◌, ◌⊎◌, ℕ, List, [], ◌∷◌, ◌++◌, map, reverse, Option, Some, None, ◌≤◌, length}
+use Rattle.std.specs.Prelude.{◌≡◌, ℕ, List, [], ◌∷◌, ◌++◌, map, reverse, All, Option, Some, None, ◌≤◌, length}
 use Rattle.std.proofs.Common.{arith, refl, ap, sym, subst, inl, inr, ◌∙◌}
-use Rattle.std.proofs.lemmas.List.{append-nil, append_assoc, append_cancel_left, length-map, map-append}
+use Rattle.std.proofs.lemmas.List.{append-nil, append_assoc, append_cancel_left, map-append}
+use Rattle.std.proofs.lemmas.List.Elements.{All-cons, All-nil}
 use Rattle.edits.specs.declared.content.Edit.{Edit}
 use Rattle.history.specs.Accepted.{accepted, edit_of, edits_of}
 use Rattle.history.specs.After.{doubt, doubt_back, go_on, left_by, publication, reopen}
@@ -15,24 +16,23 @@ use Rattle.history.proofs.LegalLemmas.{not_nil}
 use Rattle.journal.specs.JournalBytes.{IsJournalOf, StandsFor}
 use Rattle.journal.proofs.Walks.{one_list}
 use Rattle.office.specs.Openings.{IsOpened}
-use Rattle.office.specs.Steps.{Step, AStop, IsCall, IsReopened, IsStep, MayBeFound, added_by, GoesOver, added}
+use Rattle.office.specs.Steps.{Step, AStop, IsCall, IsReopened, IsStep, MayBeFound, added_by, cut_off, GoesOver, added}
 use Rattle.office.specs.Stops.{IsLeft, IsLeftBefore, IsLeftBetween, in_flight}
 use Rattle.office.proofs.CourseLemmas.{call_course, edits_after}
 use Rattle.office.proofs.DoubtLemmas.{accepted_publications, doubt_publications}
-use Rattle.office.proofs.EditLemmas.{doubt_accepted}
-use Rattle.office.proofs.StepLemmas.{Course, Still, Taken, Failed, Shown, adds_step}
-use Rattle.office_inputs.specs.declared.limits.Limits.{Limits}
+use Rattle.office.proofs.EditLemmas.{doubt_accepted, doubt_faulted}
+use Rattle.office.proofs.StepLemmas.{Course, Still, Taken, Failed, Shown}
 use Rattle.records.specs.declared.payloads.Record.{Record}
 use Rattle.register.specs.Registered.{Registered, NoneOut}
 
--- these records are those of the accepted edits, or these and one that may be found
-abbrev Finds : History → List Record → Option Record → Type 0
-Finds h pieces None = pieces ≡ accepted h.events
-Finds h pieces (Some piece) = MayBeFound h piece × (pieces ≡ accepted h.events ++ piece ∷ [])
+-- these records are those of the accepted edits, or these and one that may be found where this call was cut off
+abbrev Finds : History → Option Edit → List Record → Option Record → Type 0
+Finds h cut pieces None = pieces ≡ accepted h.events
+Finds h cut pieces (Some piece) = MayBeFound h cut piece × (pieces ≡ accepted h.events ++ piece ∷ [])
 
-module _ (h : History) (pieces : List Record) (image : List ℕ) (journal : IsJournalOf pieces image) where
-  finds : (records : List Record) (o : Option Record) → records ≡ accepted h.events → ((piece : Record) → o ≡ Some piece → MayBeFound h piece)
-      → StandsFor records o image → (found : Option Record) × Finds h pieces found
+module _ (h : History) (cut : Option Edit) (pieces : List Record) (image : List ℕ) (journal : IsJournalOf pieces image) where
+  finds : (records : List Record) (o : Option Record) → records ≡ accepted h.events → ((piece : Record) → o ≡ Some piece → MayBeFound h cut piece)
+      → StandsFor records o image → (found : Option Record) × Finds h cut pieces found
   finds records None are may stands = (None, one_list pieces records image journal stands ∙ are)
   finds records (Some last) are may stands = elim stands [
     | inl without ↦ (None, one_list pieces records image journal without ∙ are)
@@ -42,15 +42,15 @@ module _ (h : History) (pieces : List Record) (image : List ℕ) (journal : IsJo
     )
   ]
 
-  pub finds_left : IsLeft h image → (found : Option Record) × Finds h pieces found
+  finds_left : IsLeft h image → (found : Option Record) × Finds h cut pieces found
   finds_left left = finds (accepted h.events) (doubt h) refl (λ piece d. inl d) left
 
--- the record that a fault leaves may be found
-left_found : (h : History) (edit : Edit) (failed : NotKept) → verdict h edit ≡ Accepts → (piece : Record)
-    → left_by (doubt h) (record_of h edit) failed ≡ Some piece → MayBeFound h piece
-left_found h edit not_kept.Mend v piece e = inl e
-left_found h edit not_kept.Record v piece e = absurd (cc)
-left_found h edit not_kept.Gate v piece e = let same : record_of h edit ≡ piece = cc in inr (edit, v, sym same)
+-- the record that a fault leaves may be found where the call of its edit was cut off
+left_found : (h : History) (cut : Option Edit) (edit : Edit) (failed : NotKept) → cut ≡ Some edit → verdict h edit ≡ Accepts → (piece : Record)
+    → left_by (doubt h) (record_of h edit) failed ≡ Some piece → MayBeFound h cut piece
+left_found h cut edit not_kept.Mend its v piece e = inl e
+left_found h cut edit not_kept.Record its v piece e = absurd (cc)
+left_found h cut edit not_kept.Gate its v piece e = let same : record_of h edit ≡ piece = cc in inr (edit, its, v, sym same)
 
 -- publications that are parted
 record AreParted (days : List SiteDay) (since behind : List Event) : Type 0 where
@@ -96,15 +96,16 @@ unfolding head_of tail_of
 one_event e [] event rest h = (refl, sym (ap (head_of e) h))
 one_event e (x ∷ since) event rest h = absurd (not_nil since event rest (ap tail_of h))
 
--- on the way to this event the same edits are accepted, and the same record is in doubt; one that is in flight may be found
-record IsBefore (h : History) (since : List Event) (event : Event) : Type 0 where
+-- on the way to this event the same edits are accepted, and the same record is in doubt; one that is in flight may be found where the
+-- call was cut off
+record IsBefore (h : History) (cut : Option Edit) (since : List Event) (event : Event) : Type 0 where
   records : accepted (h.events ++ since) ≡ accepted h.events
   in_doubt : doubt_back (reverse (h.events ++ since)) ≡ doubt h
-  flight : (piece : Record) → in_flight event ≡ Some piece → MayBeFound h piece
+  flight : (piece : Record) → in_flight event ≡ Some piece → MayBeFound h cut piece
 
-first_event : (h : History) (since : List Event) (event own : Event) → (since ≡ []) × (event ≡ own)
-    → ((piece : Record) → in_flight own ≡ Some piece → MayBeFound h piece) → IsBefore h since event
-first_event h since event own e flight = record {
+first_event : (h : History) (cut : Option Edit) (since : List Event) (event own : Event) → (since ≡ []) × (event ≡ own)
+    → ((piece : Record) → in_flight own ≡ Some piece → MayBeFound h cut piece) → IsBefore h cut since event
+first_event h cut since event own e flight = record {
   records = ap (λ (l : List Event). accepted (h.events ++ l)) e.0 ∙ ap accepted (append-nil h.events);
   in_doubt = ap (λ (l : List Event). doubt_back (reverse (h.events ++ l))) e.0 ∙ ap (λ (l : List Event). doubt_back (reverse l)) (append-nil h.events);
   flight = λ piece i. flight piece (sym (ap in_flight e.1) ∙ i);
@@ -113,19 +114,19 @@ first_event h since event own e flight = record {
 events_in : History → List Event
 events_in h = h.events
 
-module _ (h new : History) (since : List Event) (event : Event) (rest : List Event) (whole : new.events ≡ (h.events ++ since) ++ event ∷ rest) where
+module _ (h new : History) (cut : Option Edit) (since : List Event) (event : Event) (rest : List Event) (whole : new.events ≡ (h.events ++ since) ++ event ∷ rest) where
   behind : (more : List Event) → new.events ≡ h.events ++ more → more ≡ since ++ event ∷ rest
   behind more e = append_cancel_left h.events more (since ++ event ∷ rest) (sym e ∙ whole ∙ append_assoc h.events since (event ∷ rest))
 
-  is_before : (edits : List Edit) → Course h edits new → IsBefore h since event
+  is_before : (edits : List Edit) → Course h cut edits new → IsBefore h cut since event
   unfolding events_in
   is_before edits (Still e is) = absurd (not_nil since event rest (behind [] (ap events_in is ∙ sym (append-nil h.events))))
-  is_before edits (Taken edit e v is) =
-      first_event h since event (Accepted (record_of h edit)) (one_event (Accepted (record_of h edit)) since event rest (behind (Accepted (record_of h edit) ∷ []) (ap events_in is)))
-      (λ piece i. let same : record_of h edit ≡ piece = cc in inr (edit, v, sym same))
-  is_before edits (Failed edit left e v may is) =
-      first_event h since event (Faulted left) (one_event (Faulted left) since event rest (behind (Faulted left ∷ []) (ap events_in is)))
-      (λ piece i. left_found h edit may.0 v piece (sym may.1 ∙ i))
+  is_before edits (Taken edit its e v is) =
+      first_event h cut since event (Accepted (record_of h edit)) (one_event (Accepted (record_of h edit)) since event rest (behind (Accepted (record_of h edit) ∷ []) (ap events_in is)))
+      (λ piece i. let same : record_of h edit ≡ piece = cc in inr (edit, its, v, sym same))
+  is_before edits (Failed edit left its e v may is) =
+      first_event h cut since event (Faulted left) (one_event (Faulted left) since event rest (behind (Faulted left ∷ []) (ap events_in is)))
+      (λ piece i. left_found h cut edit may.0 its v piece (sym may.1 ∙ i))
   is_before edits (Shown days e p is) =
       let parts = parted_days days since (event ∷ rest) (behind (map publication days) (ap events_in is)) in
       record {
@@ -134,126 +135,91 @@ module _ (h new : History) (since : List Event) (event : Event) (rest : List Eve
         flight = λ piece i. absurd (no_flight parts.second event rest parts.behind_are piece i);
       }
 
--- what a stop leaves inside a call
-found_inside : (h : History) (edits : List Edit) (new : History) (pieces : List Record) (image : List ℕ) → Course h edits new → IsJournalOf pieces image
-    → (since behind : List Event) → new.events ≡ (h.events ++ since) ++ behind → IsLeftBefore (go_on h since) behind image
-    → (found : Option Record) × (Finds h pieces found ⊎ Finds new pieces found)
-found_inside h edits new pieces image course journal since [] whole left =
-    let all : h.events ++ since ≡ new.events = sym (append-nil (h.events ++ since)) ∙ sym whole in
-    let at = finds_left new pieces image journal (subst (λ (l : List Event). StandsFor (accepted l) (doubt_back (reverse l)) image) all left) in
-    (at.0, inr at.1)
-found_inside h edits new pieces image course journal since (event ∷ rest) whole left =
-    let before = is_before h new since event rest whole edits course in
-    elim left [
-      | inl here ↦
-          let at = finds h pieces image journal (accepted (h.events ++ since)) (doubt_back (reverse (h.events ++ since))) before.records
-          (λ piece d. inl (sym before.in_doubt ∙ d)) here in
-          (at.0, inl at.1)
-      | inr flown ↦
-          let at = finds h pieces image journal (accepted (h.events ++ since)) (in_flight event) before.records before.flight flown in
-          (at.0, inl at.1)
-    ]
+module _ (h : History) (cut : Option Edit) (pieces : List Record) (image : List ℕ) (journal : IsJournalOf pieces image) where
+  -- what a stop leaves when the call has done all
+  found_after : (edits : List Edit) (new : History) → Course h cut edits new → IsLeft new image → (found : Option Record) × Finds h cut pieces found
+  found_after edits new (Still e is) left =
+      finds h cut pieces image journal (accepted new.events) (doubt new) (ap (λ (x : History). accepted x.events) is)
+      (λ piece d. inl (sym (ap doubt is) ∙ d)) left
+  found_after edits new (Taken edit its e v is) left =
+      let records = ap (λ (x : History). accepted x.events) is ∙ accepted_accepted h.events (record_of h edit) in
+      let stands = subst (λ (o : Option Record). StandsFor (accepted new.events) o image) (ap doubt is ∙ doubt_accepted h edit) left in
+      (Some (record_of h edit), (inr (edit, its, v, refl), one_list pieces (accepted new.events) image journal stands ∙ records))
+  found_after edits new (Failed edit lost its e v may is) left =
+      finds h cut pieces image journal (accepted new.events) (doubt new) (ap (λ (x : History). accepted x.events) is ∙ accepted_faulted h.events lost)
+      (λ piece d. left_found h cut edit may.0 its v piece (sym may.1 ∙ sym (doubt_faulted h lost) ∙ sym (ap doubt is) ∙ d)) left
+  found_after edits new (Shown days e p is) left =
+      finds h cut pieces image journal (accepted new.events) (doubt new) (ap (λ (x : History). accepted x.events) is ∙ accepted_publications h.events days)
+      (λ piece d. inl (sym (doubt_publications h.events days) ∙ sym (ap doubt is) ∙ d)) left
 
-reopened_on : (r register : Registered) (limits : Limits) (pieces : List Record) (found : Option Record) → Finds r.history pieces found
-    → register.history ≡ reopen limits pieces → r.history.limits ≡ limits → NoneOut register → IsReopened r found register
-reopened_on r register limits pieces None is e same none =
-    (e ∙ ap (λ (l : Limits). reopen l pieces) (sym same) ∙ ap (reopen r.history.limits) is, none)
-reopened_on r register limits pieces (Some piece) is e same none =
-    (is.0, e ∙ ap (λ (l : Limits). reopen l pieces) (sym same) ∙ ap (reopen r.history.limits) is.1, none)
+  -- and what it leaves inside the call
+  found_inside : (edits : List Edit) (new : History) → Course h cut edits new → (since behind : List Event) → new.events ≡ (h.events ++ since) ++ behind
+      → IsLeftBefore (go_on h since) behind image → (found : Option Record) × Finds h cut pieces found
+  found_inside edits new course since [] whole left =
+      let all : h.events ++ since ≡ new.events = sym (append-nil (h.events ++ since)) ∙ sym whole in
+      found_after edits new course (subst (λ (l : List Event). StandsFor (accepted l) (doubt_back (reverse l)) image) all left)
+  found_inside edits new course since (event ∷ rest) whole left =
+      let before = is_before h new cut since event rest whole edits course in
+      elim left [
+        | inl here ↦
+            finds h cut pieces image journal (accepted (h.events ++ since)) (doubt_back (reverse (h.events ++ since))) before.records
+            (λ piece d. inl (sym before.in_doubt ∙ d)) here
+        | inr flown ↦ finds h cut pieces image journal (accepted (h.events ++ since)) (in_flight event) before.records before.flight flown
+      ]
+
+found_by_step : (old : Registered) (step : Step) (new : Registered) (image : List ℕ) (pieces : List Record) → IsCall step → IsStep old step new
+    → IsLeftBetween old.history new.history image → IsJournalOf pieces image → (found : Option Record) × Finds old.history (cut_off step) pieces found
+found_by_step old step new image pieces call is left journal =
+    found_inside old.history (cut_off step) pieces image journal (added_by step) new.history (call_course old step new call is) left.since left.behind
+    left.after_is left.left
+
+reopened_on : (old register : Registered) (cut : Option Edit) (pieces : List Record) (found : Option Record) → Finds old.history cut pieces found
+    → register.history ≡ reopen old.history.limits pieces → NoneOut register → IsReopened old cut found register
+reopened_on old register cut pieces None is e none = (e ∙ ap (reopen old.history.limits) is, none)
+reopened_on old register cut pieces (Some piece) is e none = (is.0, e ∙ ap (reopen old.history.limits) is.1, none)
 
 pub stopped_between : (old register : Registered) (image : List ℕ) → IsLeft old.history image → IsOpened (Some image) old.history.limits register
-    → (found : Option Record) × IsStep old (AStop found) register
+    → (found : Option Record) × IsStep old (AStop None found) register
 stopped_between old register image left o =
-    let at = finds_left old.history o.pieces image o.found left in
-    (at.0, reopened_on old register old.history.limits o.pieces at.0 at.1 o.reopened refl o.claims)
+    let at = finds_left old.history None o.pieces image o.found left in
+    (at.0, reopened_on old register None o.pieces at.0 at.1 o.reopened o.claims)
 
 pub stopped_inside : (old : Registered) (step : Step) (new register : Registered) (image : List ℕ) → IsCall step → IsStep old step new
     → IsLeftBetween old.history new.history image → IsOpened (Some image) old.history.limits register
-    → (found : Option Record) × (IsStep old (AStop found) register ⊎ IsStep new (AStop found) register)
+    → (found : Option Record) × IsStep old (AStop (cut_off step) found) register
 stopped_inside old step new register image call is left o =
-    let at = found_inside old.history (added_by step) new.history o.pieces image (call_course old step new call is) o.found left.since left.behind left.after_is left.left in
-    let same = (adds_step old step new is).limits in (
-      at.0,
-      elim at.1 [
-        | inl before ↦ inl (reopened_on old register old.history.limits o.pieces at.0 before o.reopened refl o.claims)
-        | inr after ↦ inr (reopened_on new register old.history.limits o.pieces at.0 after o.reopened same o.claims)
-      ],
-    )
+    let at = found_by_step old step new image o.pieces call is left o.found in
+    (at.0, reopened_on old register (cut_off step) o.pieces at.0 at.1 o.reopened o.claims)
 
--- these records are those of the accepted edits, and perhaps one more
-pub record HasOneMore (h : History) (pieces : List Record) : Type 0 where
-  pub more : List Record
-  pub few : length more ≤ 1
-  pub pieces_are : pieces ≡ accepted h.events ++ more
+-- the records of the edits that were accepted before, of all that were added since, and of these more
+abbrev HasMore : List Event → List Step → History → Option Edit → List Record → List Record → Type 0
+HasMore events before h cut pieces more =
+    (length more ≤ 1) × All (MayBeFound h cut) more × (map edit_of pieces ≡ (edits_of events ++ added before) ++ map edit_of more)
 
-module _ (h : History) (pieces : List Record) (image : List ℕ) (journal : IsJournalOf pieces image) where
-  has_none_more : (records : List Record) → records ≡ accepted h.events → IsJournalOf records image → HasOneMore h pieces
-  has_none_more records are stands = record {
-    more = [];
-    few = omega arith;
-    pieces_are = one_list pieces records image journal stands ∙ are ∙ sym (append-nil (accepted h.events));
-  }
-
-  has_one_more : (records : List Record) (o : Option Record) → records ≡ accepted h.events → StandsFor records o image → HasOneMore h pieces
-  has_one_more records None are stands = has_none_more records are stands
-  has_one_more records (Some last) are stands = elim stands [
-    | inl without ↦ has_none_more records are without
-    | inr with_last ↦ record {
-      more = last ∷ [];
-      few = omega arith;
-      pieces_are = one_list pieces (records ++ last ∷ []) image journal with_last ∙ ap (λ (l : List Record). l ++ last ∷ []) are;
-    }
-  ]
-
-  -- behind a call
-  has_after : (edits : List Edit) (new : History) → Course h edits new → IsLeft new image → HasOneMore h pieces
-  has_after edits new (Still e is) left = has_one_more (accepted new.events) (doubt new) (ap (λ (x : History). accepted x.events) is) left
-  has_after edits new (Taken edit e v is) left = record {
-    more = record_of h edit ∷ [];
-    few = omega arith;
-    pieces_are =
-        one_list pieces (accepted new.events) image journal
-        (subst (λ (o : Option Record). StandsFor (accepted new.events) o image) (ap doubt is ∙ doubt_accepted h edit) left)
-        ∙ ap (λ (x : History). accepted x.events) is ∙ accepted_accepted h.events (record_of h edit);
-  }
-  has_after edits new (Failed edit lost e v may is) left =
-      has_one_more (accepted new.events) (doubt new) (ap (λ (x : History). accepted x.events) is ∙ accepted_faulted h.events lost) left
-  has_after edits new (Shown days e p is) left =
-      has_one_more (accepted new.events) (doubt new) (ap (λ (x : History). accepted x.events) is ∙ accepted_publications h.events days) left
-
-  has_inside : (edits : List Edit) (new : History) → Course h edits new → (since behind : List Event) → new.events ≡ (h.events ++ since) ++ behind
-      → IsLeftBefore (go_on h since) behind image → HasOneMore h pieces
-  has_inside edits new course since [] whole left =
-      let all : h.events ++ since ≡ new.events = sym (append-nil (h.events ++ since)) ∙ sym whole in
-      has_after edits new course (subst (λ (l : List Event). StandsFor (accepted l) (doubt_back (reverse l)) image) all left)
-  has_inside edits new course since (event ∷ rest) whole left =
-      let before = is_before h new since event rest whole edits course in
-      elim left [
-        | inl here ↦ has_one_more (accepted (h.events ++ since)) (doubt_back (reverse (h.events ++ since))) before.records here
-        | inr flown ↦ has_one_more (accepted (h.events ++ since)) (in_flight event) before.records flown
-      ]
-
--- the edits that a stop leaves: those that were accepted before, and all that were added since, and perhaps one more
-edits_left : (old at : Registered) (before : List Step) (pieces : List Record) → GoesOver old before at → HasOneMore at.history pieces
-    → (more : List Edit) × (length more ≤ 1) × (map edit_of pieces ≡ (edits_of old.history.events ++ added before) ++ more)
-edits_left old at before pieces goes has =
-    let long = length-map has.more edit_of in
-    let few = has.few in (
-      map edit_of has.more,
-      omega (arith, long, few),
-      ap (map edit_of) has.pieces_are ∙ map-append edit_of (accepted at.history.events) has.more
-          ∙ ap (λ (l : List Edit). l ++ map edit_of has.more) (edits_after old before at goes),
-    )
+edits_left : (old at : Registered) (before : List Step) (cut : Option Edit) (pieces : List Record) → GoesOver old before at
+    → (found : Option Record) → Finds at.history cut pieces found → (more : List Record) × HasMore old.history.events before at.history cut pieces more
+edits_left old at before cut pieces goes None is =
+    let edits = edits_of old.history.events ++ added before in
+    ([], (omega arith, All-nil (MayBeFound at.history cut), ap (map edit_of) is ∙ edits_after old before at goes ∙ sym (append-nil edits)))
+edits_left old at before cut pieces goes (Some piece) is = (
+  piece ∷ [],
+  (
+    omega arith,
+    All-cons (MayBeFound at.history cut) piece [] is.0 (All-nil (MayBeFound at.history cut)),
+    ap (map edit_of) is.1 ∙ map-append edit_of (accepted at.history.events) (piece ∷ [])
+        ∙ ap (λ (l : List Edit). l ++ piece.edit ∷ []) (edits_after old before at goes),
+  ),
+)
 
 pub left_between : (old at : Registered) (before : List Step) (image : List ℕ) (pieces : List Record) → GoesOver old before at → IsLeft at.history image
-    → IsJournalOf pieces image
-    → (more : List Edit) × (length more ≤ 1) × (map edit_of pieces ≡ (edits_of old.history.events ++ added before) ++ more)
+    → IsJournalOf pieces image → (more : List Record) × HasMore old.history.events before at.history None pieces more
 left_between old at before image pieces goes left journal =
-    edits_left old at before pieces goes (has_one_more at.history pieces image journal (accepted at.history.events) (doubt at.history) refl left)
+    let found = finds_left at.history None pieces image journal left in
+    edits_left old at before None pieces goes found.0 found.1
 
 pub left_inside : (old at new : Registered) (before : List Step) (step : Step) (image : List ℕ) (pieces : List Record) → GoesOver old before at → IsCall step
     → IsStep at step new → IsLeftBetween at.history new.history image → IsJournalOf pieces image
-    → (more : List Edit) × (length more ≤ 1) × (map edit_of pieces ≡ (edits_of old.history.events ++ added before) ++ more)
+    → (more : List Record) × HasMore old.history.events before at.history (cut_off step) pieces more
 left_inside old at new before step image pieces goes call is left journal =
-    edits_left old at before pieces goes
-    (has_inside at.history pieces image journal (added_by step) new.history (call_course at step new call is) left.since left.behind left.after_is left.left)
+    let found = found_by_step at step new image pieces call is left journal in
+    edits_left old at before (cut_off step) pieces goes found.0 found.1

@@ -11,7 +11,7 @@ use Rattle.journal.specs.Keeping.{AppendCalls}
 use Rattle.journal.specs.declared.keeping.AppendFault.TheVariants as append
 use Rattle.office.specs.declared.offices.Accepted.{Accepted}
 use Rattle.office_inputs.specs.declared.refusals.Refusal.{Refusal}
-use Rattle.office_inputs.specs.declared.refusals.Refusal.TheVariants.{RefReused, NoStation, StationExists, Limit, HistoryFull, JournalFull, NoMemory, JournalFault}
+use Rattle.office_inputs.specs.declared.refusals.Refusal.TheVariants.{RefReused, NoStation, StationExists, Limit, NoEntry, HistoryFull, JournalFull, NoMemory, JournalFault}
 use Rattle.records.specs.declared.payloads.Record.{Record}
 use Rattle.register.specs.Registered.{Registered, KeepsClaims, MarksClaims}
 
@@ -42,6 +42,7 @@ IsRefusedBy old edit new (RefReused number) = IsRefused old edit new (RefReused 
 IsRefusedBy old edit new NoStation = IsRefused old edit new NoStation
 IsRefusedBy old edit new StationExists = IsRefused old edit new StationExists
 IsRefusedBy old edit new (Limit which) = IsRefused old edit new (Limit which)
+IsRefusedBy old edit new NoEntry = IsRefused old edit new NoEntry
 IsRefusedBy old edit new (HistoryFull full) = IsRefused old edit new (HistoryFull full)
 IsRefusedBy old edit new JournalFull = IsRefused old edit new JournalFull
 IsRefusedBy old edit new NoMemory = new ≡ old
@@ -58,6 +59,7 @@ is_fault (RefReused number) = false
 is_fault NoStation = false
 is_fault StationExists = false
 is_fault (Limit which) = false
+is_fault NoEntry = false
 is_fault (HistoryFull full) = false
 is_fault JournalFull = false
 is_fault NoMemory = false
@@ -107,6 +109,7 @@ RefusalCalls old edit new (RefReused number) calls = calls ≡ []
 RefusalCalls old edit new NoStation calls = calls ≡ []
 RefusalCalls old edit new StationExists calls = calls ≡ []
 RefusalCalls old edit new (Limit which) calls = calls ≡ []
+RefusalCalls old edit new NoEntry calls = calls ≡ []
 RefusalCalls old edit new (HistoryFull full) calls = calls ≡ []
 RefusalCalls old edit new JournalFull calls = calls ≡ []
 RefusalCalls old edit new NoMemory calls = calls ≡ []

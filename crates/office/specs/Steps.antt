@@ -27,8 +27,9 @@ pub data Step : Type 0 where
   ATurn : Result (Option (SiteNumber × ℤ)) NoMemory → Step
   ASettlement : Result ℕ NoMemory → Step
   AnAnswer : SiteNumber → ℤ → DayAnswer → Step
-  -- a stop, at any moment, and an opening behind it, which found the records of the accepted edits and perhaps this one more
-  AStop : Option Record → Step
+  -- a stop, which cut off the call of this edit or of none, and an opening behind it, which found the records of the accepted edits and
+  -- perhaps this one more
+  AStop : Option Edit → Option Record → Step
 
 -- nothing has happened, and the same claims are out
 pub record IsAsBefore (old new : Registered) : Type 0 where
@@ -47,16 +48,17 @@ Publishes old job Settled new = IsAsBefore old new
 Publishes old job (Superseded edit) new = IsAsBefore old new
 Publishes old job Foreign new = IsAsBefore old new
 
--- the record that may be found beside those of the accepted edits: the one in doubt, or that of any edit that would be accepted then,
--- of which the one that was being kept is one
-abbrev pub MayBeFound : History → Record → Type 0
-MayBeFound h piece = (doubt h ≡ Some piece) ⊎ ((edit : Edit) × (verdict h edit ≡ Accepts) × (piece ≡ record_of h edit))
+-- The record that may be found beside those of the accepted edits: the one in doubt; or where the call of an edit was cut off whose
+-- verdict is to accept it, the record of that edit. Nothing else is found.
+abbrev pub MayBeFound : History → Option Edit → Record → Type 0
+MayBeFound h cut piece =
+    (doubt h ≡ Some piece) ⊎ ((edit : Edit) × (cut ≡ Some edit) × (verdict h edit ≡ Accepts) × (piece ≡ record_of h edit))
 
 -- an office that is opened on the records of the accepted edits and perhaps one more goes on from these, with no claim out
-abbrev pub IsReopened : Registered → Option Record → Registered → Type 0
-IsReopened old None new = (new.history ≡ reopen old.history.limits (accepted old.history.events)) × NoneOut new
-IsReopened old (Some piece) new =
-    MayBeFound old.history piece × (new.history ≡ reopen old.history.limits (accepted old.history.events ++ piece ∷ [])) × NoneOut new
+abbrev pub IsReopened : Registered → Option Edit → Option Record → Registered → Type 0
+IsReopened old cut None new = (new.history ≡ reopen old.history.limits (accepted old.history.events)) × NoneOut new
+IsReopened old cut (Some piece) new =
+    MayBeFound old.history cut piece × (new.history ≡ reopen old.history.limits (accepted old.history.events ++ piece ∷ [])) × NoneOut new
 
 -- an office goes over by this step
 abbrev pub IsStep : Registered → Step → Registered → Type 0
@@ -73,7 +75,7 @@ IsStep old (ATurn (Err failed)) new = IsAsBefore old new
 IsStep old (ASettlement (Ok count)) new = (count ≡ length (pending_days old.history.events)) × IsSettledTo old new count
 IsStep old (ASettlement (Err failed)) new = (count : ℕ) × (count < length (pending_days old.history.events)) × IsSettledTo old new count
 IsStep old (AnAnswer site day told) new = (told ≡ answer_at old.history.events site day) × IsAsBefore old new
-IsStep old (AStop more) new = IsReopened old more new
+IsStep old (AStop cut found) new = IsReopened old cut found new
 
 -- and by these steps, one behind another
 abbrev pub GoesOver : Registered → List Step → Registered → Type 0
@@ -90,15 +92,15 @@ added_by (APublication job outcome) = []
 added_by (ATurn result) = []
 added_by (ASettlement result) = []
 added_by (AnAnswer site day told) = []
-added_by (AStop None) = []
-added_by (AStop (Some piece)) = piece.edit ∷ []
+added_by (AStop cut None) = []
+added_by (AStop cut (Some piece)) = piece.edit ∷ []
 
 abbrev pub added : List Step → List Edit
 added steps = flat_map added_by steps
 
 -- the step is a call, and no stop
 abbrev pub IsCall : Step → Type 0
-IsCall (AStop more) = ⊥
+IsCall (AStop cut found) = ⊥
 IsCall (AnEdit edit result) = Unit {0}
 IsCall (AClaim result) = Unit {0}
 IsCall (ALook last result) = Unit {0}
@@ -106,6 +108,17 @@ IsCall (APublication job outcome) = Unit {0}
 IsCall (ATurn result) = Unit {0}
 IsCall (ASettlement result) = Unit {0}
 IsCall (AnAnswer site day told) = Unit {0}
+
+-- the edit whose call a stop inside this step cuts off, where it is the call of one
+abbrev pub cut_off : Step → Option Edit
+cut_off (AnEdit edit result) = Some edit
+cut_off (AClaim result) = None
+cut_off (ALook last result) = None
+cut_off (APublication job outcome) = None
+cut_off (ATurn result) = None
+cut_off (ASettlement result) = None
+cut_off (AnAnswer site day told) = None
+cut_off (AStop cut found) = None
 
 -- a claim or a look that gave this job
 abbrev pub Gives : Step → DayJob → Type 0
@@ -118,4 +131,4 @@ Gives (APublication other outcome) job = ⊥
 Gives (ATurn result) job = ⊥
 Gives (ASettlement result) job = ⊥
 Gives (AnAnswer site day told) job = ⊥
-Gives (AStop more) job = ⊥
+Gives (AStop cut found) job = ⊥

@@ -3,9 +3,11 @@
 ghost use Rattle.std.specs.Prelude.{◌≡◌, ◌≢◌, ◌<◌, ◌+◌, ℕ, ◌∷◌, [], length, option_map, Ok, None, IfOk, IfSome, OnErr};
 ghost use Rattle.history.specs.After.{after_publication, after_publications, after_settlement};
 ghost use Rattle.history.specs.Awaited.{pending_days};
+ghost use Rattle.office.specs.Steps.{AClaim, ALook, APublication, ASettlement, ATurn, IsStep};
 ghost use Rattle.register.specs.Asked.{as_pair, day_of, job_at, next_after, outcome_at};
 ghost use Rattle.register.specs.Registered.{IsSettledTo, KeepsClaims, TakesClaim, EndsClaim, first_unclaimed};
 
+use crate::laws::jobs_have_days_of_the_calendar;
 use crate::offices::Office;
 use devices::Disk;
 use fixed_units::{Day, NoMemory, Site};
@@ -20,6 +22,7 @@ impl<D: Disk> Office<D> {
         ensures claims { IfOk result (λ job. IfSome job (TakesClaim self.old.register self.new.register)) }
         ensures none { result ≡ Ok None → self.new ≡ self.old }
         ensures err { OnErr result (self.new ≡ self.old) }
+        ensures step { IsStep self.old.register (AClaim result) self.new.register }
         ensures disk { self.new.disk ≡ self.old.disk }
     {
         self.register.claim()
@@ -28,7 +31,8 @@ impl<D: Disk> Office<D> {
     /// The job of the first pending day after `last` by site, then day, or of all, whether its claim is out or not. `None` exactly
     /// where there is none. `last` need not be pending, nor kept.
     pub fn after(&self, last: Option<(Site, Day)>) -> Result<Option<Job>, NoMemory>
-        ensures { IfOk result (λ job. job ≡ option_map (job_at self.now.register.history.events) (next_after last (pending_days self.now.register.history.events))) }
+        ensures job { IfOk result (λ job. job ≡ option_map (job_at self.now.register.history.events) (next_after last (pending_days self.now.register.history.events))) }
+        ensures step { IsStep self.now.register (ALook last result) self.now.register }
     {
         self.register.after(last)
     }
@@ -39,8 +43,11 @@ impl<D: Disk> Office<D> {
         ensures published { result ≡ Publish.Published → self.new.register.history ≡ after_publications self.old.register.history (day_of done.job ∷ []) }
         ensures claims { result ≡ Publish.Published → EndsClaim self.old.register self.new.register done.job }
         ensures others { result ≢ Publish.Published → self.new ≡ self.old }
+        ensures step { IsStep self.old.register (APublication done.job result) self.new.register }
         ensures disk { self.new.disk ≡ self.old.disk }
     {
+        // this runs nothing: it tells the proof that the job's day is one of the calendar
+        jobs_have_days_of_the_calendar(&done);
         self.register.publish(done)
     }
 
@@ -52,6 +59,7 @@ impl<D: Disk> Office<D> {
         ensures fewer { IfOk result (λ day. IfSome day (λ d. length (pending_days self.new.register.history.events) + 1 ≡ length (pending_days self.old.register.history.events))) }
         ensures claims { KeepsClaims self.old.register self.new.register }
         ensures err { OnErr result (self.new ≡ self.old) }
+        ensures step { IsStep self.old.register (ATurn result) self.new.register }
         ensures disk { self.new.disk ≡ self.old.disk }
     {
         self.register.turn()
@@ -65,6 +73,7 @@ impl<D: Disk> Office<D> {
         ensures none { IfOk result (λ count. pending_days self.new.register.history.events ≡ []) }
         ensures settled { IfOk result (IsSettledTo self.old.register self.new.register) }
         ensures partly { OnErr result ((count : ℕ) × (count < length (pending_days self.old.register.history.events)) × IsSettledTo self.old.register self.new.register count) }
+        ensures step { IsStep self.old.register (ASettlement result) self.new.register }
         ensures disk { self.new.disk ≡ self.old.disk }
     {
         self.register.settle()

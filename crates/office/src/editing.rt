@@ -8,6 +8,7 @@ ghost use Rattle.journal.specs.Keeping.{IsNext};
 ghost use Rattle.journal.specs.Moments.{LeavesOnly};
 ghost use Rattle.journal.specs.Writing.{Lists};
 ghost use Rattle.office.specs.Edits.{Edits, EditCalls, EditsClaims, IsFaulted, IsTaken, asks_disk};
+ghost use Rattle.office.specs.Steps.{AnEdit, IsStep};
 ghost use Rattle.office.specs.Stops.{IsLeftBetween};
 ghost use Rattle.office_inputs.specs.Changes.{changed_days};
 ghost use Rattle.office_inputs.specs.Places.{IsPlaceOf};
@@ -40,6 +41,7 @@ impl<D: Disk> Office<D> {
     pub fn edit<L: Ledger>(&mut self, edit: Edit, steps: &mut Steps<L>) -> Result<Accepted, Refusal>
         ensures edited { Edits self.old.register.history edit self.new.register.history result }
         ensures claims { EditsClaims self.old.register edit self.new.register result }
+        ensures step { IsStep self.old.register (AnEdit edit result) self.new.register }
         ensures disk { asks_disk result ≡ false → self.new.disk ≡ self.old.disk }
         ensures any_moment { IsSome (D.content self.old.disk) → LeavesOnly D.Disk self.old.disk self.new.disk (IsLeftBetween self.old.register.history self.new.register.history) }
         ensures calls { Lists (D.content self.old.disk) (D.calls self.old.disk) (D.calls self.new.disk) (D.faults self.new.disk) (EditCalls self.old.register.history edit self.new.register.history result) }
@@ -60,20 +62,33 @@ impl<D: Disk> Office<D> {
             Ok(Judged::Accepted(days, place)) => (days, place),
             Err(NoMemory) => return Err(Refusal::NoMemory),
         };
+        self.keep_judged(edit, place, days.as_slice())
+    }
+
+    /// Keeps an edit that nothing refuses in the journal, and accepts it. All memory is taken before the journal is written.
+    fn keep_judged(&mut self, edit: Edit, place: Place, days: &[Day]) -> Result<Accepted, Refusal>
+        requires verdict { verdict self.old.register.history edit ≡ Accepts }
+        requires place { IsPlaceOf (stations_at self.old.register.history.events) edit.site place }
+        requires days { days.now ≡ changed_days (stations_at self.old.register.history.events) edit }
+        ensures edited { Edits self.old.register.history edit self.new.register.history result }
+        ensures claims { EditsClaims self.old.register edit self.new.register result }
+        ensures disk { asks_disk result ≡ false → self.new.disk ≡ self.old.disk }
+        ensures any_moment { IsSome (D.content self.old.disk) → LeavesOnly D.Disk self.old.disk self.new.disk (IsLeftBetween self.old.register.history self.new.register.history) }
+        ensures calls { Lists (D.content self.old.disk) (D.calls self.old.disk) (D.calls self.new.disk) (D.faults self.new.disk) (EditCalls self.old.register.history edit self.new.register.history result) }
+        ensures counted { D.faults self.old.disk ≤ D.faults self.new.disk }
+        ensures cause { (in_doubt : Bool) → result ≡ Err (Refusal.JournalFault in_doubt) → Rose (D.faults self.old.disk) (D.faults self.new.disk) }
+        ensures told { is_some (D.content self.new.disk) ≡ is_some (D.content self.old.disk) }
+    {
         let piece = Record { edit };
         // this runs nothing: it tells the proof that each record of the code is in the grammar
         keeps_grammar(&piece);
         let Ok(bytes) = encode_and_close(self.alloc, &piece) else {
             return Err(Refusal::NoMemory);
         };
-        if self
-            .register
-            .prepare(&piece.edit, place, days.as_slice())
-            .is_err()
-        {
+        if self.register.prepare(&piece.edit, place, days).is_err() {
             return Err(Refusal::NoMemory);
         }
-        self.keep_and_accept(piece, bytes.as_slice(), place, days.as_slice())
+        self.keep_and_accept(piece, bytes.as_slice(), place, days)
     }
 
     /// Keeps the record of an edit that nothing refuses in the journal, and accepts it. There is room for it, so no memory is taken.

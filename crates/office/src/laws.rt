@@ -1,33 +1,30 @@
 //! What holds of every office.
 
-ghost use Rattle.std.specs.Prelude.{◌≡◌, ◌≢◌, ◌↔◌, ◌⊎◌, ◌<◌, ◌≤◌, ◌+◌, ◌++◌, ◌∷◌, [], ℕ, ℤ, false, List, length, map, slice_get, All, Option, Some, None, is_some, option_map, IsSome, IfSome, Result, Ok, IfOk, OnErr};
+ghost use Rattle.std.specs.Prelude.{◌≡◌, ◌≢◌, ◌↔◌, ◌<◌, ◌≤◌, ◌+◌, ◌++◌, ◌∷◌, [], ℕ, ℤ, false, List, length, map, slice_get, All, Option, Some, None, is_some, IsSome, IfSome, Ok};
 ghost use Rattle.daily_values.specs.DayValue.{day_value};
 ghost use Rattle.daily_values.specs.declared.day_values.DayValue.{DayValue};
 ghost use Rattle.edits.specs.declared.content.Edit.{Edit};
 ghost use Rattle.fixed_units.specs.Quantities.{IsDay, SiteNumber};
-ghost use Rattle.fixed_units.specs.declared.texts.NoMemory.{NoMemory};
 ghost use Rattle.history.specs.Accepted.{accepted, edit_of, edits_of};
-ghost use Rattle.history.specs.After.{after_publication, after_publications, doubt, go_on, reopen};
-ghost use Rattle.history.specs.Awaited.{Computed, DayAnswer, NoStation, Pending, answer_at, awaited, pending_days};
+ghost use Rattle.history.specs.After.{doubt, go_on, reopen};
+ghost use Rattle.history.specs.Awaited.{Computed, DayAnswer, NoStation, Pending, answer_at, awaited};
 ghost use Rattle.history.specs.Events.{Event, History};
 ghost use Rattle.history.specs.LastChanges.{ChangedLast};
 ghost use Rattle.history.specs.Legal.{IsLegal};
 ghost use Rattle.history.specs.Verdicts.{Repeats, verdict};
 ghost use Rattle.journal.specs.JournalBytes.{HasHeader, IsJournalOf};
-ghost use Rattle.office.specs.Edits.{Edits, EditsClaims, IsTaken};
+ghost use Rattle.office.specs.Edits.{IsTaken};
 ghost use Rattle.office.specs.Openings.{IsDamagedFor, IsOpened, MayOpen};
-ghost use Rattle.office.specs.Steps.{AClaim, ALook, APublication, ASettlement, AStop, ATurn, AnAnswer, AnEdit, Gives, GoesOver, IsCall, IsStep, Step, added};
+ghost use Rattle.office.specs.Steps.{APublication, AStop, AnAnswer, AnEdit, Gives, GoesOver, IsCall, IsStep, MayBeFound, Step, added, cut_off};
 ghost use Rattle.office.specs.Stops.{IsLeft, IsLeftBetween};
 ghost use Rattle.office.specs.declared.offices.Accepted.{Accepted};
 ghost use Rattle.office_inputs.specs.Stations.{inputs_of_day, station_of, stations_of};
-ghost use Rattle.office_inputs.specs.declared.refusals.Refusal.{Refusal};
 ghost use Rattle.recompute.specs.Jobs.{DayJob};
 ghost use Rattle.recompute.specs.declared.jobs.Publish.{Publish};
 ghost use Rattle.recompute.specs.declared.jobs.Publish.TheVariants.{Foreign, Published};
 ghost use Rattle.records.specs.declared.payloads.Record.{Record};
-ghost use Rattle.register.specs.Asked.{as_pair, day_of, job_at, next_after, outcome_at};
 ghost use Rattle.register.specs.Keeping.{KeepsToTheLimit};
-ghost use Rattle.register.specs.Registered.{EndsClaim, IsSettledTo, KeepsClaims, Registered, TakesClaim, first_unclaimed};
+ghost use Rattle.register.specs.Registered.{Registered};
 
 use crate::offices::Office;
 use devices::Disk;
@@ -89,14 +86,17 @@ pub fn accepted_edits_stay()
 {}
 
 /// Stopped at any moment, between two calls or inside one, the journal has the edits that were accepted before, all that were
-/// acknowledged since, and perhaps one more.
+/// acknowledged since, and perhaps one more: the one in doubt, or inside the call of an edit whose verdict is to accept it that very
+/// edit.
 pub fn no_acknowledged_edit_is_lost()
     ensures between { (old at : Registered) (before : List Step) (image : List ℕ) (pieces : List Record) → GoesOver old before at → IsLeft at.history image
         → IsJournalOf pieces image
-        → (more : List Edit) × (length more ≤ 1) × (map edit_of pieces ≡ (edits_of old.history.events ++ added before) ++ more) }
+        → (more : List Record) × (length more ≤ 1) × All (MayBeFound at.history None) more
+        × (map edit_of pieces ≡ (edits_of old.history.events ++ added before) ++ map edit_of more) }
     ensures inside { (old at new : Registered) (before : List Step) (step : Step) (image : List ℕ) (pieces : List Record) → GoesOver old before at
         → IsCall step → IsStep at step new → IsLeftBetween at.history new.history image → IsJournalOf pieces image
-        → (more : List Edit) × (length more ≤ 1) × (map edit_of pieces ≡ (edits_of old.history.events ++ added before) ++ more) }
+        → (more : List Record) × (length more ≤ 1) × All (MayBeFound at.history (cut_off step)) more
+        × (map edit_of pieces ≡ (edits_of old.history.events ++ added before) ++ map edit_of more) }
 {}
 
 /// Whatever comes before and after it, an answer is that of the history then; one marked computed is the value that computing from
@@ -126,39 +126,15 @@ pub fn given_jobs_are_published_where_awaited()
         × ((outcome ≡ Published ↔ awaited at.history.events job.site job.day ≡ Some job.awaits) × (outcome ≢ Foreign)) }
 {}
 
-/// What a stop leaves, between two calls and inside one, is opened by a step: the office goes on from the records that were accepted
-/// before the call or behind it, and perhaps one more.
+/// What a stop leaves, between two calls and inside one, is opened by the step of that stop: the office goes on from the records of the
+/// edits that were accepted before the call, and perhaps one more, the one in doubt or that of the very edit whose call was cut off. A
+/// stop inside any other call is like one between calls.
 pub fn an_opening_is_a_step()
     ensures between { (old register : Registered) (image : List ℕ) → IsLeft old.history image → IsOpened (Some image) old.history.limits register
-        → (found : Option Record) × IsStep old (AStop found) register }
+        → (found : Option Record) × IsStep old (AStop None found) register }
     ensures inside { (old : Registered) (step : Step) (new register : Registered) (image : List ℕ) → IsCall step → IsStep old step new
         → IsLeftBetween old.history new.history image → IsOpened (Some image) old.history.limits register
-        → (found : Option Record) × (IsStep old (AStop found) register ⊎ IsStep new (AStop found) register) }
-{}
-
-/// Each call of an office is a step: by the very clauses of [`Office::edit`], [`Office::claim`], [`Office::after`], [`Office::publish`],
-/// [`Office::turn`], [`Office::settle`] and [`Office::answer`].
-pub fn calls_are_steps()
-    ensures edit { (old new : Registered) (edit : Edit) (result : Result Accepted Refusal) → Edits old.history edit new.history result
-        → EditsClaims old edit new result → IsStep old (AnEdit edit result) new }
-    ensures claim { (old new : Registered) (result : Result (Option DayJob) NoMemory)
-        → IfOk result (λ job. job ≡ option_map (job_at old.history.events) (first_unclaimed old)) → new.history ≡ old.history
-        → IfOk result (λ job. IfSome job (TakesClaim old new)) → (result ≡ Ok None → new ≡ old) → OnErr result (new ≡ old) → IsStep old (AClaim result) new }
-    ensures look { (old new : Registered) (last : Option (SiteNumber × ℤ)) (result : Result (Option DayJob) NoMemory)
-        → IfOk result (λ job. job ≡ option_map (job_at old.history.events) (next_after last (pending_days old.history.events))) → new ≡ old
-        → IsStep old (ALook last result) new }
-    ensures publication { (old new : Registered) (job : DayJob) (outcome : Publish) → IsDay job.day → outcome ≡ outcome_at old.history.events job
-        → (outcome ≡ Published → new.history ≡ after_publications old.history (day_of job ∷ [])) → (outcome ≡ Published → EndsClaim old new job)
-        → (outcome ≢ Published → new ≡ old) → IsStep old (APublication job outcome) new }
-    ensures turn { (old new : Registered) (result : Result (Option (SiteNumber × ℤ)) NoMemory)
-        → IfOk result (λ day. day ≡ option_map as_pair (first_unclaimed old))
-        → IfOk result (λ day. new.history ≡ after_publication old.history (first_unclaimed old)) → KeepsClaims old new → OnErr result (new ≡ old)
-        → IsStep old (ATurn result) new }
-    ensures settlement { (old new : Registered) (result : Result ℕ NoMemory) → IfOk result (λ count. count ≡ length (pending_days old.history.events))
-        → IfOk result (IsSettledTo old new)
-        → OnErr result ((count : ℕ) × (count < length (pending_days old.history.events)) × IsSettledTo old new count) → IsStep old (ASettlement result) new }
-    ensures answer { (old new : Registered) (site : SiteNumber) (day : ℤ) (told : DayAnswer) → told ≡ answer_at old.history.events site day → new ≡ old
-        → IsStep old (AnAnswer site day told) new }
+        → (found : Option Record) × IsStep old (AStop (cut_off step) found) register }
 {}
 
 /// The day of a job is one of the calendar.

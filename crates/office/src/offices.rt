@@ -4,6 +4,7 @@ ghost use Rattle.std.specs.Prelude.{◌≡◌, ℕ, List, length, option_map, Is
 ghost use Rattle.history.specs.Accepted.{accepted, stations_at};
 ghost use Rattle.history.specs.Awaited.{answer_at, pending_days};
 ghost use Rattle.history.specs.Statuses.{status_at};
+ghost use Rattle.office.specs.Steps.{AnAnswer, IsStep};
 ghost use Rattle.office.specs.Stops.{IsLeft};
 ghost use Rattle.office_inputs.specs.Kept.{in_force};
 ghost use Rattle.office_inputs.specs.Stations.{station_of};
@@ -106,7 +107,8 @@ impl<D: Disk> Office<D> {
 
     /// What is answered for a day. It takes no memory.
     pub fn answer(&self, site: Site, day: Day) -> Answer<'_>
-        ensures { answer_told result ≡ answer_at self.now.register.history.events site day }
+        ensures told { answer_told result ≡ answer_at self.now.register.history.events site day }
+        ensures step { IsStep self.now.register (AnAnswer site day (answer_told result)) self.now.register }
     {
         self.register.answer(site, day)
     }

@@ -16,6 +16,6 @@ returns g c =
     let told = λ (answer : DayAnswer). answer_bytes (answer_members answer ++ status_member c.status.result) in
     let by_history = ap (λ (status : Status). day_reply status (answer_at events c.args.site c.args.day)) c.status.ensures in
     elim c.match-answer.branch [
-      | in-Pending w ↦ on_ok c.make-2.result _ _ (λ is. is ∙ ap told w.answer-is ∙ ap (day_reply c.status.result) w.in-Pending.ensures ∙ by_history) c.make-2.ensures
-      | in-Computed w ↦ on_ok c.make-2.result _ _ (λ is. is ∙ ap told w.answer-is ∙ ap (day_reply c.status.result) w.in-Computed.ensures ∙ by_history) c.make-2.ensures
+      | in-Pending w ↦ on_ok c.make-2.result _ _ (λ is. is ∙ ap told w.answer-is ∙ ap (day_reply c.status.result) w.in-Pending.ensures.told ∙ by_history) c.make-2.ensures
+      | in-Computed w ↦ on_ok c.make-2.result _ _ (λ is. is ∙ ap told w.answer-is ∙ ap (day_reply c.status.result) w.in-Computed.ensures.told ∙ by_history) c.make-2.ensures
     ]

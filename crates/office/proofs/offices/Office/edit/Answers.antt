@@ -1,4 +1,4 @@
-use Rattle.std.proofs.Common.{◌≡◌, ◌≤◌, ◌+◌, IsSome, length, refl, ap, sym, subst, ◌∙◌}
+use Rattle.std.proofs.Common.{◌≡◌, ◌≤◌, ◌+◌, false, IsSome, length, refl, ap, sym, subst, ◌∙◌}
 use Rattle.history.specs.Accepted.{stations_at}
 use Rattle.history.specs.Verdicts.{Refuses, verdict}
 use Rattle.journal.specs.Moments.{LeavesOnly}
@@ -6,7 +6,7 @@ use Rattle.office.specs.Offices.{Officed}
 use Rattle.office.specs.Stops.{IsLeftBetween}
 use Rattle.office_inputs.specs.Touched.{interval}
 use Rattle.office_inputs.specs.declared.refusals.Refusal.TheVariants.{JournalFault}
-use Rattle.register.specs.Asked.{verdict_told}
+use Rattle.register.specs.Asked.{needs_days, verdict_told}
 use Rattle.office.proofs.EditLemmas.{leaves_unasked}
 use Rattle.office.proofs.RefusedLemmas.{is_refused, lists_refused, not_a_fault}
 use Rattle.office.proofs.offices.Office.edit.Goals as goal
@@ -33,20 +33,6 @@ returns-in-Err-clause-any_moment g c =
     (leaves_unasked c.self.inside.register.history c.self.inside.doubt c.self.inside.journal c.self.invariant
     (g.met.D.Disk g.world.𝓛 g.world.𝓜 g.world.𝓡 ((λ s x. x), (λ x. x), (λ x. x), λ x. x)).only_now c.self.inside.register.history refl)
 
-pub returns-in_default-clause-any_moment : goal.returns-in_default-clause-any_moment
-returns-in_default-clause-any_moment g c =
-    subst (λ (o : Officed g.row.D.Denot). IsSome (g.D.Disk.content o.disk) → LeavesOnly g.D.Disk o.disk o.disk (IsLeftBetween o.register.history o.register.history))
-    c.self.view_is
-    (leaves_unasked c.self.inside.register.history c.self.inside.doubt c.self.inside.journal c.self.invariant
-    (g.met.D.Disk g.world.𝓛 g.world.𝓜 g.world.𝓡 ((λ s x. x), (λ x. x), (λ x. x), λ x. x)).only_now c.self.inside.register.history refl)
-
-pub returns-then-is_err-clause-any_moment : goal.returns-then-is_err-clause-any_moment
-returns-then-is_err-clause-any_moment g c =
-    subst (λ (o : Officed g.row.D.Denot). IsSome (g.D.Disk.content o.disk) → LeavesOnly g.D.Disk o.disk c.self.inside.journal.disk (IsLeftBetween o.register.history c.prepare.new.self.history))
-    c.self.view_is
-    (leaves_unasked c.self.inside.register.history c.self.inside.doubt c.self.inside.journal c.self.invariant
-    (g.met.D.Disk g.world.𝓛 g.world.𝓜 g.world.𝓡 ((λ s x. x), (λ x. x), (λ x. x), λ x. x)).only_now c.prepare.new.self.history c.prepare.ensures.history)
-
 -- the steps of the search
 pub returns-in-Ok-Repeated-clause-steps : goal.returns-in-Ok-Repeated-clause-steps
 returns-in-Ok-Repeated-clause-steps g c =
@@ -65,6 +51,9 @@ returns-in-Ok-Refused-clause-edited g c =
     subst (λ (o : Officed g.row.D.Denot). verdict o.register.history c.args.edit ≡ Refuses c.in-Ok-Refused.refusal) c.self.view_is
     (sym c.in-Ok-Refused.ensures.verdict ∙ ap verdict_told c.in-Ok-Refused.field-0-is) in
     is_refused c.args.self.now.register.history c.args.edit c.in-Ok-Refused.refusal refused
+
+pub returns-in-Ok-Refused-clause-step : goal.returns-in-Ok-Refused-clause-step
+returns-in-Ok-Refused-clause-step g c = (returns-in-Ok-Refused-clause-edited g c, λ site day. refl)
 
 pub returns-in-Ok-Refused-clause-calls : goal.returns-in-Ok-Refused-clause-calls
 returns-in-Ok-Refused-clause-calls g c =
@@ -86,3 +75,12 @@ pub returns-clause-steps : goal.returns-clause-steps
 returns-clause-steps g c =
     subst (λ (o : Officed g.row.D.Denot). c.judge.new.steps ≤ c.args.steps.now + length (interval (stations_at o.register.history.events) c.args.edit) + 9)
     c.self.view_is c.judge.ensures.steps
+
+pub returns-in-Err-clause-steps : goal.returns-in-Err-clause-steps
+returns-in-Err-clause-steps g c =
+    subst (λ (o : Officed g.row.D.Denot). c.judge.new.steps ≤ c.args.steps.now + length (interval (stations_at o.register.history.events) c.args.edit) + 9)
+    c.self.view_is c.judge.ensures.steps
+
+pub returns-in-Err-clause-no_step : goal.returns-in-Err-clause-no_step
+returns-in-Err-clause-no_step g c none =
+    c.judge.ensures.no_step (subst (λ (o : Officed g.row.D.Denot). needs_days o.register.history c.args.edit ≡ false) (sym c.self.view_is) none)

@@ -1,6 +1,7 @@
 """Journals of one station, read and written apart from the program: what the scripts beside this compare with.
 
-Edit 1 adds the station, and every later one puts a reading, each under a reference of its own."""
+Edit 1 adds the station, every later one puts a reading, and each tenth one a datum correction instead, each under a
+reference of its own."""
 import datetime
 import json
 import struct
@@ -21,14 +22,22 @@ def instant(number):
     return FIRST + 60 * number
 
 
+def correction_set(number):
+    """The number of the set that the correction of an edit is of."""
+    return 1 + number // 10 % 3
+
+
 def content(number, raw):
     """The members of an edit behind those that every edit has, and its kind."""
     if number == 1:
         names = ["name", "zone", "gap", "stage_array", "discharge_array"]
         return "AddStation", dict(zip(names, [NAME, ZONE, GAP, STAGES, DISCHARGES]))
-    at = datetime.datetime.fromtimestamp(instant(number), datetime.timezone.utc)
+    at = datetime.datetime.fromtimestamp(instant(number), datetime.timezone.utc).strftime("%Y-%m-%dT%H:%M:%SZ")
     stage = "%d.%06d" % (raw // 1_000_000, raw % 1_000_000)
-    return "PutReadings", {"readings": [[at.strftime("%Y-%m-%dT%H:%M:%SZ"), stage]]}
+    if number % 10 == 0:
+        points = [["0", "0.10"], ["1.50", stage]]
+        return "PutCorrection", {"set": correction_set(number), "at": at, "points": points, "prorate": number % 20 == 0}
+    return "PutReadings", {"readings": [[at, stage]]}
 
 
 def request(number, raw=STAGE):
@@ -52,6 +61,9 @@ def payload(number, raw=STAGE):
     head = short("AB") + short(reference(number)) + struct.pack("<BQ", 8, 1_646_500)
     if number == 1:
         return b"\x01" + head + short(NAME) + short(ZONE) + struct.pack("<I", GAP) + (STAGES + DISCHARGES).encode()
+    if number % 10 == 0:
+        points = struct.pack("<Bqqqq", 2, 0, 100_000, 1_500_000, raw)
+        return b"\x06" + head + struct.pack("<Bq", correction_set(number), instant(number)) + points + bytes([number % 20 == 0])
     return b"\x03" + head + struct.pack("<IqqB", 1, instant(number), raw, 0)
 
 

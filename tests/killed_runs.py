@@ -3,8 +3,8 @@
 
     python3 tests/killed_runs.py PROGRAM [--runs 200] [--folder .] [--seed 1]
 
-Each run begins from a new journal. A station and a stream of its readings are sent to `batch --journal`, and SIGKILL
-comes at a random moment while it answers. Then the journal must hold every edit whose reply was written, byte for byte
+Each run begins from a new journal. A station and a stream of its readings and corrections are sent to `batch --journal`,
+and SIGKILL comes at a random moment while it answers. Then the journal must hold every edit whose reply was written, byte for byte
 and in order, and at most one more; and the program must open it again and give the next edit the next number. Prints a
 table of what was found, and ends with status 1 at the first run that is not so. 200 runs take about half a minute.
 
@@ -25,8 +25,6 @@ import journals
 
 REPLY = b'{"edit":'
 EDITS = 4000
-# A record of a reading, with its gate.
-RECORD = len(journals.block(2))
 
 
 def feed(stream, data):
@@ -71,7 +69,9 @@ def check(program, journal, sent, acknowledged):
     again = subprocess.run([program, "batch", "--journal", journal], input=following, capture_output=True)
     if again.returncode != 0 or REPLY + b"%d," % (len(kept) + 1) not in again.stdout:
         raise SystemExit(f"opened again: status {again.returncode}, {again.stdout!r}, {again.stderr!r}")
-    return more, behind
+    # The record that was being written, with its gate.
+    whole = len(journals.block(len(kept) + 1))
+    return more, "nothing" if behind == 0 else "a part of a record" if behind < whole else "a record"
 
 
 def main():
@@ -91,7 +91,7 @@ def main():
             journal = str(pathlib.Path(place) / f"journal-{number}")
             sent, acknowledged, status = killed_run(program, journal, chance)
             more, behind = check(program, journal, sent, acknowledged)
-            table[more, "nothing" if behind == 0 else "a part of a record" if behind < RECORD else "a record"] += 1
+            table[more, behind] += 1
             most, least, total = max(most, acknowledged), min(least, acknowledged), total + acknowledged
             ended += status == 0
             pathlib.Path(journal).unlink()

@@ -2,6 +2,8 @@
 #![tactic(auto)]
 
 #[cfg(test)]
+mod corrections;
+#[cfg(test)]
 mod days;
 #[cfg(test)]
 mod faults;

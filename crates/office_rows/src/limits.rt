@@ -84,6 +84,22 @@ impl Stream {
         self.send()
     }
 
+    /// Puts an entry of a correction set of the station 01646500, under this number.
+    fn correct_at(&mut self, number: u64, set: u64, at: Second) -> Result<(), NoMemory> {
+        let mut text = Text::new(self.alloc);
+        write_instant(at, &mut text)?;
+        self.body.truncate(0);
+        self.body
+            .push_slice(br#"{"kind":"PutCorrection","by":"AB","ref":"c"#)?;
+        self.body.push_number(number)?;
+        self.body.push_slice(br#"","site":"01646500","prorate":true,"points":[["0","0"]],"set":"#)?;
+        self.body.push_number(set)?;
+        self.body.push_slice(br#","at":""#)?;
+        self.body.push_slice(text.as_slice())?;
+        self.body.push_slice(br#""}"#)?;
+        self.send()
+    }
+
     /// Ends the body by a reading.
     fn push_readings(&mut self, at: &[u8]) -> Result<(), NoMemory> {
         self.body.push_slice(br#"","readings":[[""#)?;
@@ -159,6 +175,44 @@ fn a_day_has_1500_readings(rt: HostRuntime) -> Result<(), Fail> {
     let mut stream = Stream::new(rt.alloc());
     fill_day(&mut stream)?;
     pass_the_day(&mut stream)?;
+    stream.pass()
+}
+
+const MANY_ENTRIES: &str = r#"{"code":"Limit","limit":"Entries"}"#;
+
+/// Puts an entry under this number into a correction set, at the stamp of that number.
+fn correct_at(stream: &mut Stream, number: u32, set: u64, stamped: u32) -> Result<(), Fail> {
+    let at = stamp(stamped).ok_or("a second")?;
+    Ok(stream.correct_at(u64::from(number), set, at)?)
+}
+
+/// 10,000 entries of a series are put.
+fn fill_series(stream: &mut Stream) -> Result<(), Fail> {
+    stream.body.push_slice(ADDITION.as_bytes())?;
+    stream.send()?;
+    stream.accepted(1)?;
+    for number in 2..10_002u32 {
+        correct_at(stream, number, 1, number)?;
+        stream.accepted(u64::from(number))?;
+    }
+    Ok(())
+}
+
+/// One more is refused; one in the place of another is none more, nor is one of another set.
+fn pass_the_series(stream: &mut Stream) -> Result<(), Fail> {
+    correct_at(stream, 10_002, 1, 10_002)?;
+    stream.refused(MANY_ENTRIES)?;
+    correct_at(stream, 10_003, 1, 2)?;
+    stream.accepted(10_002)?;
+    correct_at(stream, 10_004, 2, 10_002)?;
+    Ok(stream.accepted(10_003)?)
+}
+
+#[test]
+fn a_series_has_10000_entries(rt: HostRuntime) -> Result<(), Fail> {
+    let mut stream = Stream::new(rt.alloc());
+    fill_series(&mut stream)?;
+    pass_the_series(&mut stream)?;
     stream.pass()
 }
 

@@ -8,4 +8,8 @@ mod fixtures;
 #[cfg(test)]
 mod good_bodies;
 #[cfg(test)]
+mod no_json;
+#[cfg(test)]
 mod refusals;
+#[cfg(test)]
+mod value_refusals;

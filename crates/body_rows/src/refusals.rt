@@ -1,9 +1,7 @@
-//! What refuses a body: the first member that is missing or ill formed, a further one, or the text itself.
+//! What refuses a body: the first member that is missing, one of the sender that is ill formed, or a further one.
 
-use crate::fixtures::{Row, first_misnamed_of_all, is_refused};
-use edit_bodies::{BodyFault, Member};
-use json::Scratch;
-use std::alloc::Global;
+use crate::fixtures::{Row, first_misnamed_of_all};
+use edit_bodies::Member;
 
 /// Each member is missing once, and the first of two.
 const MISSING: [Row; 16] = [
@@ -134,154 +132,6 @@ const SENDERS: [Row; 15] = [
     ),
 ];
 
-/// Each part of a station out of its range.
-const SETTINGS: [Row; 23] = [
-    (
-        r#"{"kind":"AddStation","by":"AB","ref":"a-1","site":"01646500","name":"","zone":"-05:00","gap":60,"stage_array":"9999999992","discharge_array":"9999999992"}"#,
-        Member::Name,
-    ),
-    (
-        r#"{"kind":"AddStation","by":"AB","ref":"a-1","site":"01646500","name":"xxxxxxxxxxxxxxxxxxxxxxxxxxxxxxxxxxxxxxxxxxxxxxxxxxxxxxxxxxxxx","zone":"-05:00","gap":60,"stage_array":"9999999992","discharge_array":"9999999992"}"#,
-        Member::Name,
-    ),
-    (
-        r#"{"kind":"AddStation","by":"AB","ref":"a-1","site":"01646500","name":"caf\u00e9","zone":"-05:00","gap":60,"stage_array":"9999999992","discharge_array":"9999999992"}"#,
-        Member::Name,
-    ),
-    (
-        r#"{"kind":"AddStation","by":"AB","ref":"a-1","site":"01646500","name":"\u007f","zone":"-05:00","gap":60,"stage_array":"9999999992","discharge_array":"9999999992"}"#,
-        Member::Name,
-    ),
-    (
-        r#"{"kind":"AddStation","by":"AB","ref":"a-1","site":"01646500","name":null,"zone":"-05:00","gap":60,"stage_array":"9999999992","discharge_array":"9999999992"}"#,
-        Member::Name,
-    ),
-    (
-        r#"{"kind":"AddStation","by":"AB","ref":"a-1","site":"01646500","name":"POTOMAC","zone":"EST","gap":60,"stage_array":"9999999992","discharge_array":"9999999992"}"#,
-        Member::Zone,
-    ),
-    (
-        r#"{"kind":"AddStation","by":"AB","ref":"a-1","site":"01646500","name":"POTOMAC","zone":"","gap":60,"stage_array":"9999999992","discharge_array":"9999999992"}"#,
-        Member::Zone,
-    ),
-    (
-        r#"{"kind":"AddStation","by":"AB","ref":"a-1","site":"01646500","name":"POTOMAC","zone":"+15:00","gap":60,"stage_array":"9999999992","discharge_array":"9999999992"}"#,
-        Member::Zone,
-    ),
-    (
-        r#"{"kind":"AddStation","by":"AB","ref":"a-1","site":"01646500","name":"POTOMAC","zone":"America/New_York","gap":60,"stage_array":"9999999992","discharge_array":"9999999992"}"#,
-        Member::Zone,
-    ),
-    (
-        r#"{"kind":"AddStation","by":"AB","ref":"a-1","site":"01646500","name":"POTOMAC","zone":"\u00e9","gap":0,"stage_array":"9999999992","discharge_array":"9999999992"}"#,
-        Member::Zone,
-    ),
-    (
-        r#"{"kind":"AddStation","by":"AB","ref":"a-1","site":"01646500","name":"POTOMAC","zone":"-05:00","gap":0,"stage_array":"9999999992","discharge_array":"9999999992"}"#,
-        Member::Gap,
-    ),
-    (
-        r#"{"kind":"AddStation","by":"AB","ref":"a-1","site":"01646500","name":"POTOMAC","zone":"-05:00","gap":721,"stage_array":"9999999992","discharge_array":"9999999992"}"#,
-        Member::Gap,
-    ),
-    (
-        r#"{"kind":"AddStation","by":"AB","ref":"a-1","site":"01646500","name":"POTOMAC","zone":"-05:00","gap":60.0,"stage_array":"9999999992","discharge_array":"9999999992"}"#,
-        Member::Gap,
-    ),
-    (
-        r#"{"kind":"AddStation","by":"AB","ref":"a-1","site":"01646500","name":"POTOMAC","zone":"-05:00","gap":6e1,"stage_array":"9999999992","discharge_array":"9999999992"}"#,
-        Member::Gap,
-    ),
-    (
-        r#"{"kind":"AddStation","by":"AB","ref":"a-1","site":"01646500","name":"POTOMAC","zone":"-05:00","gap":-0,"stage_array":"9999999992","discharge_array":"9999999992"}"#,
-        Member::Gap,
-    ),
-    (
-        r#"{"kind":"AddStation","by":"AB","ref":"a-1","site":"01646500","name":"POTOMAC","zone":"-05:00","gap":-60,"stage_array":"9999999992","discharge_array":"9999999992"}"#,
-        Member::Gap,
-    ),
-    (
-        r#"{"kind":"AddStation","by":"AB","ref":"a-1","site":"01646500","name":"POTOMAC","zone":"-05:00","gap":"60","stage_array":"9999999992","discharge_array":"9999999992"}"#,
-        Member::Gap,
-    ),
-    (
-        r#"{"kind":"AddStation","by":"AB","ref":"a-1","site":"01646500","name":"POTOMAC","zone":"-05:00","gap":18446744073709551616,"stage_array":"9999999992","discharge_array":"9999999992"}"#,
-        Member::Gap,
-    ),
-    (
-        r#"{"kind":"SetStation","by":"AB","ref":"a-1","site":"01646500","name":"POTOMAC","gap":60,"stage_array":"999999999","discharge_array":"9999999992"}"#,
-        Member::StageArray,
-    ),
-    (
-        r#"{"kind":"SetStation","by":"AB","ref":"a-1","site":"01646500","name":"POTOMAC","gap":60,"stage_array":"9999999997","discharge_array":"9999999992"}"#,
-        Member::StageArray,
-    ),
-    (
-        r#"{"kind":"SetStation","by":"AB","ref":"a-1","site":"01646500","name":"POTOMAC","gap":60,"stage_array":"999999999a","discharge_array":"9999999992"}"#,
-        Member::StageArray,
-    ),
-    (
-        r#"{"kind":"SetStation","by":"AB","ref":"a-1","site":"01646500","name":"POTOMAC","gap":60,"stage_array":"9999999992","discharge_array":"99999999999"}"#,
-        Member::DischargeArray,
-    ),
-    (
-        r#"{"kind":"SetStation","by":"AB","ref":"a-1","site":"01646500","name":"POTOMAC","gap":60,"stage_array":"9999999992","discharge_array":9999999992}"#,
-        Member::DischargeArray,
-    ),
-];
-
-/// Rows that are not one usable reading.
-const READINGS: [Row; 12] = [
-    (
-        r#"{"kind":"PutReadings","by":"AB","ref":"a-1","site":"01646500","readings":[]}"#,
-        Member::Readings,
-    ),
-    (
-        r#"{"kind":"PutReadings","by":"AB","ref":"a-1","site":"01646500","readings":null}"#,
-        Member::Readings,
-    ),
-    (
-        r#"{"kind":"PutReadings","by":"AB","ref":"a-1","site":"01646500","readings":[[]]}"#,
-        Member::Readings,
-    ),
-    (
-        r#"{"kind":"PutReadings","by":"AB","ref":"a-1","site":"01646500","readings":["2024-01-05T05:00:00Z","1.91"]}"#,
-        Member::Readings,
-    ),
-    (
-        r#"{"kind":"PutReadings","by":"AB","ref":"a-1","site":"01646500","readings":[["2024-01-05T05:00:00Z"]]}"#,
-        Member::Readings,
-    ),
-    (
-        r#"{"kind":"PutReadings","by":"AB","ref":"a-1","site":"01646500","readings":[["2024-01-05T05:00:00Z","1.91","ok"]]}"#,
-        Member::Readings,
-    ),
-    (
-        r#"{"kind":"PutReadings","by":"AB","ref":"a-1","site":"01646500","readings":[["2024-01-05T05:00:00Z","1.91"],["2024-01-05T05:15:00Z","1.92"]]}"#,
-        Member::Readings,
-    ),
-    (
-        r#"{"kind":"PutReadings","by":"AB","ref":"a-1","site":"01646500","readings":[["1900-01-02T23:59:59Z","1.91"]]}"#,
-        Member::Readings,
-    ),
-    (
-        r#"{"kind":"PutReadings","by":"AB","ref":"a-1","site":"01646500","readings":[["2024-01-05T05:00:60Z","1.91"]]}"#,
-        Member::Readings,
-    ),
-    (
-        r#"{"kind":"PutReadings","by":"AB","ref":"a-1","site":"01646500","readings":[["2024-01-05T05:00:00Z","100000.000001"]]}"#,
-        Member::Readings,
-    ),
-    (
-        r#"{"kind":"PutReadings","by":"AB","ref":"a-1","site":"01646500","readings":[["2024-01-05T05:00:00Z","1e3"]]}"#,
-        Member::Readings,
-    ),
-    (
-        r#"{"kind":"PutReadings","by":"AB","ref":"a-1","site":"01646500","readings":[["2024-01-05T05:00:00Z",1.91]]}"#,
-        Member::Readings,
-    ),
-];
-
 /// A member that no such edit has, where all others are good.
 const FURTHER: [Row; 7] = [
     (
@@ -339,11 +189,9 @@ const VALUES: [Row; 6] = [
     ),
 ];
 
-const TABLES: [(&str, &[Row]); 7] = [
+const TABLES: [(&str, &[Row]); 5] = [
     ("missing members", &MISSING),
     ("senders", &SENDERS),
-    ("settings", &SETTINGS),
-    ("readings", &READINGS),
     ("further members", &FURTHER),
     ("members that come twice", &TWICE),
     ("other values", &VALUES),
@@ -353,48 +201,4 @@ const TABLES: [(&str, &[Row]); 7] = [
 fn bodies_are_refused_by_their_first_bad_member(rt: HostRuntime) {
     let misnamed = first_misnamed_of_all(rt.alloc(), &TABLES);
     assert!(rt; misnamed.is_none(), "{misnamed:?}");
-}
-
-/// Texts that state no value.
-const NO_JSON: [&str; 10] = [
-    "",
-    "{",
-    "{}x",
-    r#"{"a":1e400}"#,
-    r#"{"kind":"PutReadings","by":"AB","ref":"a-1","site":"01646500","readings":[["2024-01-05T05:00:00Z","1.91"]],"x":1e400}"#,
-    r#"{"kind":"PutReadings","by":"AB","ref":"a-1","site":"01646500","readings":[["2024-01-05T05:00:00Z","1.91"]],"x":"\ud800"}"#,
-    "[[[[[[[[[[[[[[[[[[[[[[[[[[[[[[[[[[[[[[[[[[[[[[[[[[[[[[[[[[[[[[[[[[[[[[[[[[[[[[[[[[[[[[[[[[[[[[[[[[[[[[[[[[[[[[[[[[[[[[[[[[[[[[[[]]]]]]]]]]]]]]]]]]]]]]]]]]]]]]]]]]]]]]]]]]]]]]]]]]]]]]]]]]]]]]]]]]]]]]]]]]]]]]]]]]]]]]]]]]]]]]]]]]]]]]]]]]]]]]]]]]]]]]]]]]]]]]]]",
-    r#"{"kind":"PutReadings","by":"AB","ref":"a-1","site":"01646500","readings":[["2024-01-05T05:00:00Z","1.91"]],"x":[[[[[[[[[[[[[[[[[[[[[[[[[[[[[[[[[[[[[[[[[[[[[[[[[[[[[[[[[[[[[[[[[[[[[[[[[[[[[[[[[[[[[[[[[[[[[[[[[[[[[[[[[[[[[[[[[[[[[[[[[[[[[[[]]]]]]]]]]]]]]]]]]]]]]]]]]]]]]]]]]]]]]]]]]]]]]]]]]]]]]]]]]]]]]]]]]]]]]]]]]]]]]]]]]]]]]]]]]]]]]]]]]]]]]]]]]]]]]]]]]]]]]]]]]]]]]]}"#,
-    r#"{"gap":01}"#,
-    "{'a':1}",
-];
-
-/// The number from 0 on of the first that is not refused as no JSON.
-fn first_json(alloc: Global, bodies: &[&str]) -> Option<usize> {
-    let mut scratch = Scratch::new(alloc);
-    for (row, body) in bodies.iter().enumerate() {
-        if !is_refused(alloc, body.as_bytes(), BodyFault::Json, &mut scratch) {
-            return Some(row);
-        }
-    }
-    None
-}
-
-#[test]
-fn other_texts_are_no_json(rt: HostRuntime) {
-    let json = first_json(rt.alloc(), &NO_JSON);
-    assert!(rt; json.is_none(), "{json:?}");
-}
-
-#[test]
-fn other_bytes_are_no_json(rt: HostRuntime) {
-    let mut scratch = Scratch::new(rt.alloc());
-    assert!(rt;
-        is_refused(
-            rt.alloc(),
-            b"{\"a\":\"\xff\"}",
-            BodyFault::Json,
-            &mut scratch
-        )
-    );
 }

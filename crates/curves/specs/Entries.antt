@@ -9,6 +9,10 @@ use Rattle.rising.specs.Ends.{first, last}
 use Rattle.curves.specs.Curve.{curve_value}
 use Rattle.curves.specs.declared.entries.Entry.{Entry}
 
+-- an entry of these parts
+abbrev pub entry_of : ℤ → List (ℤ × ℤ) → Bool → Entry
+entry_of at curve prorate = record { at = at; curve = curve; prorate = prorate }
+
 -- what an entry stands at
 abbrev pub instant_of : Entry → ℤ
 instant_of entry = entry.at
@@ -51,9 +55,19 @@ pub record IsSeries (entries : List Entry) : Type 0 where
   pub rising : IsRising entries
   pub amounts : AreAmounts entries
 
+-- of these entries the last one before an instant, the one at it, and the first one after it
+abbrev pub entry_before : ℤ → List Entry → Option Entry
+entry_before at entries = last (lists.before instant_of at entries)
+
+abbrev pub entry_at : ℤ → List Entry → Option Entry
+entry_at at entries = lists.at instant_of at entries
+
+abbrev pub entry_after : ℤ → List Entry → Option Entry
+entry_after at entries = first (lists.after instant_of at entries)
+
 -- whether an entry stands at an instant
 abbrev pub stands_at : ℤ → List Entry → Bool
-stands_at at entries = is_some (lists.at instant_of at entries)
+stands_at at entries = is_some (entry_at at entries)
 
 -- the entries without the one at an instant
 abbrev pub without : ℤ → List Entry → List Entry

@@ -2,8 +2,7 @@
 use Rattle.std.specs.Prelude.{Bool, true, false, not, ◌&&◌, List, ℤ, Option, Some, None}
 use Rattle.std.specs.Ordering.{int_eq}
 use Rattle.std.specs.Cmp.Lexicographic.{pointwise}
-use Rattle.rising.specs.Lists as lists
-use Rattle.curves.specs.Entries.{instant_of}
+use Rattle.curves.specs.Entries.{entry_at}
 use Rattle.curves.specs.declared.entries.Entry.{Entry}
 
 -- the stages and the amounts are one
@@ -30,4 +29,4 @@ is_found entry (Some other) = same_entry entry other
 
 -- an entry equal to this one stands at its instant
 abbrev pub has_entry : Entry → List Entry → Bool
-has_entry entry entries = is_found entry (lists.at instant_of entry.at entries)
+has_entry entry entries = is_found entry (entry_at entry.at entries)

@@ -1,7 +1,7 @@
 //! The entries of a series, and the amount that they put in force at an instant.
 
-ghost use Rattle.std.specs.Prelude.{◌≡◌, ◌≤◌, length, ◌≤ℤ◌, ◌<ℤ◌, option_map, slice_range};
-ghost use Rattle.curves.specs.Entries.{IsRising, amount_prorated, series_value};
+ghost use Rattle.std.specs.Prelude.{◌≡◌, ◌≤◌, length, pos, ◌≤ℤ◌, ◌<ℤ◌, option_map, slice_range};
+ghost use Rattle.curves.specs.Entries.{IsRising, entry_of, amount_prorated, series_value};
 ghost use Rattle.curves.specs.Bearing.{bearing, is_led_to, reaches};
 
 use crate::curve::Curve;
@@ -17,6 +17,15 @@ pub struct Entry {
     pub curve: Curve,
     /// Whether the amount goes over to that of the next entry in a straight line.
     pub prorate: bool,
+}
+
+impl Entry {
+    /// The entry of these parts.
+    pub fn new(at: Second, curve: Curve, prorate: bool) -> Entry
+        ensures { result ≡ entry_of at curve prorate }
+    {
+        Entry { at, curve, prorate }
+    }
 }
 
 impl Keyed for Entry {
@@ -41,19 +50,39 @@ impl Keyed for Entry {
 
 /// The amount in force at an instant for a stage, by entries whose instants strictly rise: 0 before the first one;
 /// after that the value of the curve of the last one up to the instant, or where it prorates and another one follows
-/// the line between the values of the two curves, rounded once more.
+/// the line between the values of the two curves, rounded once more. Most days of a record have no corrections and no
+/// shifts, so a series without entries is not searched.
+#[inline(always)]
 pub fn value_of(entries: &[Entry], at: Second, stage: Micro) -> Micro
+    requires { IsRising entries.now }
+    ensures { result ≡ series_value entries.now at stage }
+{
+    if entries.is_empty() {
+        return no_amount();
+    }
+    value_searched(entries, at, stage)
+}
+
+/// The amount in force at an instant for a stage, by a search for the instant.
+fn value_searched(entries: &[Entry], at: Second, stage: Micro) -> Micro
     requires { IsRising entries.now }
     ensures { result ≡ series_value entries.now at stage }
 {
     let (past, future) = entries.split_at(count_to(entries, at));
     let Some(entry) = past.last() else {
-        return Micro::new(0).unwrap();
+        return no_amount();
     };
     match future.first() {
         Some(next) if entry.prorate => amount_prorated(entry, next, at, stage),
         _ => entry.curve.value(stage),
     }
+}
+
+/// No amount, as before the first entry.
+fn no_amount() -> Micro
+    ensures { result ≡ pos 0 }
+{
+    Micro::new(0).unwrap()
 }
 
 /// The amount at an instant between two entries.

@@ -1,8 +1,8 @@
 //! When two lists of entries are equal.
 
-ghost use Rattle.std.specs.Prelude.{◌≡◌, false, List, ◌∷◌, IfSome, IfNone};
+ghost use Rattle.std.specs.Prelude.{◌≡◌, ◌↔◌, true, false, List, ◌∷◌, IfSome, IfNone, option_map};
 ghost use Rattle.std.specs.Bool.{Decides};
-ghost use Rattle.curves.specs.Equality.{same_entry, same_entries};
+ghost use Rattle.curves.specs.Equality.{is_found, same_entry, same_entries};
 ghost use Rattle.curves.specs.declared.entries.Entry.{Entry};
 
 use crate::entries::Entry;
@@ -33,16 +33,27 @@ fn behind<'a>(entry: &Entry, list: &'a [Entry]) -> Option<&'a [Entry]>
     ensures other { IfNone result ((others : List Entry) → same_entries (entry.now ∷ others) list.now ≡ false) }
 {
     match list {
-        [found, rest @ ..] if is_same(entry, found) => Some(rest),
+        [found, rest @ ..] if is_same_entry(entry, found) => Some(rest),
         _ => None,
     }
 }
 
-/// Whether two entries are equal.
-pub(crate) fn is_same(entry: &Entry, other: &Entry) -> bool
-    ensures { result ≡ same_entry entry.now other.now }
+/// Whether two entries are equal: by the instant, the points of the curve and whether it prorates.
+pub fn is_same_entry(entry: &Entry, other: &Entry) -> bool
+    ensures same { result ≡ same_entry entry.now other.now }
+    ensures equal { result ≡ true ↔ entry.now ≡ other.now }
 {
     entry.at == other.at
         && entry.curve.points() == other.curve.points()
         && entry.prorate == other.prorate
+}
+
+/// Whether an entry was found that is equal to this one.
+pub fn is_found(entry: &Entry, found: Option<&Entry>) -> bool
+    ensures { result ≡ is_found entry.now (option_map (λ f. f.now) found.entry) }
+{
+    match found {
+        Some(other) => is_same_entry(entry, other),
+        None => false,
+    }
 }

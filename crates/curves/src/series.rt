@@ -1,13 +1,12 @@
 //! A kept series: entries that rise by instant, with room for more.
 
-ghost use Rattle.std.specs.Prelude.{◌≡◌, ◌+◌, ◌<◌, ◌≤◌, [], length, is_ok, IsOk, IfOk, OnOk, OnErr, slice_range};
-ghost use Rattle.curves.specs.Entries.{IsRising, series_value, stands_at, without, put};
-ghost use Rattle.curves.specs.Bearing.{bearing, bears_at};
-ghost use Rattle.curves.specs.Equality.{has_entry};
+ghost use Rattle.std.specs.Prelude.{◌≡◌, ◌+◌, ◌<◌, ◌≤◌, [], length, is_ok, IsOk, IfOk, OnOk, OnErr, option_map, slice_range};
+ghost use Rattle.curves.specs.Entries.{IsRising, entry_after, entry_at, entry_before, series_value, stands_at, without, put};
+ghost use Rattle.curves.specs.Bearing.{bearing};
 
-use crate::entries::{Entry, bearing, is_led_to, reaches, value_of};
+use crate::around::Around;
+use crate::entries::{Entry, bearing, value_of};
 use crate::entry_list::EntryList;
-use crate::equality::is_same;
 use fixed_units::{Micro, NoMemory, Second};
 use rising::{NoEntry, RisingList};
 use std::alloc::Global;
@@ -119,23 +118,27 @@ impl Series {
         Ok(EntryList::from_vec(entries))
     }
 
-    /// Whether an entry at an instant, between the last one before it and the first one after it, bears on the instants from
-    /// `lo` to `hi`, or would if one stood there.
-    pub fn bears_at(&self, at: Second, lo: Second, hi: Second) -> bool
-        ensures { result ≡ bears_at lo hi at self.now.entries }
+    /// The entries about an instant, by one search.
+    pub fn around(&self, at: Second) -> Around<'_>
+        ensures at { result.at ≡ at }
+        ensures before { option_map (λ e. e.now) result.before ≡ entry_before at self.now.entries }
+        ensures here { option_map (λ e. e.now) result.here ≡ entry_at at self.now.entries }
+        ensures after { option_map (λ e. e.now) result.after ≡ entry_after at self.now.entries }
     {
-        let around = self.list.parts(at);
-        reaches(at, around.after.first(), lo, hi) || is_led_to(around.before.last(), at, lo, hi)
+        let parts = self.list.parts(at);
+        Around {
+            at,
+            before: parts.before.last(),
+            here: parts.here,
+            after: parts.after.first(),
+        }
     }
 
-    /// Whether an entry equal to this one stands at its instant.
-    pub fn has_entry(&self, entry: &Entry) -> bool
-        ensures { result ≡ has_entry entry.now self.now.entries }
+    /// Whether an entry stands at an instant.
+    pub fn stands_at(&self, at: Second) -> bool
+        ensures { result ≡ stands_at at self.now.entries }
     {
-        match self.list.get(entry.at) {
-            Some(found) => is_same(entry, found),
-            None => false,
-        }
+        self.around(at).here.is_some()
     }
 
     /// The entries, in order.

@@ -1,13 +1,16 @@
 -- The members of an object in the order of its text, and what serde_json states of them.
-use Rattle.std.proofs.Common.{◌≡◌, ℕ, List, [], ◌∷◌, ◌++◌, length, get_or, take, ◌+◌, ◌<◌, ◌==◌, Option, Some, Bool, true, false, not, bytes_eq, is_eq, nat_cmp, Ordering, Less, Equal, Greater, filter, if◌then◌else◌, refl, sym, ap, ◌∙◌, arith, true≢false, ne_eqb}
+use Rattle.std.proofs.Common.{◌≡◌, ℕ, zero, suc, is_some, All, None, List, [], ◌∷◌, ◌++◌, length, get_or, take, ◌+◌, ◌<◌, ◌==◌, Option, Some, Bool, true, false, not, bytes_eq, is_eq, nat_cmp, Ordering, Less, Equal, Greater, filter, if◌then◌else◌, refl, sym, subst, ap, ◌∙◌, arith, true≢false, ne_eqb}
 use Rattle.std.proofs.lemmas.Cmp.{nat_list_cmp_total}
 use Rattle.std.proofs.lemmas.List.{take_more}
+use Rattle.std.proofs.lemmas.List.Elements.{All-from_all_within, All-head, All-tail}
 use Rattle.std.proofs.lemmas.Map.Text.{is_eq-slice_cmp}
 use Rattle.std.proofs.lemmas.Slice.Eq.{bytes_eq-Decides}
 use Rattle.std.specs.Cmp.Lexicographic.{slice_cmp}
+use Rattle.std.specs.List.{AllWithin, HoldsAt, remove}
+use Rattle.std.specs.Option.{MatchOption}
 use Rattle.std.specs.Ordering.{match_ordering, ordering_reverse}
 use Rattle.edit_bodies.specs.Members.{without, is_none_left}
-use Rattle.edit_bodies.specs.Trees.{Field, members_of, members_stated, stated}
+use Rattle.edit_bodies.specs.Trees.{Field, IsFirstPlace, is_named, members_of, members_stated, stated}
 use Rattle.json.specs.Value.{members_view}
 use Rattle.serde_json.specs.Data.{Data, Members, no_members, member, put}
 use Rattle.serde_json.specs.Find.{get_member}
@@ -145,6 +148,45 @@ without-members_of name (f ∷ fs) found h =
 
 pub members_stated-filter : (name : List ℕ) (fs : List Field) → members_stated (filter (λ (f : Field). not (bytes_eq f.0.now name)) fs) ≡ without name (members_stated fs)
 members_stated-filter name fs = without-members_of name fs no_members tt
+
+-- without the first field of a name the same fields of other names are left
+others-removed : (name : List ℕ) (fs : List Field) (i : ℕ) → i < length fs → HoldsAt (λ f. is_named name f ≡ true) fs i → others name (remove fs i) ≡ others name fs
+others-removed name [] i h k = absurd (omega (arith, h))
+others-removed name (f ∷ fs) zero h k = let e : bytes_eq f.0.now name ≡ true = k f in rw e refl
+others-removed name (f ∷ fs) (suc i) h k =
+    ap (λ (rest : List Field). if not (bytes_eq f.0.now name) then f ∷ rest else rest) (others-removed name fs i (omega (arith, h)) k)
+
+without-removed : (name : List ℕ) (fs rest : List Field) (i : ℕ) → rest ≡ remove fs i → i < length fs → HoldsAt (λ f. is_named name f ≡ true) fs i
+    → without name (members_stated rest) ≡ without name (members_stated fs)
+without-removed name fs rest i e h k =
+    sym (members_stated-filter name rest) ∙ ap members_stated (ap (others name) e ∙ others-removed name fs i h k) ∙ members_stated-filter name fs
+
+-- without a field of a name nothing is taken out
+others-none : (name : List ℕ) (fs : List Field) → All (λ f. is_named name f ≡ false) fs → others name fs ≡ fs
+others-none name [] h = refl
+others-none name (f ∷ fs) h =
+    let e : bytes_eq f.0.now name ≡ false = All-head (λ (g : Field). is_named name g ≡ false) f fs h in
+    rw e (ap (λ (rest : List Field). f ∷ rest) (others-none name fs (All-tail (λ (g : Field). is_named name g ≡ false) f fs h)))
+
+without-none : (name : List ℕ) (fs : List Field) → All (λ f. is_named name f ≡ false) fs → members_stated fs ≡ without name (members_stated fs)
+without-none name fs h = ap members_stated (sym (others-none name fs h)) ∙ members_stated-filter name fs
+
+-- a search finds the first place
+pub first_place : (name : List ℕ) (fs : List Field) (found : Option ℕ)
+    → MatchOption found (AllWithin (λ f. is_named name f ≡ false) fs 0 (length fs)) (λ i. (i < length fs) × HoldsAt (λ f. is_named name f ≡ true) fs i × AllWithin (λ f. is_named name f ≡ false) fs 0 i)
+    → IsFirstPlace name fs found
+first_place name fs None h = All-from_all_within (λ (f : Field). is_named name f ≡ false) fs h
+first_place name fs (Some i) h = h
+
+pub none_found : (name : List ℕ) (fs : List Field) (found : Option ℕ) → IsFirstPlace name fs found → is_some found ≡ false → members_stated fs ≡ without name (members_stated fs)
+none_found name fs None h e = without-none name fs h
+none_found name fs (Some i) h e = absurd (cc)
+
+pub without-found : (name : List ℕ) (fs rest : List Field) (found : Option ℕ) (i : ℕ) → IsFirstPlace name fs found → found ≡ Some i → rest ≡ remove fs i
+    → without name (members_stated rest) ≡ without name (members_stated fs)
+without-found name fs rest found i h is e =
+    let there : IsFirstPlace name fs (Some i) = subst (λ (o : Option ℕ). IsFirstPlace name fs o) is h in
+    without-removed name fs rest i e there.0 there.1
 
 -- one more field is put in
 members_of-push : (fs : List Field) (f : Field) (found : Members) → members_of (members_view (fs ++ f ∷ [])) found ≡ put f.0.now (stated f.1) (members_of (members_view fs) found)

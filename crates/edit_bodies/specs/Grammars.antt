@@ -38,14 +38,16 @@ name_of value = string_of (kept_if is_name) value
 abbrev pub zone_of : Data → Option (List ℕ)
 zone_of value = string_of (kept_if (λ text. is_name text && is_zone text)) value
 
--- a whole number from the least to the greatest of a range
-abbrev pub whole_of : ℕ → ℕ → Data → Option ℕ
-whole_of least greatest value =
-    option_and_then (kept_if (λ n. nat_le least n && nat_le n greatest)) (option_and_then as_u64 (as_number value))
+-- a whole number, and one from the least to the greatest of a range
+abbrev pub whole_of : Data → Option ℕ
+whole_of value = option_and_then as_u64 (as_number value)
+
+abbrev pub kept_within : ℕ → ℕ → ℕ → Option ℕ
+kept_within least greatest n = kept_if (λ k. nat_le least k && nat_le k greatest) n
 
 -- a gap tolerance in minutes
 abbrev pub gap_of : Data → Option ℕ
-gap_of value = whole_of 1 most_gap value
+gap_of value = option_and_then (kept_within 1 most_gap) (whole_of value)
 
 -- a rounding array
 abbrev pub array_of : Data → Option (List ℕ)
@@ -53,7 +55,7 @@ array_of value = string_of (kept_if is_array) value
 
 -- the number of a correction set
 abbrev pub set_of : Data → Option ℕ
-set_of value = whole_of 1 3 value
+set_of value = option_and_then (kept_within 1 3) (whole_of value)
 
 -- an instant that is a stamp
 abbrev pub instant_of : Data → Option ℤ

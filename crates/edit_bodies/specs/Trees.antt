@@ -1,5 +1,6 @@
 -- What serde_json states of a tree over borrowed text, where floats hold all its numbers.
-use Rattle.std.specs.Prelude.{ℕ, List, Bool, true, ◌&&◌, Option, Some, None, is_some, Vec}
+use Rattle.std.specs.Prelude.{◌≡◌, ℕ, ◌<◌, List, length, bytes_eq, All, Bool, true, false, ◌&&◌, Option, Some, None, is_some, Vec}
+use Rattle.std.specs.List.{AllWithin, HoldsAt}
 use Rattle.std.specs.Borrow.{Bor}
 use Rattle.std.specs.declared.alloc.Global.{Global}
 use Rattle.json.specs.Json as json
@@ -72,3 +73,14 @@ members_stated fields = members_of (members_view fields) no_members
 -- the members that were not taken out yet
 abbrev pub left : Fields → Members
 left fields = members_stated fields.items
+
+-- a field has a name
+abbrev pub is_named : List ℕ → Field → Bool
+is_named name field = bytes_eq field.0.now name
+
+-- the first place of a name among fields, or none where it is missing
+abbrev pub IsFirstPlace : List ℕ → List Field → Option ℕ → Type 0
+IsFirstPlace name fields None = All (λ field. is_named name field ≡ false) fields
+IsFirstPlace name fields (Some place) =
+    (place < length fields) × HoldsAt (λ field. is_named name field ≡ true) fields place
+    × AllWithin (λ field. is_named name field ≡ false) fields 0 place

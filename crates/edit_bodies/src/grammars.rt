@@ -1,12 +1,12 @@
 //! The members of bodies, each read by its grammar as it is taken out of an object.
 
-ghost use Rattle.std.specs.Prelude.{◌≡◌, ◌≤◌, IfOk, IfSome, option_and_then, option_map};
+ghost use Rattle.std.specs.Prelude.{◌≡◌, IfOk, IfSome, option_and_then, option_map};
 ghost use Rattle.edit_bodies.specs.Answers.{IsFound, IsTaken, IsTextTaken};
-ghost use Rattle.edit_bodies.specs.Grammars.{array_of, by_of, gap_of, instant_of, kept_if, name_of, reference_of, set_of, site_of, whole_of, zone_of};
+ghost use Rattle.edit_bodies.specs.Grammars.{array_of, by_of, gap_of, instant_of, kept_if, kept_within, name_of, reference_of, set_of, site_of, whole_of, zone_of};
 ghost use Rattle.edit_bodies.specs.Members.{member_text, required};
 ghost use Rattle.edit_bodies.specs.Texts.{is_name};
 ghost use Rattle.edit_bodies.specs.Trees.{left, stated};
-ghost use Rattle.edits.specs.Lawful.{IsGap, IsSetNumber, IsStationZone};
+ghost use Rattle.edits.specs.Lawful.{IsGap, IsSetNumber, IsStationZone, most_gap};
 ghost use Rattle.edits.specs.Texts.{IsName};
 ghost use Rattle.fixed_units.specs.Quantities.{IsStamp};
 ghost use Rattle.fixed_units.specs.RoundingArray.{IsRoundingArray};
@@ -17,7 +17,7 @@ use crate::members::{Fields, Member, remove, value_at};
 use crate::numbers::number_in;
 use crate::sites::read_site;
 use civil_days::read_instant;
-use edits::{By, Name, Ref, is_name, is_zone};
+use edits::{By, Name, Ref, is_gap, is_name, is_set_number, is_zone};
 use fixed_units::{NoMemory, RoundingArray, Second, Site, Text};
 use json::Value;
 use std::alloc::Global;
@@ -116,7 +116,26 @@ pub(crate) fn take_gap(fields: &mut Fields<'_>) -> Result<u32, BodyFault>
     ensures read { IsTaken (required Member.Gap gap_of) fields.old result fields.new }
     ensures near { IfOk result IsGap }
 {
-    take_whole(fields, Member::Gap, 720)
+    let found = gap_at(fields);
+    remove(fields, Member::Gap);
+    found.ok_or(BodyFault::Body(Member::Gap))
+}
+
+/// The gap tolerance that is there.
+fn gap_at(fields: &Fields<'_>) -> Option<u32>
+    ensures value { result ≡ option_and_then gap_of (get_member (member_text Member.Gap) (left fields.now)) }
+    ensures near { IfSome result IsGap }
+{
+    gap_from(whole_in(value_at(fields, Member::Gap)?)?)
+}
+
+/// The gap tolerance of so many minutes, or `None` exactly where it is none.
+fn gap_from(minutes: u64) -> Option<u32>
+    ensures value { result ≡ kept_within 1 most_gap minutes }
+    ensures near { IfSome result IsGap }
+{
+    let gap = u32::try_from(minutes).ok()?;
+    if is_gap(gap) { Some(gap) } else { None }
 }
 
 /// Takes out the number of a correction set.
@@ -124,39 +143,33 @@ pub(crate) fn take_set(fields: &mut Fields<'_>) -> Result<u8, BodyFault>
     ensures read { IsTaken (required Member.Set set_of) fields.old result fields.new }
     ensures number { IfOk result IsSetNumber }
 {
-    let number = take_whole(fields, Member::Set, 3)?;
-    Ok(number as u8)
+    let found = set_at(fields);
+    remove(fields, Member::Set);
+    found.ok_or(BodyFault::Body(Member::Set))
 }
 
-/// Takes out a whole number from 1 to the greatest that it may be.
-fn take_whole(fields: &mut Fields<'_>, member: Member, greatest: u32) -> Result<u32, BodyFault>
-    ensures read { IsTaken (required member (whole_of 1 greatest)) fields.old result fields.new }
-    ensures range { IfOk result (λ number. (1 ≤ number) × (number ≤ greatest)) }
+/// The number of a correction set that is there.
+fn set_at(fields: &Fields<'_>) -> Option<u8>
+    ensures value { result ≡ option_and_then set_of (get_member (member_text Member.Set) (left fields.now)) }
+    ensures number { IfSome result IsSetNumber }
 {
-    let found = whole_at(fields, member, greatest);
-    remove(fields, member);
-    found.ok_or(BodyFault::Body(member))
+    set_from(whole_in(value_at(fields, Member::Set)?)?)
 }
 
-/// The whole number that is there.
-fn whole_at(fields: &Fields<'_>, member: Member, greatest: u32) -> Option<u32>
-    ensures value { result ≡ option_and_then (whole_of 1 greatest) (get_member (member_text member) (left fields.now)) }
-    ensures range { IfSome result (λ number. (1 ≤ number) × (number ≤ greatest)) }
+/// The correction set of this number, or `None` exactly where there is none.
+fn set_from(number: u64) -> Option<u8>
+    ensures value { result ≡ kept_within 1 3 number }
+    ensures number { IfSome result IsSetNumber }
 {
-    whole_in(value_at(fields, member)?, greatest)
+    let set = u8::try_from(number).ok()?;
+    if is_set_number(set) { Some(set) } else { None }
 }
 
 /// The whole number that a value states.
-fn whole_in(value: &Value<'_>, greatest: u32) -> Option<u32>
-    ensures value { result ≡ whole_of 1 greatest (stated value.now) }
-    ensures range { IfSome result (λ number. (1 ≤ number) × (number ≤ greatest)) }
+fn whole_in(value: &Value<'_>) -> Option<u64>
+    ensures { result ≡ whole_of (stated value.now) }
 {
-    let number = number_in(value.as_number()?)?.as_u64()?;
-    if (1..=u64::from(greatest)).contains(&number) {
-        Some(number as u32)
-    } else {
-        None
-    }
+    number_in(value.as_number()?)?.as_u64()
 }
 
 /// Takes out the instant of an entry.

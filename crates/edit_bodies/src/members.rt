@@ -2,7 +2,7 @@
 
 ghost use Rattle.std.specs.Prelude.{◌≡◌, option_map};
 ghost use Rattle.edit_bodies.specs.Members.{member_text, without, is_none_left};
-ghost use Rattle.edit_bodies.specs.Trees.{left, stated};
+ghost use Rattle.edit_bodies.specs.Trees.{IsFirstPlace, left, stated};
 ghost use Rattle.serde_json.specs.Find.{get_member};
 
 use json::Value;
@@ -93,6 +93,27 @@ pub(crate) fn value_at<'v, 'a>(fields: &'v Fields<'a>, member: Member) -> Option
 
 /// Takes out a member, each time that it comes.
 pub(crate) fn remove(fields: &mut Fields<'_>, member: Member)
+    ensures { left fields.new ≡ without (member_text member) (left fields.old) }
+{
+    let Some(place) = place_of(fields, member) else {
+        return;
+    };
+    let _field = fields.remove(place);
+    if place_of(fields, member).is_some() {
+        remove_each(fields, member);
+    }
+}
+
+/// The first place of a member, or `None` exactly where it is missing.
+fn place_of(fields: &Fields<'_>, member: Member) -> Option<usize>
+    ensures { IsFirstPlace (member_text member) fields.now.items result }
+{
+    let name = member.text();
+    fields.iter().position(|field| field.0 == name)
+}
+
+/// Takes out a member, wherever it stands.
+fn remove_each(fields: &mut Fields<'_>, member: Member)
     ensures { left fields.new ≡ without (member_text member) (left fields.old) }
 {
     let name = member.text();

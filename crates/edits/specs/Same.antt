@@ -1,6 +1,7 @@
 -- When two edits are the same: member by member.
-use Rattle.std.specs.Prelude.{Bool, false, ◌&&◌, ◌==◌, bytes_eq, List, ℤ}
+use Rattle.std.specs.Prelude.{Bool, false, ◌&&◌, ◌==◌, bytes_eq}
 use Rattle.std.specs.Ordering.{int_eq}
+use Rattle.curves.specs.Entries.{entry_of}
 use Rattle.curves.specs.Equality.{same_entry}
 use Rattle.edits.specs.declared.content.Edit.{Edit}
 use Rattle.edits.specs.declared.content.What.{What}
@@ -12,11 +13,6 @@ use Rattle.readings.specs.Equality.{same_readings}
 abbrev pub are_sent_alike : Edit → Edit → Bool
 are_sent_alike a b = bytes_eq a.by b.by && (bytes_eq a.reference b.reference && same_site a.site b.site)
 
--- entries of these parts are the same
-abbrev pub is_same_entry : ℤ → List (ℤ × ℤ) → Bool → ℤ → List (ℤ × ℤ) → Bool → Bool
-is_same_entry at curve prorate its_at its_curve its_prorate =
-    same_entry (record { at = at; curve = curve; prorate = prorate }) (record { at = its_at; curve = its_curve; prorate = its_prorate })
-
 -- of one kind, and each member of what is changed is the same: a zone by its text, readings by instant, stage and flag, and a curve
 -- by its points
 abbrev pub is_same_what : What → What → Bool
@@ -27,9 +23,9 @@ is_same_what (SetStation name gap stages discharges) (SetStation its_name its_ga
     bytes_eq name its_name && (gap == its_gap && (bytes_eq stages its_stages && bytes_eq discharges its_discharges))
 is_same_what (PutReadings readings) (PutReadings its_readings) = same_readings readings its_readings
 is_same_what (PutCorrection set at curve prorate) (PutCorrection its_set its_at its_curve its_prorate) =
-    set == its_set && is_same_entry at curve prorate its_at its_curve its_prorate
+    set == its_set && same_entry (entry_of at curve prorate) (entry_of its_at its_curve its_prorate)
 is_same_what (DropCorrection set at) (DropCorrection its_set its_at) = set == its_set && int_eq at its_at
-is_same_what (PutShift at curve prorate) (PutShift its_at its_curve its_prorate) = is_same_entry at curve prorate its_at its_curve its_prorate
+is_same_what (PutShift at curve prorate) (PutShift its_at its_curve its_prorate) = same_entry (entry_of at curve prorate) (entry_of its_at its_curve its_prorate)
 is_same_what (DropShift at) (DropShift its_at) = int_eq at its_at
 is_same_what _ _ = false
 

@@ -1,13 +1,12 @@
 //! Whether two edits are the same: by their values, however they were spelled.
 
 ghost use Rattle.std.specs.Prelude.{◌≡◌, ◌↔◌, true};
-ghost use Rattle.curves.specs.Equality.{same_entry};
 ghost use Rattle.edits.specs.Same.{are_sent_alike, is_same, is_same_what};
 ghost use Rattle.edits.specs.declared.content.What.TheVariants.{AddStation, SetStation, PutReadings, PutCorrection, DropCorrection, PutShift, DropShift};
 
 use crate::content::{Edit, What};
 use crate::names::Name;
-use curves::Entry;
+use curves::{Entry, is_same_entry};
 use fixed_units::{Reading, RoundingArray, Second};
 use readings::are_same;
 
@@ -57,22 +56,10 @@ fn is_same_what(what: &What, other: &What) -> bool
             at,
             curve,
             prorate,
-        } => {
-            let entry = Entry {
-                at: *at,
-                curve: *curve,
-                prorate: *prorate,
-            };
-            is_put_correction(other, *set, &entry)
-        }
+        } => is_put_correction(other, *set, &Entry::new(*at, *curve, *prorate)),
         What::DropCorrection { set, at } => is_dropped_correction(other, *set, *at),
         What::PutShift { at, curve, prorate } => {
-            let entry = Entry {
-                at: *at,
-                curve: *curve,
-                prorate: *prorate,
-            };
-            is_put_shift(other, &entry)
+            is_put_shift(other, &Entry::new(*at, *curve, *prorate))
         }
         What::DropShift { at } => is_dropped_shift(other, *at),
     }
@@ -158,12 +145,7 @@ fn is_put_correction(what: &What, set: u8, entry: &Entry) -> bool
             curve: own_curve,
             prorate: own_prorate,
         } => {
-            let own = Entry {
-                at: *own_at,
-                curve: *own_curve,
-                prorate: *own_prorate,
-            };
-            set == *own_set && is_same_entry(entry, &own)
+            set == *own_set && is_same_entry(entry, &Entry::new(*own_at, *own_curve, *own_prorate))
         }
         _ => false,
     }
@@ -193,14 +175,7 @@ fn is_put_shift(what: &What, entry: &Entry) -> bool
             at: own_at,
             curve: own_curve,
             prorate: own_prorate,
-        } => {
-            let own = Entry {
-                at: *own_at,
-                curve: *own_curve,
-                prorate: *own_prorate,
-            };
-            is_same_entry(entry, &own)
-        }
+        } => is_same_entry(entry, &Entry::new(*own_at, *own_curve, *own_prorate)),
         _ => false,
     }
 }
@@ -214,14 +189,4 @@ fn is_dropped_shift(what: &What, at: Second) -> bool
         What::DropShift { at: own_at } => at == *own_at,
         _ => false,
     }
-}
-
-/// Whether two entries are equal: by the instant, the points of the curve and whether it prorates.
-fn is_same_entry(entry: &Entry, other: &Entry) -> bool
-    ensures same { result ≡ same_entry entry.now other.now }
-    ensures equal { result ≡ true ↔ entry.now ≡ other.now }
-{
-    entry.at == other.at
-        && entry.curve.points() == other.curve.points()
-        && entry.prorate == other.prorate
 }

@@ -3,10 +3,11 @@
 ghost use Rattle.std.specs.Prelude.{◌≡◌, ◌↔◌, true};
 ghost use Rattle.fixed_units.specs.Quantities.{IsStamp, IsStage, IsDischarge, IsAmount, is_stamp, is_stage, is_discharge, is_amount};
 
-/// The first stamp, 1900-01-03T00:00:00Z, and the last one, 2099-12-28T23:59:59Z.
-const FIRST_STAMP: i64 = -2_208_816_000;
+/// The first stamp in seconds, 1900-01-03T00:00:00Z.
+pub const FIRST_STAMP: i64 = -2_208_816_000;
 
-const LAST_STAMP: i64 = 4_102_185_599;
+/// The last stamp in seconds, 2099-12-28T23:59:59Z.
+pub const LAST_STAMP: i64 = 4_102_185_599;
 
 /// The greatest magnitude of a stage: 100,000 feet in millionths.
 const MOST_STAGE: i64 = 100_000_000_000;

@@ -9,7 +9,7 @@ ghost use Rattle.fixed_units.specs.RoundingArray.{IsRoundingArray};
 ghost use Rattle.records.specs.Drafts.{parts, what_of, AreLawful, HasParts};
 ghost use Rattle.records.specs.Reading.{usable};
 
-use crate::entry_drafts::{EntryDraft, curve_from, is_entry};
+use crate::entry_drafts::{EntryDraft, correction_from, is_entry, shift_from};
 use crate::payloads::Record;
 use edits::{By, Edit, Name, Ref, What, are_put_readings, are_settings, is_set_number, is_zone};
 use fixed_units::{
@@ -194,21 +194,12 @@ fn what_from(alloc: Global, fields: &Fields<'_>) -> Result<What, NoMemory>
             discharge_array: array_from(discharge_array),
         }),
         Fields::Put(reading) => put_from(alloc, reading),
-        Fields::Correction { set, entry } => Ok(What::PutCorrection {
-            set: *set,
-            at: Second::new(entry.at).unwrap(),
-            curve: curve_from(&entry.points).unwrap(),
-            prorate: entry.prorate,
-        }),
+        Fields::Correction { set, entry } => Ok(correction_from(*set, entry)),
         Fields::DroppedCorrection { set, at } => Ok(What::DropCorrection {
             set: *set,
             at: Second::new(*at).unwrap(),
         }),
-        Fields::Shift(entry) => Ok(What::PutShift {
-            at: Second::new(entry.at).unwrap(),
-            curve: curve_from(&entry.points).unwrap(),
-            prorate: entry.prorate,
-        }),
+        Fields::Shift(entry) => Ok(shift_from(entry)),
         Fields::DroppedShift { at } => Ok(What::DropShift {
             at: Second::new(*at).unwrap(),
         }),

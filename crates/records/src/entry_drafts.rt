@@ -1,13 +1,14 @@
 //! The entries of a payload that was read: their ranges, and the curves that they make.
 
-ghost use Rattle.std.specs.Prelude.{◌≡◌, ◌↔◌, true, IfSome, IfNone, All};
+ghost use Rattle.std.specs.Prelude.{◌≡◌, ◌↔◌, true, IfSome, IfNone, IsSome, All};
 ghost use Rattle.edits.specs.Lawful.{IsPutCurve, IsPutPoint};
+ghost use Rattle.edits.specs.declared.content.What.TheVariants.{PutCorrection, PutShift};
 ghost use Rattle.fixed_units.specs.Quantities.{IsStamp};
 
 use arrayvec::ArrayVec;
 use curves::Curve;
-use edits::is_put_curve;
-use fixed_units::{Micro, is_stamp};
+use edits::{What, is_put_curve};
+use fixed_units::{Micro, Second, is_stamp};
 
 /// An entry of a correction set or of the shifts as it stands in a payload: its instant, the stage and the amount of each
 /// point, and whether it prorates.
@@ -22,21 +23,51 @@ pub(crate) struct EntryDraft {
 pub(crate) fn is_entry(draft: &EntryDraft) -> bool
     ensures { result ≡ true ↔ IsStamp draft.now.at × IsPutCurve draft.now.points.items }
 {
-    is_stamp(draft.at) && is_curve(&draft.points)
+    is_stamp(draft.at) && curve_from(&draft.points).is_some()
 }
 
-/// Whether a curve of these points may be put.
-fn is_curve(points: &[(i64, i64)]) -> bool
-    ensures { result ≡ true ↔ IsPutCurve points.now }
+/// The put of the entry into the correction set of a number.
+pub(crate) fn correction_from(set: u8, draft: &EntryDraft) -> What
+    requires stamp { IsStamp draft.now.at }
+    requires curve { IsPutCurve draft.now.points.items }
+    ensures { result ≡ PutCorrection set draft.now.at draft.now.points.items draft.now.prorate }
 {
-    match curve_from(points) {
-        Some(curve) => is_put_curve(&curve),
-        None => false,
+    What::PutCorrection {
+        set,
+        at: Second::new(draft.at).unwrap(),
+        curve: curve_from(&draft.points).unwrap(),
+        prorate: draft.prorate,
+    }
+}
+
+/// The put of the entry into the shifts.
+pub(crate) fn shift_from(draft: &EntryDraft) -> What
+    requires stamp { IsStamp draft.now.at }
+    requires curve { IsPutCurve draft.now.points.items }
+    ensures { result ≡ PutShift draft.now.at draft.now.points.items draft.now.prorate }
+{
+    What::PutShift {
+        at: Second::new(draft.at).unwrap(),
+        curve: curve_from(&draft.points).unwrap(),
+        prorate: draft.prorate,
+    }
+}
+
+/// The curve of these points, or `None` exactly where it may not be put.
+fn curve_from(points: &[(i64, i64)]) -> Option<Curve>
+    ensures some { IfSome result (λ curve. curve ≡ points.now) }
+    ensures told { IsSome result ↔ IsPutCurve points.now }
+{
+    let curve = curve_of(points)?;
+    if is_put_curve(&curve) {
+        Some(curve)
+    } else {
+        None
     }
 }
 
 /// The curve of these points, or `None` only where it may not be put.
-pub(crate) fn curve_from(points: &[(i64, i64)]) -> Option<Curve>
+fn curve_of(points: &[(i64, i64)]) -> Option<Curve>
     ensures some { IfSome result (λ curve. curve ≡ points.now) }
     ensures none { IfNone result (¬ IsPutCurve points.now) }
 {

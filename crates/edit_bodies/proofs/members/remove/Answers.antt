@@ -1,11 +1,21 @@
-use Rattle.std.proofs.Common.{◌∙◌, ap, not, bytes_eq, rules}
-use Rattle.std.proofs.lemmas.Fn.{filter_same}
-use Rattle.edit_bodies.proofs.FieldLemmas.{members_stated-filter}
+-- The first of them is taken out, and where one is left all others are.
+use Rattle.std.proofs.Common.{◌∙◌, ap, sym, is_some}
+use Rattle.edit_bodies.proofs.FieldLemmas.{none_found, without-found}
 use Rattle.edit_bodies.proofs.members.remove.Goals as goal
-use Rattle.edit_bodies.specs.Members.{without}
-use Rattle.edit_bodies.specs.Trees.{Field, left, members_stated}
+use Rattle.edit_bodies.specs.Members.{member_text}
+
+pub returns-in_default : goal.returns-in_default
+returns-in_default c =
+    none_found (member_text c.args.member) c.args.fields.now.items c.place_of.result c.place_of.ensures (ap is_some c.in_default.is)
+
+pub returns-then-is_some : goal.returns-then-is_some
+returns-then-is_some c =
+    c.remove_each.ensures
+    ∙ without-found (member_text c.args.member) c.args.fields.now.items c.remove-field.new.self.items c.place_of.result c.in-Some.place c.place_of.ensures
+    c.in-Some.is c.remove-field.ensures.items
 
 pub returns : goal.returns
 returns c =
-    ap members_stated (filter_same _ (λ (f : Field). not (bytes_eq f.0.now c.text-name.result.now)) _ (λ x b f' k. search rules) _ _ c.retain.ensures.filtered)
-    ∙ members_stated-filter c.text-name.result.now c.args.fields.now.items ∙ ap (λ n. without n (left c.args.fields.now)) c.text-name.ensures
+    none_found (member_text c.args.member) c.remove-field.new.self.items c.place_of-2.result c.place_of-2.ensures (sym c.is_some.ensures ∙ c.if-is_some.false)
+    ∙ without-found (member_text c.args.member) c.args.fields.now.items c.remove-field.new.self.items c.place_of.result c.in-Some.place c.place_of.ensures
+    c.in-Some.is c.remove-field.ensures.items

@@ -2,7 +2,7 @@
 use Rattle.std.proofs.Common.{rules, ◌≡◌, Bool, Decides, sym, subst}
 use Rattle.curves.proofs.EqualityLemmas.{entries_decide}
 use Rattle.curves.specs.declared.entries.Entry.{Entry}
-use Rattle.edits.proofs.equality.is_same_entry.Goals as goal
+use Rattle.curves.proofs.equality.is_same_entry.Goals as goal
 
 decided_as : (e f : Entry) (told test : Bool) → told ≡ test → Decides test (e ≡ f) → Decides told (e ≡ f)
 decided_as e f told test same h = subst (λ (b : Bool). Decides b (e ≡ f)) (sym same) h

@@ -1,2 +1,4 @@
 pub mod AreaLemmas
+pub mod CountLemmas
 pub mod RisingLemmas
+pub mod SumLemmas

@@ -1,28 +1,49 @@
--- The figures of a day: its length, the sum for its stage, and how its mean is published.
-use Rattle.std.specs.Prelude.{ℕ, List, ◌*◌, ◌≤◌, ◌==◌, if◌then◌else◌, Option, Some, None, pos, neg_ℤ, ◌≤ℤ◌}
+-- The figures of a day: its length, its counts, the sums for its stage and its discharge, and how their means are published.
+use Rattle.std.specs.Prelude.{ℕ, ℤ, List, ◌*◌, ◌≤◌, ◌==◌, if◌then◌else◌, Option, Some, None, IfSome, pos, neg_ℤ}
 use Rattle.unit_discharge.specs.Unit.{most_corrected}
 use Rattle.fixed_units.specs.Published.{published}
+use Rattle.fixed_units.specs.Quantities.{IsWithin, most_discharge}
 use Rattle.fixed_units.specs.declared.published.Published.{Published}
+use Rattle.daily_values.specs.declared.counts.Counts.{Counts}
 use Rattle.daily_values.specs.declared.sums.Sum.{Sum}
 use Rattle.day_inputs.specs.DayInputs.{shortest_day, longest_day}
 
 -- the figures of a day, as contracts see them
 pub record DayFigures : Type 0 where
   pub length : ℕ
+  pub counts : Counts
   pub stage : Sum
+  pub discharge : Sum
   pub stage_array : List ℕ
+  pub discharge_array : List ℕ
 
--- what every day's figures keep to: a day of 20 to 28 hours, no more covered than it is long, and a mean that is a corrected stage
+-- a value, where there is one, is at most so far below 0 and at most so far above it
+abbrev pub IsValueWithin : ℕ → ℕ → Option ℤ → Type 0
+IsValueWithin below above value = IfSome value (λ n. IsWithin (neg_ℤ (pos below)) (pos above) n)
+
+-- twice an area over so many seconds is that of such values, and so is a sum with the seconds that it covers
+abbrev pub IsAreaWithin : ℕ → ℕ → ℕ → ℤ → Type 0
+IsAreaWithin below above seconds twice = IsWithin (neg_ℤ (pos (2 * below * seconds))) (pos (2 * above * seconds)) twice
+
+abbrev pub IsSumWithin : ℕ → ℕ → Sum → Type 0
+IsSumWithin below above sum = IsAreaWithin below above sum.covered sum.twice
+
+-- what every day's figures keep to: a day of 20 to 28 hours, no more covered than it is long, a sum of corrected stages, and one
+-- of discharges
 pub record AreFigures (figures : DayFigures) : Type 0 where
   pub shortest : shortest_day ≤ figures.length
   pub longest : figures.length ≤ longest_day
-  pub covered : figures.stage.covered ≤ figures.length
-  pub low : neg_ℤ (pos (2 * most_corrected * figures.stage.covered)) ≤ℤ figures.stage.twice
-  pub high : figures.stage.twice ≤ℤ pos (2 * most_corrected * figures.stage.covered)
+  pub stage_covered : figures.stage.covered ≤ figures.length
+  pub discharge_covered : figures.discharge.covered ≤ figures.length
+  pub stage : IsSumWithin most_corrected most_corrected figures.stage
+  pub discharge : IsSumWithin 0 most_discharge figures.discharge
 
--- the mean stage, published by the array for stages, which is there exactly where the whole day is covered: the area over the
--- length
+-- a mean, published by a rounding array, which is there exactly where the whole day is covered: the area over the length
+abbrev pub mean : List ℕ → Sum → ℕ → Option Published
+mean array sum length = if sum.covered == length then Some (published array sum.twice (pos (2 * length))) else None
+
 abbrev pub mean_stage : DayFigures → Option Published
-mean_stage figures =
-    if figures.stage.covered == figures.length
-    then Some (published figures.stage_array figures.stage.twice (pos (2 * figures.length))) else None
+mean_stage figures = mean figures.stage_array figures.stage figures.length
+
+abbrev pub mean_discharge : DayFigures → Option Published
+mean_discharge figures = mean figures.discharge_array figures.discharge figures.length

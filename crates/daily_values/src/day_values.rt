@@ -1,13 +1,15 @@
 //! The value of a day.
 
 ghost use Rattle.std.specs.Prelude.{◌≡◌, ◌+◌, ◌≤◌};
-ghost use Rattle.day_inputs.specs.DayInputs.{AreInputs};
-ghost use Rattle.daily_values.specs.DayValue.{day_value, stage_sum};
+ghost use Rattle.day_inputs.specs.DayInputs.{AreInputs, AreParts};
+ghost use Rattle.daily_values.specs.DayValue.{day_value, discharge_point, stage_point, sum_of};
 ghost use Rattle.daily_values.specs.DayValue as values;
 ghost use Rattle.day_inputs.specs.declared.day_inputs.DayParts.{DayParts};
 
-use crate::sums::{Sum, day_length, sum_stages};
-use day_inputs::DayInputs;
+use crate::counts::Counts;
+use crate::sums::{Sum, day_length};
+use crate::totals::totals_of;
+use day_inputs::{DayInputs, DayParts};
 use fixed_units::{Published, RoundingArray, publish};
 use std::marker::Model;
 use std::sync::ledger::Ledger;
@@ -18,10 +20,16 @@ use steps::Steps;
 pub struct Figures {
     /// How many seconds the day has, 72,000 to 100,800.
     length: u32,
+    /// The readings of the day, without those of its neighbours.
+    counts: Counts,
     /// The sum for the stage, which covers at most the day.
     stage: Sum,
+    /// The sum for the discharge, which covers at most the day.
+    discharge: Sum,
     /// The rounding array for stages.
     stage_array: RoundingArray,
+    /// The rounding array for discharges.
+    discharge_array: RoundingArray,
 }
 
 impl Model for Figures {
@@ -29,11 +37,11 @@ impl Model for Figures {
 
     ghost Value = { DayFigures };
 
-    ghost view = { λ f. record { length = f.length; stage = f.stage; stage_array = f.stage_array } };
+    ghost view = { λ f. record { length = f.length; counts = f.counts; stage = f.stage; discharge = f.discharge; stage_array = f.stage_array; discharge_array = f.discharge_array } };
 
-    ghost invariant = { λ f. AreFigures (record { length = f.length; stage = f.stage; stage_array = f.stage_array }) };
+    ghost invariant = { λ f. AreFigures (record { length = f.length; counts = f.counts; stage = f.stage; discharge = f.discharge; stage_array = f.stage_array; discharge_array = f.discharge_array }) };
 
-    ghost inverse = { λ f. record { length = f.length; stage = f.stage; stage_array = f.stage_array } };
+    ghost inverse = { λ f. record { length = f.length; counts = f.counts; stage = f.stage; discharge = f.discharge; stage_array = f.stage_array; discharge_array = f.discharge_array } };
 }
 
 /// The value of a day.
@@ -54,11 +62,23 @@ pub fn compute<L: Ledger>(inputs: &DayInputs, steps: &mut Steps<L>) -> DayValue
     steps.tick();
     match inputs {
         DayInputs::Empty => DayValue::Empty,
-        DayInputs::Day(parts) => DayValue::Day(Figures {
-            length: day_length(parts),
-            stage: sum_stages(parts),
-            stage_array: parts.stage_array,
-        }),
+        DayInputs::Day(parts) => DayValue::Day(figures_of(parts)),
+    }
+}
+
+/// The figures of a day of these inputs.
+fn figures_of(parts: &DayParts) -> Figures
+    requires { AreParts parts.now }
+    ensures { result ≡ values.figures_of parts.now }
+{
+    let totals = totals_of(parts);
+    Figures {
+        length: day_length(parts),
+        counts: totals.counts,
+        stage: totals.stage,
+        discharge: totals.discharge,
+        stage_array: parts.stage_array,
+        discharge_array: parts.discharge_array,
     }
 }
 
@@ -67,24 +87,36 @@ pub fn values_of_empty_inputs()
     ensures { day_value DayInputs.Empty ≡ DayValue.Empty }
 {}
 
-/// The trapezoids of a day overlap nowhere: they cover at most the seconds that the day has.
+/// The trapezoids of a day overlap nowhere: those of its stages cover at most the seconds that the day has, and those of its
+/// discharges at most what those of its stages do.
 pub fn covers_at_most_the_day()
-    ensures { (parts : DayParts) → AreInputs (DayInputs.Day parts) → (stage_sum parts).covered ≤ values.day_length parts }
+    ensures stage { (parts : DayParts) → AreInputs (DayInputs.Day parts) → (sum_of stage_point parts).covered ≤ values.day_length parts }
+    ensures discharge { (parts : DayParts) → (sum_of discharge_point parts).covered ≤ (sum_of stage_point parts).covered }
 {}
 
 impl Figures {
     ghost use Rattle.std.specs.Prelude.{◌≡◌};
-    ghost use Rattle.daily_values.specs.Figures.{mean_stage, AreFigures};
+    ghost use Rattle.daily_values.specs.Figures.{mean_stage, mean_discharge, AreFigures};
 
-    /// The figures of a day of so many seconds with this sum.
-    pub(crate) fn new(length: u32, stage: Sum, stage_array: RoundingArray) -> Figures
-        requires { AreFigures (record { length = length; stage = stage; stage_array = stage_array }) }
-        ensures { result ≡ record { length = length; stage = stage; stage_array = stage_array } }
+    /// The figures of a day of so many seconds with these counts and sums.
+    pub(crate) fn new(
+        length: u32,
+        counts: Counts,
+        stage: Sum,
+        discharge: Sum,
+        stage_array: RoundingArray,
+        discharge_array: RoundingArray,
+    ) -> Figures
+        requires { AreFigures (record { length = length; counts = counts; stage = stage; discharge = discharge; stage_array = stage_array; discharge_array = discharge_array }) }
+        ensures { result ≡ record { length = length; counts = counts; stage = stage; discharge = discharge; stage_array = stage_array; discharge_array = discharge_array } }
     {
         Figures {
             length,
+            counts,
             stage,
+            discharge,
             stage_array,
+            discharge_array,
         }
     }
 
@@ -95,6 +127,13 @@ impl Figures {
         self.length
     }
 
+    /// The used readings of the day, without those of its neighbours, and those of them that have no discharge.
+    pub fn counts(&self) -> Counts
+        ensures { result ≡ self.now.counts }
+    {
+        self.counts
+    }
+
     /// The sum for the stage.
     pub fn stage(&self) -> Sum
         ensures sum { result ≡ self.now.stage }
@@ -103,7 +142,15 @@ impl Figures {
         self.stage
     }
 
-    /// The published mean stage, exactly where the whole day is covered.
+    /// The sum for the discharge.
+    pub fn discharge(&self) -> Sum
+        ensures sum { result ≡ self.now.discharge }
+        ensures figures { AreFigures self.now }
+    {
+        self.discharge
+    }
+
+    /// The published mean stage, exactly where the stages cover the whole day.
     pub fn stage_text(&self) -> Option<Published>
         ensures { result ≡ mean_stage self.now }
     {
@@ -114,6 +161,20 @@ impl Figures {
             self.stage.twice,
             2 * i128::from(self.length),
             &self.stage_array,
+        ))
+    }
+
+    /// The published mean discharge, exactly where the discharges cover the whole day.
+    pub fn discharge_text(&self) -> Option<Published>
+        ensures { result ≡ mean_discharge self.now }
+    {
+        if self.discharge.covered != self.length {
+            return None;
+        }
+        Some(publish(
+            self.discharge.twice,
+            2 * i128::from(self.length),
+            &self.discharge_array,
         ))
     }
 }

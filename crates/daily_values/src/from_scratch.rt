@@ -1,8 +1,8 @@
 //! The value of a day from a station's whole list of readings: a plain and slow program, one step after another,
 //! to compare what is kept with.
 
-ghost use Rattle.std.specs.Prelude.{◌≡◌, ◌+◌, ◌*◌, ◌^◌, ◌≤◌, ◌++◌, ◌&&◌, pos, neg_ℤ, ◌-ℤ◌, ◌≤ℤ◌, int_lt, int_le, All, find, reverse, option_to_list, IfOk, OnOk};
-ghost use Rattle.fixed_units.specs.Quantities.{IsStage};
+ghost use Rattle.std.specs.Prelude.{◌≡◌, ◌*◌, ◌≤◌, ◌++◌, ◌&&◌, ℕ, pos, ◌-ℤ◌, ◌≤ℤ◌, ◌<ℤ◌, int_lt, map, sum_by, int_le, All, find, reverse, option_to_list, IfOk, OnOk};
+ghost use Rattle.fixed_units.specs.Quantities.{IsStage, IsStamp, most_discharge};
 ghost use Rattle.unit_discharge.specs.Unit.{most_corrected};
 ghost use Rattle.curves.specs.Entries.{IsSeries};
 ghost use Rattle.curves.specs.Corrections.{AreCorrections, entries_of};
@@ -13,17 +13,24 @@ ghost use Rattle.readings.specs.Window as windows;
 ghost use Rattle.day_inputs.specs.DayInputs as inputs;
 ghost use Rattle.day_inputs.specs.DayInputs.{AreParts, shortest_day, longest_day, most_gap};
 ghost use Rattle.daily_values.specs.DayValue as values;
-ghost use Rattle.daily_values.specs.DayValue.{stage_sum};
+ghost use Rattle.daily_values.specs.DayValue.{counts_of, pair_seconds, sum_of, twice_areas};
+ghost use Rattle.daily_values.specs.Figures.{IsSumWithin, IsValueWithin};
+ghost use Rattle.ratings.specs.Numbered.{AreRatings};
 
+use crate::counts::{Counts, add_unit};
 use crate::day_values::{DayValue, Figures};
-use crate::sums::{Sum, day_length, seconds_between, twice_area, unit_of};
+use crate::sums::{
+    Point, Sum, add_pair, day_length, discharge_point, seconds_between, stage_point,
+};
+use crate::totals::unit_of;
 use curves::{CorrectionSets, Shifts};
 use day_inputs::{DayInputs, DayParts, with_window};
 use fixed_units::{Flag, NoMemory, Reading, RoundingArray, Second};
+use ratings::Ratings;
 use std::alloc::Global;
 
 /// The value of the day from `from` until `until`, 20 to 28 hours later, of a station with a gap tolerance of 1 to 720
-/// minutes, these rounding arrays, correction sets, shifts and readings, rising by instant.
+/// minutes, these rounding arrays, correction sets, shifts, ratings and readings at stamps, rising by instant.
 pub fn day_value(
     alloc: Global,
     gap: u32,
@@ -33,6 +40,7 @@ pub fn day_value(
     until: Second,
     corrections: &CorrectionSets,
     shifts: &Shifts,
+    ratings: &Ratings,
     readings: &[Reading],
 ) -> Result<DayValue, NoMemory>
     requires gap_low { 1 ≤ gap }
@@ -41,9 +49,11 @@ pub fn day_value(
     requires longest { (until -ℤ from) ≤ℤ pos longest_day }
     requires corrections { AreCorrections (entries_of corrections.now) }
     requires shifts { IsSeries shifts.now.series.entries }
+    requires ratings { AreRatings ratings.now.ratings }
     requires rising { IsRising readings.now }
+    requires stamps { All (λ r. IsStamp r.at) readings.now }
     requires stages { All (λ r. IsStage r.raw) readings.now }
-    ensures { IfOk result (λ v. v ≡ values.day_value (inputs.day_inputs gap stage_array discharge_array from until (entries_of corrections.now) shifts.now.series.entries readings.now)) }
+    ensures { IfOk result (λ v. v ≡ values.day_value (inputs.day_inputs gap stage_array discharge_array from until (entries_of corrections.now) shifts.now.series.entries ratings.now.ratings readings.now)) }
 {
     let window = window(alloc, gap, from, until, readings)?;
     let inputs = with_window(
@@ -55,6 +65,7 @@ pub fn day_value(
         until,
         corrections,
         shifts,
+        ratings,
         window,
     )?;
     match inputs {
@@ -68,12 +79,62 @@ fn value_of_parts(alloc: Global, parts: &DayParts) -> Result<DayValue, NoMemory>
     requires { AreParts parts.now }
     ensures { IfOk result (λ v. v ≡ values.day_value (Day parts.now)) }
 {
-    let pairs = neighbours(alloc, parts.window.as_slice())?;
     Ok(DayValue::Day(Figures::new(
         day_length(parts),
-        add_areas(parts, &pairs),
+        count_units(parts),
+        sum_stages(alloc, parts)?,
+        sum_discharges(alloc, parts)?,
         parts.stage_array,
+        parts.discharge_array,
     )))
+}
+
+/// The sum for the stage.
+fn sum_stages(alloc: Global, parts: &DayParts) -> Result<Sum, NoMemory>
+    requires { AreParts parts.now }
+    ensures sum { IfOk result (λ sum. sum ≡ sum_of values.stage_point parts.now) }
+    ensures within { IfOk result (λ sum. IsSumWithin most_corrected most_corrected sum) }
+{
+    let points = stage_points(alloc, parts)?;
+    let pairs = neighbours(alloc, &points)?;
+    Ok(add_areas(parts, &pairs))
+}
+
+/// The sum for the discharge.
+fn sum_discharges(alloc: Global, parts: &DayParts) -> Result<Sum, NoMemory>
+    requires { AreParts parts.now }
+    ensures sum { IfOk result (λ sum. sum ≡ sum_of values.discharge_point parts.now) }
+    ensures within { IfOk result (λ sum. IsSumWithin 0 most_discharge sum) }
+{
+    let points = discharge_points(alloc, parts)?;
+    let pairs = neighbours(alloc, &points)?;
+    Ok(add_areas(parts, &pairs))
+}
+
+/// The stages of the readings of a day's window.
+fn stage_points(alloc: Global, parts: &DayParts) -> Result<Vec<Point>, NoMemory>
+    requires { AreParts parts.now }
+    ensures points { IfOk result (λ v. v.items ≡ map values.stage_point (values.units_of parts.now)) }
+    ensures within { IfOk result (λ v. All (λ p. IsValueWithin most_corrected most_corrected p.1) v.items) }
+{
+    let mut points = Vec::new(alloc);
+    for reading in parts.window.as_slice() {
+        points.push(stage_point(&unit_of(parts, reading)))?;
+    }
+    Ok(points)
+}
+
+/// The discharges of the readings of a day's window.
+fn discharge_points(alloc: Global, parts: &DayParts) -> Result<Vec<Point>, NoMemory>
+    requires { AreParts parts.now }
+    ensures points { IfOk result (λ v. v.items ≡ map values.discharge_point (values.units_of parts.now)) }
+    ensures within { IfOk result (λ v. All (λ p. IsValueWithin 0 most_discharge p.1) v.items) }
+{
+    let mut points = Vec::new(alloc);
+    for reading in parts.window.as_slice() {
+        points.push(discharge_point(&unit_of(parts, reading)))?;
+    }
+    Ok(points)
 }
 
 /// The window of the day: its used readings between the nearest used ones on either side that are near enough.
@@ -191,12 +252,12 @@ fn push_some(list: &mut Vec<Reading>, reading: Option<Reading>) -> Result<(), No
     Ok(())
 }
 
-/// Each reading with the one behind it.
-fn neighbours(alloc: Global, readings: &[Reading]) -> Result<Vec<(Reading, Reading)>, NoMemory>
-    ensures { IfOk result (λ v. v.items ≡ values.neighbours readings.now) }
+/// Each point with the one behind it.
+fn neighbours(alloc: Global, points: &[Point]) -> Result<Vec<(Point, Point)>, NoMemory>
+    ensures { IfOk result (λ v. v.items ≡ values.neighbours points.now) }
 {
     let mut pairs = Vec::new(alloc);
-    let mut rest = readings;
+    let mut rest = points;
     while let [left, right, ..] = rest {
         pairs.push((*left, *right))?;
         rest = &rest[1..];
@@ -204,22 +265,31 @@ fn neighbours(alloc: Global, readings: &[Reading]) -> Result<Vec<(Reading, Readi
     Ok(pairs)
 }
 
-/// The sum over the pairs of a day's window.
-fn add_areas(parts: &DayParts, pairs: &[(Reading, Reading)]) -> Sum
+/// The sum over pairs of points of a day.
+fn add_areas(parts: &DayParts, pairs: &[(Point, Point)]) -> Sum
     requires parts { AreParts parts.now }
-    requires pairs { pairs.now ≡ values.neighbours parts.now.window }
-    ensures sum { result ≡ stage_sum parts.now }
-    ensures covered { result.covered ≤ values.day_length parts.now }
-    ensures low { neg_ℤ (pos (2 * most_corrected * result.covered)) ≤ℤ result.twice }
-    ensures high { result.twice ≤ℤ pos (2 * most_corrected * result.covered) }
+    requires rising { All (λ p. p.0.0 <ℤ p.1.0) pairs.now }
+    requires room { sum_by (pair_seconds parts.now) pairs.now ≤ longest_day }
+    ensures twice { result.twice ≡ twice_areas parts.now pairs.now }
+    ensures covered { result.covered ≡ sum_by (pair_seconds parts.now) pairs.now }
+    ensures within { (below above : ℕ) → All (λ p. IsValueWithin below above p.0.1 × IsValueWithin below above p.1.1) pairs.now → IsSumWithin below above result }
 {
     let mut sum = Sum::none();
     for pair in pairs {
-        let left = unit_of(parts, pair.0);
-        let right = unit_of(parts, pair.1);
-        let seconds = seconds_between(parts, &left, &right);
-        sum.twice += twice_area(parts, &left, &right, seconds);
-        sum.covered += seconds;
+        let seconds = seconds_between(parts, pair.0.0, pair.1.0);
+        sum = add_pair(sum, parts, &pair.0, &pair.1, seconds);
     }
     sum
+}
+
+/// The counts of a day's readings.
+fn count_units(parts: &DayParts) -> Counts
+    requires { AreParts parts.now }
+    ensures { result ≡ counts_of parts.now }
+{
+    let mut counts = Counts::none();
+    for reading in parts.window.as_slice() {
+        counts = add_unit(counts, parts, &unit_of(parts, reading));
+    }
+    counts
 }

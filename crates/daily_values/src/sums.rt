@@ -1,28 +1,35 @@
-//! Sums over trapezoids between the corrected stages of neighbouring readings.
+//! Sums over trapezoids between the values of neighbouring points of a day.
 
-ghost use Rattle.std.specs.Prelude.{◌≡◌, ◌∷◌, ◌+◌, ◌*◌, ◌^◌, ◌≤◌, pos, neg_ℤ, ◌-ℤ◌, ◌*ℤ◌, ◌≤ℤ◌, ◌<ℤ◌};
+ghost use Rattle.std.specs.Prelude.{◌≡◌, ◌+◌, ◌*◌, ◌^◌, ◌≤◌, ℕ, ℤ, pos, neg_ℤ, ◌+ℤ◌, ◌-ℤ◌, ◌≤ℤ◌, ◌<ℤ◌};
 ghost use Rattle.std.specs.Int.{int_max, int_min};
-ghost use Rattle.fixed_units.specs.Quantities.{IsStage};
-ghost use Rattle.unit_discharge.specs.Unit.{IsCorrected, most_corrected};
+ghost use Rattle.fixed_units.specs.Lines as lines;
+ghost use Rattle.fixed_units.specs.Quantities.{IsWithin, most_millionths};
 ghost use Rattle.day_inputs.specs.DayInputs.{AreParts, longest_day};
 ghost use Rattle.daily_values.specs.DayValue as values;
-ghost use Rattle.daily_values.specs.DayValue.{stage_sum, stage_between};
+ghost use Rattle.daily_values.specs.DayValue.{discharge_point, pair_area, pair_seconds, stage_point};
+ghost use Rattle.daily_values.specs.Figures.{IsAreaWithin, IsSumWithin, IsValueWithin};
 
 use day_inputs::DayParts;
-use fixed_units::{Reading, Second, line_at};
-use unit_discharge::{Unit, unit};
+use fixed_units::{Micro, Second, line_at};
+use unit_discharge::Unit;
 
-/// Twice an area in millionths of a foot times seconds, and the seconds that it covers. Half the one over the other is
-/// a mean.
+/// An instant, and the value there, where there is one.
+pub(crate) type Point = (Second, Option<Micro>);
+
+/// Twice an area in millionths of a foot, or of a cubic foot per second, times seconds, and the seconds that it covers. Half
+/// the one over the other is a mean.
 #[derive(Clone, Copy, Debug, PartialEq, Eq)]
 pub struct Sum {
-    /// Twice the area: for each second that is covered at most 2.06 * 10^11 either way.
+    /// Twice the area: for each second that is covered at most 2.06 * 10^11 either way where stages are summed, and 0 to
+    /// 2 * 10^13 where discharges are.
     pub twice: i128,
     /// How many seconds are covered, at most the 72,000 to 100,800 of the day.
     pub covered: u32,
 }
 
 impl Sum {
+    ghost use Rattle.std.specs.Prelude.{◌≡◌, pos};
+
     /// The sum over no trapezoid.
     pub(crate) fn none() -> Sum
         ensures { result ≡ record { twice = pos 0; covered = 0 } }
@@ -34,55 +41,55 @@ impl Sum {
     }
 }
 
-/// The sum for the stage of a day: over the lines between the corrected stages of neighbouring readings.
-pub(crate) fn sum_stages(parts: &DayParts) -> Sum
+/// The stage of a unit value at its instant.
+pub(crate) fn stage_point(unit: &Unit) -> Point
+    ensures { result ≡ stage_point unit.now }
+{
+    (unit.at, Some(unit.stage))
+}
+
+/// The discharge of a unit value at its instant, where it has one.
+pub(crate) fn discharge_point(unit: &Unit) -> Point
+    ensures { result ≡ discharge_point unit.now }
+{
+    (unit.at, unit.discharge.ok())
+}
+
+/// The sum with the area under the line between two points more, cut to the day. Nothing comes to it where one of the two
+/// values is missing.
+pub(crate) fn add_pair(sum: Sum, parts: &DayParts, left: &Point, right: &Point, seconds: u32) -> Sum
+    requires parts { AreParts parts.now }
+    requires rising { left.now.0 <ℤ right.now.0 }
+    requires seconds { seconds ≡ values.seconds_between parts.now left.now.0 right.now.0 }
+    requires room { sum.covered + pair_seconds parts.now (left.now, right.now) ≤ longest_day }
+    requires fits { IsSumWithin most_millionths most_millionths sum }
+    ensures twice { result.twice ≡ sum.twice +ℤ pair_area parts.now (left.now, right.now) }
+    ensures covered { result.covered ≡ sum.covered + pair_seconds parts.now (left.now, right.now) }
+    ensures fits { IsSumWithin most_millionths most_millionths result }
+    ensures within { (below above : ℕ) → IsValueWithin below above left.now.1 → IsValueWithin below above right.now.1 → IsSumWithin below above sum → IsSumWithin below above result }
+{
+    let Some(from) = left.1 else {
+        return sum;
+    };
+    let Some(to) = right.1 else {
+        return sum;
+    };
+    let twice = twice_area(parts, &(left.0, from), &(right.0, to), seconds);
+    Sum {
+        twice: sum.twice + twice,
+        covered: sum.covered + seconds,
+    }
+}
+
+/// How many seconds of the day lie between two instants that are near enough to each other.
+pub(crate) fn seconds_between(parts: &DayParts, from: Second, to: Second) -> u32
     requires { AreParts parts.now }
-    ensures sum { result ≡ stage_sum parts.now }
-    ensures covered { result.covered ≤ values.day_length parts.now }
-    ensures low { neg_ℤ (pos (2 * most_corrected * result.covered)) ≤ℤ result.twice }
-    ensures high { result.twice ≤ℤ pos (2 * most_corrected * result.covered) }
+    ensures { result ≡ values.seconds_between parts.now from to }
 {
-    match parts.window.as_slice().split_first() {
-        Some((first, rest)) => sum_along(parts, *first, rest),
-        None => Sum::none(),
+    if elapsed(from, to) > 60 * i64::from(parts.gap) {
+        return 0;
     }
-}
-
-/// The sum along the readings of a day's window, of which the first one is given.
-fn sum_along(parts: &DayParts, first: Reading, rest: &[Reading]) -> Sum
-    requires parts { AreParts parts.now }
-    requires window { parts.now.window ≡ first ∷ rest.now }
-    ensures sum { result ≡ stage_sum parts.now }
-    ensures covered { result.covered ≤ values.day_length parts.now }
-    ensures low { neg_ℤ (pos (2 * most_corrected * result.covered)) ≤ℤ result.twice }
-    ensures high { result.twice ≤ℤ pos (2 * most_corrected * result.covered) }
-{
-    let mut sum = Sum::none();
-    let mut left = unit_of(parts, first);
-    for reading in rest {
-        let right = unit_of(parts, *reading);
-        let seconds = seconds_between(parts, &left, &right);
-        sum.twice += twice_area(parts, &left, &right, seconds);
-        sum.covered += seconds;
-        left = right;
-    }
-    sum
-}
-
-/// The unit value of a reading of the day.
-pub(crate) fn unit_of(parts: &DayParts, reading: Reading) -> Unit
-    requires parts { AreParts parts.now }
-    requires stage { IsStage reading.raw }
-    ensures unit { result ≡ values.unit_of parts.now reading }
-    ensures range { IsCorrected result.stage }
-{
-    unit(
-        parts.first.as_slice(),
-        parts.second.as_slice(),
-        parts.third.as_slice(),
-        parts.shifts.as_slice(),
-        reading,
-    )
+    positive_part(elapsed(left_end(parts, from), right_end(parts, to)))
 }
 
 /// How many seconds a day has.
@@ -93,18 +100,18 @@ pub(crate) fn day_length(parts: &DayParts) -> u32
     positive_part(elapsed(parts.from, parts.until))
 }
 
-/// The first instant of the day between two unit values.
-fn left_end(parts: &DayParts, left: &Unit) -> Second
-    ensures { result ≡ int_max parts.now.from left.now.at }
+/// The first instant of the day behind another.
+fn left_end(parts: &DayParts, at: Second) -> Second
+    ensures { result ≡ int_max parts.now.from at }
 {
-    parts.from.max(left.at)
+    parts.from.max(at)
 }
 
-/// The last instant of the day between two unit values.
-fn right_end(parts: &DayParts, right: &Unit) -> Second
-    ensures { result ≡ int_min parts.now.until right.now.at }
+/// The last instant of the day before another.
+fn right_end(parts: &DayParts, at: Second) -> Second
+    ensures { result ≡ int_min parts.now.until at }
 {
-    parts.until.min(right.at)
+    parts.until.min(at)
 }
 
 /// How many seconds it is from one instant to another.
@@ -116,17 +123,6 @@ fn elapsed(from: Second, until: Second) -> i64
     until.get() - from.get()
 }
 
-/// How many seconds of the day lie between two readings that are near enough to each other.
-pub(crate) fn seconds_between(parts: &DayParts, left: &Unit, right: &Unit) -> u32
-    requires { AreParts parts.now }
-    ensures { result ≡ values.seconds_between parts.now (left.now, right.now) }
-{
-    if elapsed(left.at, right.at) > 60 * i64::from(parts.gap) {
-        return 0;
-    }
-    positive_part(elapsed(left_end(parts, left), right_end(parts, right)))
-}
-
 /// The number, or 0 where it is below 0.
 fn positive_part(number: i64) -> u32
     requires { number ≤ℤ pos longest_day }
@@ -135,42 +131,42 @@ fn positive_part(number: i64) -> u32
     number.max(0) as u32
 }
 
-/// Twice the area under the line between two corrected stages that is cut to the day.
-pub(crate) fn twice_area(parts: &DayParts, left: &Unit, right: &Unit, seconds: u32) -> i128
+/// Twice the area under the line between two values at their instants that is cut to the day.
+fn twice_area(
+    parts: &DayParts,
+    left: &(Second, Micro),
+    right: &(Second, Micro),
+    seconds: u32,
+) -> i128
     requires parts { AreParts parts.now }
-    requires rising { left.now.at <ℤ right.now.at }
-    requires left { IsCorrected left.now.stage }
-    requires right { IsCorrected right.now.stage }
-    requires seconds { seconds ≡ values.seconds_between parts.now (left.now, right.now) }
-    ensures area { result ≡ values.twice_area parts.now (left.now, right.now) }
-    ensures low { neg_ℤ (pos (2 * most_corrected * seconds)) ≤ℤ result }
-    ensures high { result ≤ℤ pos (2 * most_corrected * seconds) }
+    requires rising { left.now.0 <ℤ right.now.0 }
+    requires seconds { seconds ≡ values.seconds_between parts.now left.now.0 right.now.0 }
+    ensures area { result ≡ values.twice_area parts.now left.now right.now }
+    ensures fits { IsAreaWithin most_millionths most_millionths seconds result }
+    ensures within { (below above : ℕ) → IsWithin (neg_ℤ (pos below)) (pos above) left.now.1 → IsWithin (neg_ℤ (pos below)) (pos above) right.now.1 → IsAreaWithin below above seconds result }
 {
     if seconds == 0 {
         return 0;
     }
-    let first = stage_at(left, right, left_end(parts, left));
-    let last = stage_at(left, right, right_end(parts, right));
-    (first + last) * i128::from(seconds)
+    let first = value_at(left, right, left_end(parts, left.0));
+    let last = value_at(left, right, right_end(parts, right.0));
+    (i128::from(first.get()) + i128::from(last.get())) * i128::from(seconds)
 }
 
-/// The stage at an instant on the line between two corrected stages, which at either end is that end's stage. Only the lines that the
-/// day cuts are read between their ends.
-fn stage_at(left: &Unit, right: &Unit, at: Second) -> i128
-    requires rising { left.now.at <ℤ right.now.at }
-    requires left { IsCorrected left.now.stage }
-    requires right { IsCorrected right.now.stage }
-    requires from { left.now.at ≤ℤ at }
-    requires until { at ≤ℤ right.now.at }
-    ensures value { result ≡ stage_between left.now right.now at }
-    ensures range { IsCorrected result }
+/// The value at an instant on the line between two others at theirs, which at either end is that end's value. Only the lines
+/// that the day cuts are read between their ends.
+fn value_at(left: &(Second, Micro), right: &(Second, Micro), at: Second) -> Micro
+    requires rising { left.now.0 <ℤ right.now.0 }
+    requires from { left.now.0 ≤ℤ at }
+    requires until { at ≤ℤ right.now.0 }
+    ensures value { result ≡ lines.line_at left.now right.now at }
+    ensures between { (least greatest : ℤ) → IsWithin least greatest left.now.1 → IsWithin least greatest right.now.1 → IsWithin least greatest result }
 {
-    if at == left.at {
-        return i128::from(left.stage.get());
+    if at == left.0 {
+        return left.1;
     }
-    if at == right.at {
-        return i128::from(right.stage.get());
+    if at == right.0 {
+        return right.1;
     }
-    let (from, to) = ((left.at.get(), left.stage), (right.at.get(), right.stage));
-    i128::from(line_at(from, to, at.get()).get())
+    line_at((left.0.get(), left.1), (right.0.get(), right.1), at.get())
 }

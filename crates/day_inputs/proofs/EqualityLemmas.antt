@@ -1,5 +1,5 @@
 -- The test of equality decides it. A further member is a line in each of `AreSame`, `from_parts`, `to_parts` and
--- `Decides-same_parts`: a list by `pointwise` and `slice_eq-Decides`, one that may be missing by `option_eq` and `options_decide`.
+-- `Decides-same_members`: a list by `pointwise` and `slice_eq-Decides`, one that may be missing by `option_eq` and `options_decide`.
 use Rattle.std.specs.Prelude.{◌≡◌, Bool, Option, Some, None}
 use Rattle.std.specs.Bool.{Decides}
 use Rattle.std.specs.Option.{option_eq}
@@ -8,10 +8,11 @@ use Rattle.std.proofs.lemmas.Slice.Eq.{bytes_eq-Decides}
 use Rattle.std.proofs.lemmas.Bool.Decides.{Decides-eqb, Decides-int_eq, Decides-and, Decides-like}
 use Rattle.readings.proofs.EqualityLemmas.{lists_decide}
 use Rattle.curves.proofs.EqualityLemmas.{lists_decide as entries_decide}
+use Rattle.ratings.proofs.PartEqualityLemmas.{lists_decide as periods_decide}
 use Rattle.day_inputs.specs.declared.day_inputs.DayInputs.{DayInputs}
 use Rattle.day_inputs.specs.declared.day_inputs.DayInputs.TheVariants.{Empty, Day}
 use Rattle.day_inputs.specs.declared.day_inputs.DayParts.{DayParts}
-use Rattle.day_inputs.specs.Equality.{same_parts, same_inputs}
+use Rattle.day_inputs.specs.Equality.{same_members, same_inputs}
 
 -- values that may be missing are equal where the test of values tells so
 pub options_decide : {A : Type 0} {E : A → A → Bool} → ((a b : A) → Decides (E a b) (a ≡ b)) → (x y : Option A) → Decides (option_eq E x y) (x ≡ y)
@@ -23,22 +24,22 @@ options_decide h (Some a) (Some b) = Decides-like _ (λ e. ap Some e) (λ e. cc)
 -- the parts in their order
 abbrev pub AreSame : DayParts → DayParts → Type 0
 AreSame p q =
-    (p.gap ≡ q.gap) × ((p.stage_array ≡ q.stage_array) × ((p.discharge_array ≡ q.discharge_array) × ((p.from ≡ q.from) × ((p.until ≡ q.until) × ((p.window ≡ q.window) × ((p.first ≡ q.first) × ((p.second ≡ q.second) × ((p.third ≡ q.third) × ((p.shifts ≡ q.shifts))))))))))
+    (p.gap ≡ q.gap) × ((p.stage_array ≡ q.stage_array) × ((p.discharge_array ≡ q.discharge_array) × ((p.from ≡ q.from) × ((p.until ≡ q.until) × ((p.window ≡ q.window) × ((p.first ≡ q.first) × ((p.second ≡ q.second) × ((p.third ≡ q.third) × ((p.shifts ≡ q.shifts) × (p.periods ≡ q.periods))))))))))
 
 pub from_parts : (p q : DayParts) → AreSame p q → p ≡ q
 from_parts p q h =
     let e : ◌≡◌ {A = DayParts}
-    (record { gap = p.gap; stage_array = p.stage_array; discharge_array = p.discharge_array; from = p.from; until = p.until; window = p.window; first = p.first; second = p.second; third = p.third; shifts = p.shifts })
-    (record { gap = q.gap; stage_array = q.stage_array; discharge_array = q.discharge_array; from = q.from; until = q.until; window = q.window; first = q.first; second = q.second; third = q.third; shifts = q.shifts }) =
-    rw (h.0, h.1.0, h.1.1.0, h.1.1.1.0, h.1.1.1.1.0, h.1.1.1.1.1.0, h.1.1.1.1.1.1.0, h.1.1.1.1.1.1.1.0, h.1.1.1.1.1.1.1.1.0, h.1.1.1.1.1.1.1.1.1) refl in
+    (record { gap = p.gap; stage_array = p.stage_array; discharge_array = p.discharge_array; from = p.from; until = p.until; window = p.window; first = p.first; second = p.second; third = p.third; shifts = p.shifts; periods = p.periods })
+    (record { gap = q.gap; stage_array = q.stage_array; discharge_array = q.discharge_array; from = q.from; until = q.until; window = q.window; first = q.first; second = q.second; third = q.third; shifts = q.shifts; periods = q.periods }) =
+    rw (h.0, h.1.0, h.1.1.0, h.1.1.1.0, h.1.1.1.1.0, h.1.1.1.1.1.0, h.1.1.1.1.1.1.0, h.1.1.1.1.1.1.1.0, h.1.1.1.1.1.1.1.1.0, h.1.1.1.1.1.1.1.1.1.0, h.1.1.1.1.1.1.1.1.1.1) refl in
     e
 
 pub to_parts : (p q : DayParts) → p ≡ q → AreSame p q
-to_parts p q e = (ap (λ (x : DayParts). x.gap) e, (ap (λ (x : DayParts). x.stage_array) e, (ap (λ (x : DayParts). x.discharge_array) e, (ap (λ (x : DayParts). x.from) e, (ap (λ (x : DayParts). x.until) e, (ap (λ (x : DayParts). x.window) e, (ap (λ (x : DayParts). x.first) e, (ap (λ (x : DayParts). x.second) e, (ap (λ (x : DayParts). x.third) e, ap (λ (x : DayParts). x.shifts) e)))))))))
+to_parts p q e = (ap (λ (x : DayParts). x.gap) e, (ap (λ (x : DayParts). x.stage_array) e, (ap (λ (x : DayParts). x.discharge_array) e, (ap (λ (x : DayParts). x.from) e, (ap (λ (x : DayParts). x.until) e, (ap (λ (x : DayParts). x.window) e, (ap (λ (x : DayParts). x.first) e, (ap (λ (x : DayParts). x.second) e, (ap (λ (x : DayParts). x.third) e, (ap (λ (x : DayParts). x.shifts) e, ap (λ (x : DayParts). x.periods) e))))))))))
 
-pub Decides-same_parts : (p q : DayParts) → Decides (same_parts p q) (p ≡ q)
-Decides-same_parts p q =
-    Decides-like (same_parts p q) (from_parts p q) (to_parts p q)
+pub Decides-same_members : (p q : DayParts) → Decides (same_members p q) (p ≡ q)
+Decides-same_members p q =
+    Decides-like (same_members p q) (from_parts p q) (to_parts p q)
     (Decides-and _ _ (Decides-eqb p.gap q.gap)
     (Decides-and _ _ (bytes_eq-Decides p.stage_array q.stage_array)
     (Decides-and _ _ (bytes_eq-Decides p.discharge_array q.discharge_array)
@@ -48,7 +49,8 @@ Decides-same_parts p q =
     (Decides-and _ _ (entries_decide p.first q.first)
     (Decides-and _ _ (entries_decide p.second q.second)
     (Decides-and _ _ (entries_decide p.third q.third)
-    (entries_decide p.shifts q.shifts))))))))))
+    (Decides-and _ _ (entries_decide p.shifts q.shifts)
+    (periods_decide p.periods q.periods)))))))))))
 
 day_from : (p q : DayParts) → p ≡ q → Day p ≡ Day q
 day_from p q e = ap Day e
@@ -60,7 +62,7 @@ pub Decides-same_inputs : (p q : DayInputs) → Decides (same_inputs p q) (p ≡
 Decides-same_inputs Empty Empty = (λ h. refl, λ e. refl)
 Decides-same_inputs Empty (Day q) = (λ h. absurd (cc), λ e. absurd (cc))
 Decides-same_inputs (Day p) Empty = (λ h. absurd (cc), λ e. absurd (cc))
-Decides-same_inputs (Day p) (Day q) = Decides-like (same_parts p q) (day_from p q) (day_to p q) (Decides-same_parts p q)
+Decides-same_inputs (Day p) (Day q) = Decides-like (same_members p q) (day_from p q) (day_to p q) (Decides-same_members p q)
 
 -- a test that answers the same tells whether they are equal
 pub told_inputs : (p q : DayInputs) (b : Bool) → b ≡ same_inputs p q → Decides b (p ≡ q)

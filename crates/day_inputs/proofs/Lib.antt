@@ -1,3 +1,3 @@
-pub mod BearingLemmas
 pub mod EqualityLemmas
+pub mod RulesLemmas
 pub mod WindowEnds

@@ -8,6 +8,8 @@ use Rattle.curves.specs.declared.entries.Entry.{Entry}
 use Rattle.curves.specs.Entries.{IsSeries}
 use Rattle.curves.specs.Bearing.{bearing}
 use Rattle.curves.specs.Corrections.{Corrections}
+use Rattle.ratings.specs.Numbered.{StationRatings}
+use Rattle.ratings.specs.Parts as rating_parts
 use Rattle.day_inputs.specs.declared.day_inputs.DayInputs.{DayInputs}
 use Rattle.day_inputs.specs.declared.day_inputs.DayInputs.TheVariants.{Empty, Day}
 use Rattle.day_inputs.specs.declared.day_inputs.DayParts.{DayParts}
@@ -28,10 +30,11 @@ ends_of (Some first) None = None
 ends_of (Some first) (Some last) = Some (first.at, last.at)
 
 -- the inputs of a day [from, until) with this window: none where the window is empty, and else with the entries of these
--- correction sets and shifts that bear on the time from its first reading to its last one
-abbrev pub with_window : ℕ → List ℕ → List ℕ → ℤ → ℤ → Corrections → List Entry → List Reading → DayInputs
-with_window gap stage_array discharge_array from until corrections shifts [] = Empty
-with_window gap stage_array discharge_array from until corrections shifts (r ∷ rs) = Day (record {
+-- correction sets and shifts that bear on the time from its first reading to its last one, and the parts of the rating periods
+-- that meet it
+abbrev pub with_window : ℕ → List ℕ → List ℕ → ℤ → ℤ → Corrections → List Entry → StationRatings → List Reading → DayInputs
+with_window gap stage_array discharge_array from until corrections shifts ratings [] = Empty
+with_window gap stage_array discharge_array from until corrections shifts ratings (r ∷ rs) = Day (record {
   gap = gap;
   stage_array = stage_array;
   discharge_array = discharge_array;
@@ -42,13 +45,14 @@ with_window gap stage_array discharge_array from until corrections shifts (r ∷
   second = bearing r.at (last_at r rs) corrections.second;
   third = bearing r.at (last_at r rs) corrections.third;
   shifts = bearing r.at (last_at r rs) shifts;
+  periods = rating_parts.parts r.at (last_at r rs) ratings.tables ratings.periods;
 })
 
 -- the inputs of the day [from, until) of a station with this gap tolerance, in minutes, these rounding arrays, correction sets,
--- shifts and readings
-abbrev pub day_inputs : ℕ → List ℕ → List ℕ → ℤ → ℤ → Corrections → List Entry → List Reading → DayInputs
-day_inputs gap stage_array discharge_array from until corrections shifts readings =
-    with_window gap stage_array discharge_array from until corrections shifts (window from until (pos (60 * gap)) readings)
+-- shifts, ratings and readings
+abbrev pub day_inputs : ℕ → List ℕ → List ℕ → ℤ → ℤ → Corrections → List Entry → StationRatings → List Reading → DayInputs
+day_inputs gap stage_array discharge_array from until corrections shifts ratings readings =
+    with_window gap stage_array discharge_array from until corrections shifts ratings (window from until (pos (60 * gap)) readings)
 
 -- a day has 20 to 28 hours, in seconds
 abbrev pub shortest_day : ℕ
@@ -62,7 +66,7 @@ abbrev pub most_gap : ℕ
 most_gap = 720
 
 -- what the inputs of a day keep to: a gap tolerance of 1 to 720 minutes, a day of 20 to 28 hours, rising readings of stages,
--- and series of entries
+-- series of entries, and parts of rating periods
 pub record AreParts (parts : DayParts) : Type 0 where
   pub gap_low : 1 ≤ parts.gap
   pub gap_high : parts.gap ≤ most_gap
@@ -74,6 +78,7 @@ pub record AreParts (parts : DayParts) : Type 0 where
   pub second : IsSeries parts.second
   pub third : IsSeries parts.third
   pub shifts : IsSeries parts.shifts
+  pub periods : rating_parts.AreParts parts.periods
 
 abbrev pub AreInputs : DayInputs → Type 0
 AreInputs Empty = ⊤

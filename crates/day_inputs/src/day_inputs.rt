@@ -2,6 +2,7 @@
 
 use curves::EntryList;
 use fixed_units::{RoundingArray, Second};
+use ratings::PartList;
 use readings::ReadingList;
 
 /// The inputs of a day that has a window.
@@ -28,6 +29,9 @@ pub struct DayParts {
     pub third: EntryList,
     /// Those of the shifts.
     pub shifts: EntryList,
+    /// The rating periods that are in force at some instant of that time, cut to it, with their tables: each ends before the
+    /// next one begins.
+    pub periods: PartList,
 }
 
 /// The inputs of a day.

@@ -2,7 +2,7 @@
 
 ghost use Rattle.std.specs.Prelude.{◌≡◌, true, ◌↔◌};
 ghost use Rattle.std.specs.Bool.{Decides};
-ghost use Rattle.day_inputs.specs.Equality.{same_inputs, same_parts};
+ghost use Rattle.day_inputs.specs.Equality.{same_inputs, same_members};
 ghost use Rattle.day_inputs.specs.declared.day_inputs.DayInputs.{DayInputs};
 
 use crate::day_inputs::{DayInputs, DayParts};
@@ -26,7 +26,7 @@ pub fn are_same(inputs: &DayInputs, others: &DayInputs) -> bool
 
 /// Whether each member of two days' inputs is equal.
 fn are_same_parts(parts: &DayParts, others: &DayParts) -> bool
-    ensures { result ≡ same_parts parts.now others.now }
+    ensures { result ≡ same_members parts.now others.now }
 {
     parts.gap == others.gap
         && parts.stage_array == others.stage_array
@@ -38,4 +38,5 @@ fn are_same_parts(parts: &DayParts, others: &DayParts) -> bool
         && curves::are_same(parts.second.as_slice(), others.second.as_slice())
         && curves::are_same(parts.third.as_slice(), others.third.as_slice())
         && curves::are_same(parts.shifts.as_slice(), others.shifts.as_slice())
+        && ratings::are_same(parts.periods.as_slice(), others.periods.as_slice())
 }

@@ -1,21 +1,23 @@
-//! The inputs of a day, made of its window and of its station's series.
+//! The inputs of a day, made of its window and of its station's series and ratings.
 
-ghost use Rattle.std.specs.Prelude.{◌≡◌, IfOk};
+ghost use Rattle.std.specs.Prelude.{◌≡◌, All, IfOk};
+ghost use Rattle.fixed_units.specs.Quantities.{IsStamp};
 ghost use Rattle.rising.specs.Ends.{first, last};
 ghost use Rattle.curves.specs.Corrections.{entries_of};
 ghost use Rattle.curves.specs.Bearing.{bearing};
 ghost use Rattle.curves.specs.Equality.{same_entries};
 ghost use Rattle.day_inputs.specs.DayInputs.{ends_of, window_ends, with_window};
-ghost use Rattle.day_inputs.specs.Equality.{has_bearing};
+ghost use Rattle.day_inputs.specs.Equality.{has_rules};
 
 use crate::day_inputs::{DayInputs, DayParts};
 use curves::{CorrectionSets, EntryList, Series, Shifts};
 use fixed_units::{NoMemory, Reading, RoundingArray, Second};
+use ratings::Ratings;
 use readings::ReadingList;
 use std::alloc::Global;
 
 /// The inputs of the day from `from` until `until`, of a station with this gap tolerance in minutes, these rounding arrays,
-/// correction sets and shifts, which has this window: none where the window is empty.
+/// correction sets, shifts and ratings, which has this window of stamps: none where the window is empty.
 pub fn with_window(
     alloc: Global,
     gap: u32,
@@ -25,9 +27,11 @@ pub fn with_window(
     until: Second,
     corrections: &CorrectionSets,
     shifts: &Shifts,
+    ratings: &Ratings,
     window: Vec<Reading>,
 ) -> Result<DayInputs, NoMemory>
-    ensures { IfOk result (λ inputs. inputs ≡ with_window gap stage_array discharge_array from until (entries_of corrections.now) shifts.now.series.entries window.items) }
+    requires { All (λ r. IsStamp r.at) window.items }
+    ensures { IfOk result (λ inputs. inputs ≡ with_window gap stage_array discharge_array from until (entries_of corrections.now) shifts.now.series.entries ratings.now.ratings window.items) }
 {
     let Some(span) = ends(window.as_slice()) else {
         return Ok(DayInputs::Empty);
@@ -42,14 +46,20 @@ pub fn with_window(
         second: corrections.set(2).bearing_list(alloc, span.0, span.1)?,
         third: corrections.set(3).bearing_list(alloc, span.0, span.1)?,
         shifts: shifts.series().bearing_list(alloc, span.0, span.1)?,
+        periods: ratings.parts(alloc, span.0, span.1)?,
         window: ReadingList::from_vec(window),
     }))
 }
 
-/// Whether the entries of a day are those of these correction sets and shifts that bear on its window, which is not empty. It
-/// takes no memory.
-pub fn has_bearing(corrections: &CorrectionSets, shifts: &Shifts, parts: &DayParts) -> bool
-    ensures { result ≡ has_bearing (entries_of corrections.now) shifts.now.series.entries parts.now }
+/// Whether the entries of a day are those of these correction sets and shifts that bear on its window, which is not empty, and its
+/// rating periods those of these ratings that meet it, cut to it. It takes no memory.
+pub fn has_rules(
+    corrections: &CorrectionSets,
+    shifts: &Shifts,
+    ratings: &Ratings,
+    parts: &DayParts,
+) -> bool
+    ensures { result ≡ has_rules (entries_of corrections.now) shifts.now.series.entries ratings.now.ratings parts.now }
 {
     match ends(parts.window.as_slice()) {
         Some(span) => {
@@ -57,6 +67,7 @@ pub fn has_bearing(corrections: &CorrectionSets, shifts: &Shifts, parts: &DayPar
                 && bears(corrections.set(2), span.0, span.1, &parts.second)
                 && bears(corrections.set(3), span.0, span.1, &parts.third)
                 && bears(shifts.series(), span.0, span.1, &parts.shifts)
+                && ratings.has_parts(span.0, span.1, parts.periods.as_slice())
         }
         None => false,
     }

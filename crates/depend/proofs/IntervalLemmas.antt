@@ -17,7 +17,7 @@ use Rattle.readings.proofs.WindowLemmas.{far_leaves, put_rises}
 use Rattle.civil_days.proofs.RiseLemmas.{zone_steps}
 use Rattle.curves.specs.declared.entries.Entry.{Entry}
 use Rattle.curves.specs.Entries as series
-use Rattle.curves.specs.Entries.{instant_of}
+use Rattle.curves.specs.Entries.{instant_of, entry_of}
 use Rattle.curves.proofs.ChangeLemmas.{put_unchanged, without_unchanged}
 use Rattle.day_inputs.specs.DayInputs.{with_window}
 use Rattle.day_inputs.specs.Equality.{same_inputs}
@@ -33,7 +33,6 @@ use Rattle.office_inputs.specs.Kept.{AreStations, records_of}
 use Rattle.office_inputs.specs.KeptStation.{KeptStation, IsStation}
 use Rattle.office_inputs.specs.Refusals.{refusal_of, adds_station}
 use Rattle.office_inputs.specs.Stations.{StationRecord, station_of, station_day, day_of_station, inputs_of_day, after_what, changed_at, place_of, described, series_of, with_readings, with_series, day_start}
-use Rattle.office_inputs.specs.Series.{entry_of}
 use Rattle.office_inputs.specs.declared.series.StationSeries.{StationSeries}
 use Rattle.office_inputs.specs.declared.series.StationSeries.TheVariants.{Correction, Shift}
 use Rattle.office_inputs.specs.declared.touched.Touched.TheVariants.{Between}
@@ -148,7 +147,7 @@ far_day s day r rs k d h m =
     far_leave a b gap (r ∷ rs) s.readings k.readings_are.rising (omega (arith, ints)) (omega (arith, ints))
     (All-weaker (IsFrom r.at (last_of r rs).at) (IsFar a b gap) (λ x i. far_from r.at (last_of r rs).at a b gap x g m i) (r ∷ rs) (from_first r rs h)) in
     sym ((Decides-same_inputs (station_day s day) (station_day (with_readings (r ∷ rs) s) day)).1
-    (ap (λ (w : List Reading). with_window s.gap s.stage_array s.discharge_array a b s.corrections s.shifts w) (sym same)))
+    (ap (λ (w : List Reading). with_window s.gap s.stage_array s.discharge_array a b s.corrections s.shifts s.ratings w) (sym same)))
 
 -- an edit of a site that is not kept and that adds no station keeps each day
 none_changed : (stations : List StationRecord) (site : SiteNumber) (change : StationRecord → StationRecord) (day : ℤ) → station_of stations site ≡ None

@@ -4,6 +4,7 @@ mod curves_rows;
 mod day_inputs_rows;
 mod day_values;
 mod days;
+mod discharges;
 mod fixtures;
 mod quantities;
 mod ratings_rows;

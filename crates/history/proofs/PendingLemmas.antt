@@ -24,7 +24,7 @@ use Rattle.history.proofs.MergeLemmas.{given, merged_sums}
 use Rattle.history.proofs.SpanLemmas.{span_more, none_ever_changed, stations_more}
 use Rattle.history.proofs.StationLemmas.{places_equal, places_apart, found_passes, found_place, same_station, kept_other, station_stays, changed_has_station}
 use Rattle.office_inputs.specs.Changes.{keeps_day, changed_days}
-use Rattle.office_inputs.specs.Series.{entry_of}
+use Rattle.curves.specs.Entries.{entry_of}
 use Rattle.office_inputs.specs.Stations.{StationRecord, place_of, station_of, stations_of, stations_after, after_what, with_changed, new_station, described, with_readings, with_entry, without_entry}
 use Rattle.office_inputs.specs.declared.series.StationSeries.TheVariants.{Correction, Shift}
 use Rattle.records.specs.declared.payloads.Record.{Record}

@@ -13,7 +13,7 @@ use Rattle.edits.specs.declared.content.What.TheVariants.{AddStation, SetStation
 use Rattle.fixed_units.specs.Quantities.{SiteNumber, site_place, same_site}
 use Rattle.history.specs.Accepted.{changes}
 use Rattle.office_inputs.specs.Changes.{keeps_day}
-use Rattle.office_inputs.specs.Series.{entry_of}
+use Rattle.curves.specs.Entries.{entry_of}
 use Rattle.office_inputs.specs.Stations.{StationRecord, place_of, station_of, with_changed, changed_at, new_station, described, with_readings, with_entry, without_entry, after_what, stations_after, day_of_station, inputs_of_day}
 use Rattle.office_inputs.specs.declared.series.StationSeries.TheVariants.{Correction, Shift}
 use Rattle.rising.specs.Lists.{at, put}

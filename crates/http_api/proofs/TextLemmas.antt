@@ -12,3 +12,11 @@ pub texts_joined : (out first array given second text zone end w x y z : List �
     → w ≡ out ++ (first ++ array) → x ≡ w ++ second → y ≡ x ++ quoted text → z ≡ y ++ end
     → z ≡ out ++ (first ++ given ++ second ++ quoted zone ++ end)
 texts_joined out first array given second text zone end w x y z ha ht hw hx hy hz = rw (hz, hy, hx, hw, ha, ht) (simp append_assoc)
+
+-- two parts, and three
+pub two_joined : (out first second w z : List ℕ) → w ≡ out ++ first → z ≡ w ++ second → z ≡ out ++ (first ++ second)
+two_joined out first second w z hw hz = rw (hz, hw) (append_assoc out first second)
+
+pub three_joined : (out first second third w x z : List ℕ) → w ≡ out ++ first → x ≡ w ++ second → z ≡ x ++ third
+    → z ≡ out ++ (first ++ second ++ third)
+three_joined out first second third w x z hw hx hz = rw (hz, hx, hw) (simp append_assoc)

@@ -4,7 +4,7 @@ use Rattle.approval.specs.Statuses.{status_name}
 use Rattle.approval.specs.declared.Status.{Status}
 use Rattle.fixed_units.specs.PublishedText.{published_text}
 use Rattle.fixed_units.specs.declared.published.Published.{Published}
-use Rattle.daily_values.specs.Figures.{DayFigures, mean_stage}
+use Rattle.daily_values.specs.Figures.{DayFigures, mean_discharge, mean_stage}
 use Rattle.daily_values.specs.declared.day_values.DayValue.{DayValue}
 use Rattle.daily_values.specs.declared.day_values.DayValue.TheVariants as values
 use Rattle.http_api.specs.declared.days.DayAnswer.{DayAnswer}
@@ -20,18 +20,23 @@ abbrev pub published_or_null : Option Published → List ℕ
 published_or_null None = codes "null"
 published_or_null (Some value) = codes "\"" ++ published_text value ++ codes "\""
 
--- the members of a day with figures up to its length
-abbrev pub length_members : ℕ → List ℕ
-length_members seconds =
-    codes "{\"answer\":\"computed\",\"covered\":0,\"discharge\":null,\"estimated\":false,\"length\":" ++ decimal seconds
+-- the members of a day with figures up to its discharge: the seconds that its discharges cover, and their published mean
+abbrev pub discharge_members : ℕ → Option Published → List ℕ
+discharge_members covered discharge =
+    codes "{\"answer\":\"computed\",\"covered\":" ++ decimal covered ++ codes ",\"discharge\":" ++ published_or_null discharge
 
--- and those behind it
+-- those behind it up to the length; there is no estimate yet
+abbrev pub length_members : ℕ → List ℕ
+length_members seconds = codes ",\"estimated\":false,\"length\":" ++ decimal seconds
+
+-- and those behind that; there are no extremes yet
 abbrev pub stage_members : Option Published → List ℕ
 stage_members stage = codes ",\"max\":null,\"min\":null,\"stage\":" ++ published_or_null stage
 
--- a day with figures; there is no discharge yet
+-- a day with figures
 abbrev pub figures_members : DayFigures → List ℕ
-figures_members figures = length_members figures.length ++ stage_members (mean_stage figures)
+figures_members figures =
+    discharge_members figures.discharge.covered (mean_discharge figures) ++ length_members figures.length ++ stage_members (mean_stage figures)
 
 abbrev pub value_members : DayValue → List ℕ
 value_members values.Empty = codes "{\"answer\":\"computed\",\"empty\":true"

@@ -1,7 +1,7 @@
 //! What is replied of a day.
 
 ghost use Rattle.std.specs.Prelude.{◌≡◌, ◌++◌, take, length, OnOk, OnErr};
-ghost use Rattle.http_api.specs.Days.{day_text, answer_members, figures_members, length_members, stage_members, published_or_null, status_member};
+ghost use Rattle.http_api.specs.Days.{day_text, answer_members, discharge_members, figures_members, length_members, stage_members, published_or_null, status_member};
 
 use approval::Status;
 use daily_values::{DayValue, Figures};
@@ -68,18 +68,32 @@ fn write_figures(figures: &Figures, out: &mut Text) -> Result<(), NoMemory>
     ensures ok { OnOk result (out.new ≡ out.old ++ figures_members figures.now) }
     ensures err { OnErr result (take (length out.old) out.new ≡ out.old) }
 {
+    write_discharge(figures.discharge().covered, figures.discharge_text(), out)?;
     write_length(figures.length(), out)?;
     write_stage(figures.stage_text(), out)
 }
 
-/// Adds the members up to the length, of which a part may be added where memory runs out.
+/// Adds the members up to the discharge, of which a part may be added where memory runs out.
+fn write_discharge(
+    covered: u32,
+    discharge: Option<Published>,
+    out: &mut Text,
+) -> Result<(), NoMemory>
+    ensures ok { OnOk result (out.new ≡ out.old ++ discharge_members covered discharge) }
+    ensures err { OnErr result (take (length out.old) out.new ≡ out.old) }
+{
+    out.push_slice(b"{\"answer\":\"computed\",\"covered\":")?;
+    out.push_number(u64::from(covered))?;
+    out.push_slice(b",\"discharge\":")?;
+    write_text_or_null(discharge, out)
+}
+
+/// Adds the members from the discharge to the length, of which a part may be added where memory runs out.
 fn write_length(seconds: u32, out: &mut Text) -> Result<(), NoMemory>
     ensures ok { OnOk result (out.new ≡ out.old ++ length_members seconds) }
     ensures err { OnErr result (take (length out.old) out.new ≡ out.old) }
 {
-    out.push_slice(
-        b"{\"answer\":\"computed\",\"covered\":0,\"discharge\":null,\"estimated\":false,\"length\":",
-    )?;
+    out.push_slice(b",\"estimated\":false,\"length\":")?;
     out.push_number(u64::from(seconds))
 }
 

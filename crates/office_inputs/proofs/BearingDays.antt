@@ -9,6 +9,8 @@ use Rattle.curves.specs.Entries.{IsRising, put, without, stands_at}
 use Rattle.curves.specs.Equality.{same_entries, has_entry}
 use Rattle.curves.proofs.ChangeLemmas.{bearing_put, bearing_without}
 use Rattle.curves.proofs.EqualityLemmas.{lists_decide}
+use Rattle.ratings.specs.Numbered.{StationRatings}
+use Rattle.ratings.specs.Parts as rating_parts
 use Rattle.day_inputs.specs.DayInputs.{last_at, window_ends, with_window}
 use Rattle.day_inputs.specs.Equality.{same_inputs}
 use Rattle.day_inputs.specs.declared.day_inputs.DayInputs.{DayInputs}
@@ -38,7 +40,7 @@ in_shifts Empty = []
 in_shifts (Day p) = p.shifts
 
 -- the inputs of a day that has this window
-module _ (gap : ℕ) (stages discharges : List ℕ) (from until : ℤ) (w : List Reading) (lo hi : ℤ) where
+module _ (gap : ℕ) (stages discharges : List ℕ) (from until : ℤ) (w : List Reading) (lo hi : ℤ) (ratings : StationRatings) where
   abbrev carrying : List Entry → List Entry → List Entry → List Entry → DayInputs
   carrying one two three four = Day (record {
     gap = gap;
@@ -51,6 +53,7 @@ module _ (gap : ℕ) (stages discharges : List ℕ) (from until : ℤ) (w : List
     second = two;
     third = three;
     shifts = four;
+    periods = rating_parts.parts lo hi ratings.tables ratings.periods;
   })
 
   abbrev day_with : Corrections → List Entry → DayInputs
@@ -102,10 +105,10 @@ module _ (gap : ℕ) (stages discharges : List ℕ) (from until : ℤ) (w : List
       (λ d. absurd (let t = (lists_decide (bearing lo hi (entries_in which c sh)) (bearing lo hi (change (entries_in which c sh)))).1 (same_back which change c sh d) in cc)))
 
 -- the inputs of a day by the ends of its window
-with_ends : (gap : ℕ) (stages discharges : List ℕ) (from until : ℤ) (w : List Reading) (lo hi : ℤ) (c : Corrections) (sh : List Entry)
-    → window_ends w ≡ Some (lo, hi) → with_window gap stages discharges from until c sh w ≡ day_with gap stages discharges from until w lo hi c sh
-with_ends gap stages discharges from until [] lo hi c sh e = absurd (cc)
-with_ends gap stages discharges from until (r ∷ rs) lo hi c sh e =
+with_ends : (gap : ℕ) (stages discharges : List ℕ) (from until : ℤ) (w : List Reading) (lo hi : ℤ) (c : Corrections) (sh : List Entry) (ratings : StationRatings)
+    → window_ends w ≡ Some (lo, hi) → with_window gap stages discharges from until c sh ratings w ≡ day_with gap stages discharges from until w lo hi ratings c sh
+with_ends gap stages discharges from until [] lo hi c sh ratings e = absurd (cc)
+with_ends gap stages discharges from until (r ∷ rs) lo hi c sh ratings e =
     let p : ◌≡◌ {A = ℤ × ℤ} (r.at, last_at r rs) (lo, hi) = cc in
     let f : lo ≡ r.at = sym (ap (λ (x : ℤ × ℤ). x.0) p) in
     let g : hi ≡ last_at r rs = sym (ap (λ (x : ℤ × ℤ). x.1) p) in
@@ -120,23 +123,23 @@ series_told s day which change lo hi e =
     let w = station_window s day in
     let c = corrections_with which change s.corrections in
     let sh = shifts_with which change s.shifts in
-    told_step s.gap s.stage_array s.discharge_array a b w lo hi which change s.corrections s.shifts
+    told_step s.gap s.stage_array s.discharge_array a b w lo hi s.ratings which change s.corrections s.shifts
     (same_entries (bearing lo hi (series_of which s)) (bearing lo hi (change (series_of which s)))) refl
-    ∙ ap (λ (x : DayInputs). same_inputs x (day_with s.gap s.stage_array s.discharge_array a b w lo hi c sh))
-    (sym (with_ends s.gap s.stage_array s.discharge_array a b w lo hi s.corrections s.shifts e))
-    ∙ ap (λ (x : DayInputs). same_inputs (station_day s day) x) (sym (with_ends s.gap s.stage_array s.discharge_array a b w lo hi c sh e))
+    ∙ ap (λ (x : DayInputs). same_inputs x (day_with s.gap s.stage_array s.discharge_array a b w lo hi s.ratings c sh))
+    (sym (with_ends s.gap s.stage_array s.discharge_array a b w lo hi s.corrections s.shifts s.ratings e))
+    ∙ ap (λ (x : DayInputs). same_inputs (station_day s day) x) (sym (with_ends s.gap s.stage_array s.discharge_array a b w lo hi c sh s.ratings e))
 
 -- a day without a window keeps them whatever is changed
-empty_step : (gap : ℕ) (stages discharges : List ℕ) (from until : ℤ) (w : List Reading) (c d : Corrections) (sh th : List Entry) → window_ends w ≡ None
-    → true ≡ same_inputs (with_window gap stages discharges from until c sh w) (with_window gap stages discharges from until d th w)
-empty_step gap stages discharges from until [] c d sh th e = refl
-empty_step gap stages discharges from until (r ∷ rs) c d sh th e = absurd (cc)
+empty_step : (gap : ℕ) (stages discharges : List ℕ) (from until : ℤ) (w : List Reading) (c d : Corrections) (sh th : List Entry) (ratings : StationRatings) → window_ends w ≡ None
+    → true ≡ same_inputs (with_window gap stages discharges from until c sh ratings w) (with_window gap stages discharges from until d th ratings w)
+empty_step gap stages discharges from until [] c d sh th ratings e = refl
+empty_step gap stages discharges from until (r ∷ rs) c d sh th ratings e = absurd (cc)
 
 pub empty_told : (s : StationRecord) (day : ℤ) (which : StationSeries) (change : List Entry → List Entry) → window_ends (station_window s day) ≡ None
     → true ≡ same_inputs (station_day s day) (station_day (with_series which change s) day)
 empty_told s day which change e =
     empty_step s.gap s.stage_array s.discharge_array (day_start s day) (day_start s (day +ℤ pos 1)) (station_window s day) s.corrections
-    (corrections_with which change s.corrections) s.shifts (shifts_with which change s.shifts) e
+    (corrections_with which change s.corrections) s.shifts (shifts_with which change s.shifts) s.ratings e
 
 -- the window of a day goes from one instant to another, not before it
 pub record IsSpanned (s : StationRecord) (day lo hi : ℤ) : Type 0 where

@@ -1,7 +1,7 @@
 -- What an edit makes of the station of its site, and whether it keeps a day of it.
 use Rattle.std.specs.Prelude.{◌≡◌, Bool, true, false, cond, List, [], ◌∷◌, Option, Some, None, option_map, ℕ, ℤ}
 use Rattle.std.specs.Ordering.{int_eq}
-use Rattle.std.proofs.Common.{refl, ap, sym, subst, ◌∙◌, Bor}
+use Rattle.std.proofs.Common.{refl, ap, sym, ◌∙◌, Bor}
 use Rattle.std.proofs.lemmas.Bool.Decides.{Decides-int_eq}
 use Rattle.fixed_units.specs.Quantities.{SiteNumber, site_place}
 use Rattle.rising.proofs.Placing.{at_put}

@@ -18,7 +18,7 @@ use Rattle.edits.specs.declared.content.What.TheVariants.{AddStation, SetStation
 use Rattle.edits.specs.declared.content.Edit.{Edit}
 use Rattle.office_inputs.specs.Changes.{changed_days, keeps_day}
 use Rattle.office_inputs.specs.Stations.{StationRecord, station_of, stations_after, stations_of, inputs_of_day, day_of_station, after_what, place_of, with_changed, new_station, described, with_readings, with_entry, without_entry}
-use Rattle.office_inputs.specs.Series.{entry_of}
+use Rattle.curves.specs.Entries.{entry_of}
 use Rattle.office_inputs.specs.declared.series.StationSeries.TheVariants.{Correction, Shift}
 use Rattle.office_inputs.specs.Touched.{has_inputs, is_filled}
 use Rattle.office_inputs.proofs.KeepLemmas.{at_place}

@@ -1,5 +1,5 @@
 -- Where the station of a site stands, among the records in force and among the stations that are kept.
-use Rattle.std.specs.Prelude.{◌≡◌, ℕ, zero, suc, ◌<◌, List, [], ◌∷◌, length, slice_get, slice_set, option_map, Option, Some, None, IfSome, IfNone, ℤ, ◌<ℤ◌, ◌≤ℤ◌, int_lt, ◌≤◌, true, false}
+use Rattle.std.specs.Prelude.{◌≡◌, ℕ, zero, suc, ◌<◌, List, [], ◌∷◌, length, slice_get, slice_set, option_map, Option, Some, None, IfSome, IfNone, ℤ, ◌<ℤ◌, ◌≤ℤ◌, int_lt, true, false}
 use Rattle.std.proofs.Common.{arith, refl, ap, sym, subst, ◌∙◌, get_or}
 use Rattle.std.proofs.lemmas.Int.{ints}
 use Rattle.std.proofs.lemmas.List.{length-map}

@@ -11,7 +11,7 @@ use Rattle.office_inputs.specs.KeptStation.{KeptStation, IsStation}
 use Rattle.office_inputs.specs.Kept.{records_of}
 use Rattle.office_inputs.specs.Counting.{entry_limit, reading_limit, station_limit, without_station, IsRefusalAt}
 use Rattle.office_inputs.specs.Refusals.{adds_station, is_kept, passed_limit, limit_refusal, refusal_by, finds_nothing, lacks_entry, reading_count}
-use Rattle.office_inputs.specs.Series.{entry_of}
+use Rattle.curves.specs.Entries.{entry_of}
 use Rattle.office_inputs.specs.Stations.{StationRecord, station_of, after_what, with_changed, changed_at, new_station, described, with_readings, with_entry, without_entry, place_of}
 use Rattle.office_inputs.specs.declared.limits.Limits.{Limits}
 use Rattle.office_inputs.specs.declared.refusals.Refusal.{Refusal}

@@ -1,5 +1,5 @@
 -- The series of a station: what they keep to, and how an edit of one of them raises its count.
-use Rattle.std.specs.Prelude.{◌≡◌, ℕ, zero, suc, ◌+◌, ◌≤◌, Bool, true, false, cond, ◌||◌, List, ◌∷◌, ◌++◌, length, option_to_list, Option, Some, None, Result, Ok, Err, is_ok, OnOk, OnErr, ℤ, All}
+use Rattle.std.specs.Prelude.{◌≡◌, ℕ, zero, suc, ◌≤◌, Bool, true, false, cond, ◌||◌, List, ◌∷◌, ◌++◌, length, option_to_list, Option, Some, None, Result, Ok, Err, is_ok, OnOk, OnErr, ℤ, All}
 use Rattle.std.proofs.Common.{arith, refl, ap, sym, subst, ◌∙◌}
 use Rattle.std.proofs.lemmas.List.{length-append}
 use Rattle.std.proofs.lemmas.List.Elements.{All-weaker}
@@ -8,13 +8,13 @@ use Rattle.rising.specs.Lists as lists
 use Rattle.rising.proofs.Splitting.{whole}
 use Rattle.rising.proofs.Placing.{put_rises, put_keeps, without_rises, without_keeps}
 use Rattle.curves.specs.declared.entries.Entry.{Entry}
-use Rattle.curves.specs.Corrections.{Corrections, AreCorrections}
+use Rattle.curves.specs.Corrections.{Corrections, AreCorrections, with_set_changed}
 use Rattle.curves.specs.Entries.{IsSeries, IsRising, instant_of, put, without, stands_at}
 use Rattle.edits.specs.Lawful.{IsPutCurve, IsPutPoint, IsSetNumber}
 use Rattle.office_inputs.specs.KeptStation.{IsStation, AreAtStamps}
 use Rattle.office_inputs.specs.Counting.{entry_limit, one_more}
 use Rattle.office_inputs.specs.Refusals.{passes, passes_a_series, entry_count, most_entries, passed_limit}
-use Rattle.office_inputs.specs.Series.{IsOfStation, corrections_with, shifts_with, with_set_changed}
+use Rattle.office_inputs.specs.Series.{IsOfStation, corrections_with, shifts_with}
 use Rattle.office_inputs.specs.Stations.{StationRecord, station_of, place_of, series_of, with_series, with_entry, without_entry}
 use Rattle.office_inputs.specs.declared.limits.Limits.{Limits}
 use Rattle.office_inputs.specs.declared.refusals.Which.TheVariants as counts
@@ -91,6 +91,7 @@ changed_station s which change k i h =
       corrections_are = all.0;
       shifts_are = all.1.0;
       entries_at_stamps = all.1.1;
+      ratings_are = k.ratings_are;
       readings_are = k.readings_are;
     }
 
@@ -103,10 +104,10 @@ without_station s which at k i = changed_station s which (without at) k i (witho
 
 -- the same with the entries that its sets, or its shifts, end with
 abbrev with_sets : StationRecord → Corrections → StationRecord
-with_sets s sets = record { site = s.site; name = s.name; zone = s.zone; gap = s.gap; stage_array = s.stage_array; discharge_array = s.discharge_array; corrections = sets; shifts = s.shifts; readings = s.readings }
+with_sets s sets = record { site = s.site; name = s.name; zone = s.zone; gap = s.gap; stage_array = s.stage_array; discharge_array = s.discharge_array; corrections = sets; shifts = s.shifts; ratings = s.ratings; readings = s.readings }
 
 abbrev with_shifts : StationRecord → List Entry → StationRecord
-with_shifts s shifts = record { site = s.site; name = s.name; zone = s.zone; gap = s.gap; stage_array = s.stage_array; discharge_array = s.discharge_array; corrections = s.corrections; shifts = shifts; readings = s.readings }
+with_shifts s shifts = record { site = s.site; name = s.name; zone = s.zone; gap = s.gap; stage_array = s.stage_array; discharge_array = s.discharge_array; corrections = s.corrections; shifts = shifts; ratings = s.ratings; readings = s.readings }
 
 pub set_put : (s : StationRecord) (set : ℕ) (e : Entry) (new : Corrections) → IsStation s → IsSetNumber set → IsPutCurve e.curve → IsStamp e.at
     → new ≡ with_set_changed set (put e) s.corrections → IsStation (with_sets s new)

@@ -20,9 +20,11 @@ use Rattle.curves.specs.Corrections.{Corrections, AreCorrections}
 use Rattle.fixed_units.specs.declared.texts.NoMemory.{NoMemory}
 use Rattle.curves.specs.Bearing.{bearing}
 use Rattle.day_inputs.specs.DayInputs.{AreInputs, last_at, day_inputs, with_window, most_gap}
+use Rattle.ratings.specs.Numbered.{StationRatings, AreRatings}
+use Rattle.ratings.specs.Parts as rating_parts
 use Rattle.day_inputs.proofs.WindowEnds.{inputs_kept}
-use Rattle.day_inputs.proofs.BearingLemmas.{bearing_told, bearing_are}
-use Rattle.day_inputs.specs.Equality.{same_inputs, has_bearing}
+use Rattle.day_inputs.proofs.RulesLemmas.{rules_told, rules_are}
+use Rattle.day_inputs.specs.Equality.{same_inputs, has_rules}
 use Rattle.day_inputs.proofs.EqualityLemmas.{Decides-same_inputs}
 use Rattle.day_inputs.specs.declared.day_inputs.DayInputs.{DayInputs}
 use Rattle.day_inputs.specs.declared.day_inputs.DayParts.{DayParts}
@@ -32,17 +34,24 @@ use Rattle.office_inputs.specs.KeptStation.{AreReadings, IsStation, KeptStation}
 use Rattle.office_inputs.specs.Touched.{has_inputs}
 
 -- the inputs of a day keep to what they must, where the station does
-pub day_kept : (r : Result DayInputs NoMemory) (gap : ℕ) (stages discharges : List ℕ) (from until : ℤ) (sets : Corrections) (shifts : List Entry)
-    (readings items : List Reading) → IfOk r (λ i. i ≡ with_window gap stages discharges from until sets shifts items) → 1 ≤ gap → gap ≤ most_gap
-    → IsDayLength from until → AreCorrections sets → IsSeries shifts → AreReadings readings → items ≡ window from until (pos (60 * gap)) readings
+pub day_kept : (r : Result DayInputs NoMemory) (gap : ℕ) (stages discharges : List ℕ) (from until : ℤ) (sets : Corrections) (shifts : List Entry) (ratings : StationRatings)
+    (readings items : List Reading) → IfOk r (λ i. i ≡ with_window gap stages discharges from until sets shifts ratings items) → 1 ≤ gap → gap ≤ most_gap
+    → IsDayLength from until → AreCorrections sets → IsSeries shifts → AreRatings ratings → AreReadings readings → items ≡ window from until (pos (60 * gap)) readings
     → IfOk r AreInputs
-day_kept (Err e) gap stages discharges from until sets shifts readings items k low high l c t h w = tt
-day_kept (Ok i) gap stages discharges from until sets shifts readings items k low high l c t h w =
+day_kept (Err e) gap stages discharges from until sets shifts ratings readings items k low high l c t q h w = tt
+day_kept (Ok i) gap stages discharges from until sets shifts ratings readings items k low high l c t q h w =
     subst AreInputs (sym k)
-    (inputs_kept gap stages discharges from until sets shifts low high l.shortest l.longest c t items
+    (inputs_kept gap stages discharges from until sets shifts ratings low high l.shortest l.longest c t q items
     (subst IsRising (sym w) (window_rises from until (pos (60 * gap)) readings h.rising))
     (subst (λ (rs : List Reading). All (λ r. IsStage r.raw) rs) (sym w)
     (window_keeps (λ r. IsStage r.raw) from until (pos (60 * gap)) readings h.stages)))
+
+-- its window stands at stamps
+pub window_stamps : (gap : ℕ) (from until : ℤ) (readings items : List Reading) → AreReadings readings → items ≡ window from until (pos (60 * gap)) readings
+    → All (λ r. IsStamp r.at) items
+window_stamps gap from until readings items h w =
+    subst (λ (rs : List Reading). All (λ r. IsStamp r.at) rs) (sym w)
+    (window_keeps (λ r. IsStamp r.at) from until (pos (60 * gap)) readings h.stamps)
 
 -- whether a list has an element
 pub is_any : {X : Type 0} → List X → Bool
@@ -53,11 +62,11 @@ pub no_any : (X : Type 0) → is_any {X = X} [] ≡ false
 unfolding is_any
 no_any X = refl
 
-window_any : (gap : ℕ) (stages discharges : List ℕ) (from until : ℤ) (sets : Corrections) (shifts : List Entry) (rs : List Reading)
-    → has_inputs (with_window gap stages discharges from until sets shifts rs) ≡ is_any rs
+window_any : (gap : ℕ) (stages discharges : List ℕ) (from until : ℤ) (sets : Corrections) (shifts : List Entry) (ratings : StationRatings) (rs : List Reading)
+    → has_inputs (with_window gap stages discharges from until sets shifts ratings rs) ≡ is_any rs
 unfolding is_any
-window_any gap stages discharges from until sets shifts [] = refl
-window_any gap stages discharges from until sets shifts (r ∷ rs) = refl
+window_any gap stages discharges from until sets shifts ratings [] = refl
+window_any gap stages discharges from until sets shifts ratings (r ∷ rs) = refl
 
 neighbours_any : (before : Option Reading) (rs : List Reading) (after : Option Reading) → is_any (with_neighbours before rs after) ≡ is_any rs
 unfolding is_any
@@ -81,7 +90,7 @@ pub day_any : (s : StationRecord) (day : ℤ) → has_inputs (station_day s day)
 day_any s day =
     let a = day_start s day in
     let b = day_start s (day +ℤ pos 1) in
-    window_any s.gap s.stage_array s.discharge_array a b s.corrections s.shifts (window a b (pos (60 * s.gap)) s.readings)
+    window_any s.gap s.stage_array s.discharge_array a b s.corrections s.shifts s.ratings (window a b (pos (60 * s.gap)) s.readings)
     ∙ neighbours_any (neighbour_before a (pos (60 * s.gap)) s.readings) (inner a b s.readings) (neighbour_after b (pos (60 * s.gap)) s.readings)
 
 -- a day has inputs where some reading of it is used
@@ -98,11 +107,11 @@ window_of : DayInputs → List Reading
 window_of Empty = []
 window_of (Day p) = p.window
 
-window_told : (gap : ℕ) (stages discharges : List ℕ) (from until : ℤ) (sets : Corrections) (shifts : List Entry) (rs : List Reading)
-    → window_of (with_window gap stages discharges from until sets shifts rs) ≡ rs
+window_told : (gap : ℕ) (stages discharges : List ℕ) (from until : ℤ) (sets : Corrections) (shifts : List Entry) (ratings : StationRatings) (rs : List Reading)
+    → window_of (with_window gap stages discharges from until sets shifts ratings rs) ≡ rs
 unfolding window_of
-window_told gap stages discharges from until sets shifts [] = refl
-window_told gap stages discharges from until sets shifts (r ∷ rs) = refl
+window_told gap stages discharges from until sets shifts ratings [] = refl
+window_told gap stages discharges from until sets shifts ratings (r ∷ rs) = refl
 
 pub same_of : (p q : DayInputs) → p ≡ q → same_inputs p q ≡ true
 same_of p q e = (Decides-same_inputs p q).1 e
@@ -115,17 +124,17 @@ pub other_of : (p q : DayInputs) → p ≢ q → same_inputs p q ≡ false
 other_of p q n = other_step p q (same_inputs p q) n refl
 
 -- a test that tells whether the window of a day alters tells whether its inputs do
-pub altered_told : (gap : ℕ) (stages discharges : List ℕ) (from until : ℤ) (sets : Corrections) (shifts : List Entry) (old new : List Reading) (altered : Bool)
+pub altered_told : (gap : ℕ) (stages discharges : List ℕ) (from until : ℤ) (sets : Corrections) (shifts : List Entry) (ratings : StationRatings) (old new : List Reading) (altered : Bool)
     → (altered ≡ true → new ≢ old) → (altered ≡ false → new ≡ old)
-    → not altered ≡ same_inputs (with_window gap stages discharges from until sets shifts old) (with_window gap stages discharges from until sets shifts new)
-altered_told gap stages discharges from until sets shifts old new true changed same =
-    let before = with_window gap stages discharges from until sets shifts old in
-    let after = with_window gap stages discharges from until sets shifts new in
-    sym (other_of before after (λ e. changed refl (sym (window_told gap stages discharges from until sets shifts new) ∙ ap window_of (sym e) ∙ window_told gap stages discharges from until sets shifts old)))
-altered_told gap stages discharges from until sets shifts old new false changed same =
-    let before = with_window gap stages discharges from until sets shifts old in
-    let after = with_window gap stages discharges from until sets shifts new in
-    sym (same_of before after (ap (with_window gap stages discharges from until sets shifts) (sym (same refl))))
+    → not altered ≡ same_inputs (with_window gap stages discharges from until sets shifts ratings old) (with_window gap stages discharges from until sets shifts ratings new)
+altered_told gap stages discharges from until sets shifts ratings old new true changed same =
+    let before = with_window gap stages discharges from until sets shifts ratings old in
+    let after = with_window gap stages discharges from until sets shifts ratings new in
+    sym (other_of before after (λ e. changed refl (sym (window_told gap stages discharges from until sets shifts ratings new) ∙ ap window_of (sym e) ∙ window_told gap stages discharges from until sets shifts ratings old)))
+altered_told gap stages discharges from until sets shifts ratings old new false changed same =
+    let before = with_window gap stages discharges from until sets shifts ratings old in
+    let after = with_window gap stages discharges from until sets shifts ratings new in
+    sym (same_of before after (ap (with_window gap stages discharges from until sets shifts ratings) (sym (same refl))))
 
 -- the same as it is asked at the instants of a day
 pub altered_day : (s : StationRecord) (day : ℤ) (r : Reading) (from until : ℤ) (altered : Bool)
@@ -134,9 +143,9 @@ pub altered_day : (s : StationRecord) (day : ℤ) (r : Reading) (from until : �
     → (altered ≡ false → window from until (pos (60 * s.gap)) (put r s.readings) ≡ window from until (pos (60 * s.gap)) s.readings)
     → not altered ≡ same_inputs (station_day s day) (station_day (with_readings (r ∷ []) s) day)
 altered_day s day r from until altered e f changed same =
-    let told : not altered ≡ same_inputs (day_inputs s.gap s.stage_array s.discharge_array from until s.corrections s.shifts s.readings)
-    (day_inputs s.gap s.stage_array s.discharge_array from until s.corrections s.shifts (put r s.readings)) =
-    altered_told s.gap s.stage_array s.discharge_array from until s.corrections s.shifts
+    let told : not altered ≡ same_inputs (day_inputs s.gap s.stage_array s.discharge_array from until s.corrections s.shifts s.ratings s.readings)
+    (day_inputs s.gap s.stage_array s.discharge_array from until s.corrections s.shifts s.ratings (put r s.readings)) =
+    altered_told s.gap s.stage_array s.discharge_array from until s.corrections s.shifts s.ratings
     (window from until (pos (60 * s.gap)) s.readings) (window from until (pos (60 * s.gap)) (put r s.readings)) altered changed same in
     rw (sym e, sym f) told
 
@@ -171,27 +180,27 @@ discharges_of : DayInputs → List ℕ
 discharges_of Empty = []
 discharges_of (Day p) = p.discharge_array
 
-filled_gap : (g : ℕ) (s d : List ℕ) (a b : ℤ) (sets : Corrections) (shifts : List Entry) (before after : Option Reading) (r : Reading) (rs : List Reading)
-    → (gap_of (with_window g s d a b sets shifts (with_neighbours before (r ∷ rs) after)) ≡ g)
-    × ((stages_of (with_window g s d a b sets shifts (with_neighbours before (r ∷ rs) after)) ≡ s)
-    × (discharges_of (with_window g s d a b sets shifts (with_neighbours before (r ∷ rs) after)) ≡ d))
+filled_gap : (g : ℕ) (s d : List ℕ) (a b : ℤ) (sets : Corrections) (shifts : List Entry) (ratings : StationRatings) (before after : Option Reading) (r : Reading) (rs : List Reading)
+    → (gap_of (with_window g s d a b sets shifts ratings (with_neighbours before (r ∷ rs) after)) ≡ g)
+    × ((stages_of (with_window g s d a b sets shifts ratings (with_neighbours before (r ∷ rs) after)) ≡ s)
+    × (discharges_of (with_window g s d a b sets shifts ratings (with_neighbours before (r ∷ rs) after)) ≡ d))
 unfolding gap_of stages_of discharges_of
-filled_gap g s d a b sets shifts None after r rs = (refl, (refl, refl))
-filled_gap g s d a b sets shifts (Some x) after r rs = (refl, (refl, refl))
+filled_gap g s d a b sets shifts ratings None after r rs = (refl, (refl, refl))
+filled_gap g s d a b sets shifts ratings (Some x) after r rs = (refl, (refl, refl))
 
 -- a station described otherwise keeps the days without inputs alone
 abbrev pub Differs : ℕ → List ℕ → List ℕ → ℕ → List ℕ → List ℕ → Type 0
 Differs g s d g' s' d' = (g ≡ g' → s ≡ s' → d ≡ d' → ⊥)
 
-with_window_empty : (before after before' after' : Option Reading) (inner : List Reading) (g g' : ℕ) (s s' d d' : List ℕ) (a b : ℤ) (sets : Corrections) (shifts : List Entry)
+with_window_empty : (before after before' after' : Option Reading) (inner : List Reading) (g g' : ℕ) (s s' d d' : List ℕ) (a b : ℤ) (sets : Corrections) (shifts : List Entry) (ratings : StationRatings)
     → Differs g s d g' s' d'
-    → not (is_any inner) ≡ same_inputs (with_window g s d a b sets shifts (with_neighbours before inner after)) (with_window g' s' d' a b sets shifts (with_neighbours before' inner after'))
+    → not (is_any inner) ≡ same_inputs (with_window g s d a b sets shifts ratings (with_neighbours before inner after)) (with_window g' s' d' a b sets shifts ratings (with_neighbours before' inner after'))
 unfolding is_any
-with_window_empty before after before' after' [] g g' s s' d d' a b sets shifts n = refl
-with_window_empty before after before' after' (r ∷ rs) g g' s s' d d' a b sets shifts n =
-    sym (other_of (with_window g s d a b sets shifts (with_neighbours before (r ∷ rs) after)) (with_window g' s' d' a b sets shifts (with_neighbours before' (r ∷ rs) after')) (λ e.
-    let one = filled_gap g s d a b sets shifts before after r rs in
-    let two = filled_gap g' s' d' a b sets shifts before' after' r rs in
+with_window_empty before after before' after' [] g g' s s' d d' a b sets shifts ratings n = refl
+with_window_empty before after before' after' (r ∷ rs) g g' s s' d d' a b sets shifts ratings n =
+    sym (other_of (with_window g s d a b sets shifts ratings (with_neighbours before (r ∷ rs) after)) (with_window g' s' d' a b sets shifts ratings (with_neighbours before' (r ∷ rs) after')) (λ e.
+    let one = filled_gap g s d a b sets shifts ratings before after r rs in
+    let two = filled_gap g' s' d' a b sets shifts ratings before' after' r rs in
     n (sym one.0 ∙ ap gap_of e ∙ two.0) (sym one.1.0 ∙ ap stages_of e ∙ two.1.0) (sym one.1.1 ∙ ap discharges_of e ∙ two.1.1)))
 
 pub described_other : (s : StationRecord) (day : ℤ) (name : List ℕ) (gap : ℕ) (stages discharges : List ℕ)
@@ -202,10 +211,10 @@ described_other s day name gap stages discharges n =
     let b = day_start s (day +ℤ pos 1) in
     let before = neighbour_before a (pos (60 * s.gap)) s.readings in
     let after = neighbour_after b (pos (60 * s.gap)) s.readings in
-    ap not (window_any s.gap s.stage_array s.discharge_array a b s.corrections s.shifts (window a b (pos (60 * s.gap)) s.readings)
+    ap not (window_any s.gap s.stage_array s.discharge_array a b s.corrections s.shifts s.ratings (window a b (pos (60 * s.gap)) s.readings)
     ∙ neighbours_any before (inner a b s.readings) after)
     ∙ with_window_empty before after (neighbour_before a (pos (60 * gap)) s.readings) (neighbour_after b (pos (60 * gap)) s.readings)
-    (inner a b s.readings) s.gap gap s.stage_array stages s.discharge_array discharges a b s.corrections s.shifts n
+    (inner a b s.readings) s.gap gap s.stage_array stages s.discharge_array discharges a b s.corrections s.shifts s.ratings n
 
 -- the same of a station that is kept with room
 abbrev AlteredDay : ℤ → Reading → ℤ → ℤ → Bool → KeptStation → KeptStation → Type 0
@@ -228,10 +237,10 @@ abbrev HasBounds : StationRecord → ℤ → DayParts → Type 0
 HasBounds s day p = (p.from ≡ day_start s day) × (p.until ≡ day_start s (day +ℤ pos 1))
 
 abbrev HasParts : StationRecord → ℤ → DayParts → List Reading → Type 0
-HasParts s day p w = HasSettings s p × (HasBounds s day p × ((p.window ≡ w) × (has_bearing s.corrections s.shifts p ≡ true)))
+HasParts s day p w = HasSettings s p × (HasBounds s day p × ((p.window ≡ w) × (has_rules s.corrections s.shifts s.ratings p ≡ true)))
 
 parts_step : (s : StationRecord) (day : ℤ) (p : DayParts) (w : List Reading)
-    → Day p ≡ with_window s.gap s.stage_array s.discharge_array (day_start s day) (day_start s (day +ℤ pos 1)) s.corrections s.shifts w → HasParts s day p w
+    → Day p ≡ with_window s.gap s.stage_array s.discharge_array (day_start s day) (day_start s (day +ℤ pos 1)) s.corrections s.shifts s.ratings w → HasParts s day p w
 parts_step s day p [] e = absurd (cc)
 parts_step s day p (r ∷ rs) e =
     let k : p ≡ record {
@@ -245,28 +254,29 @@ parts_step s day p (r ∷ rs) e =
       second = bearing r.at (last_at r rs) s.corrections.second;
       third = bearing r.at (last_at r rs) s.corrections.third;
       shifts = bearing r.at (last_at r rs) s.shifts;
+      periods = rating_parts.parts r.at (last_at r rs) s.ratings.tables s.ratings.periods;
     } = cc in (
       (sym (ap (λ (x : DayParts). x.gap) k), sym (ap (λ (x : DayParts). x.stage_array) k), sym (ap (λ (x : DayParts). x.discharge_array) k)),
       (
         (ap (λ (x : DayParts). x.from) k, ap (λ (x : DayParts). x.until) k),
         (
           ap (λ (x : DayParts). x.window) k,
-          bearing_told s.gap s.stage_array s.discharge_array (day_start s day) (day_start s (day +ℤ pos 1)) s.corrections s.shifts p (r ∷ rs) e,
+          rules_told s.gap s.stage_array s.discharge_array (day_start s day) (day_start s (day +ℤ pos 1)) s.corrections s.shifts s.ratings p (r ∷ rs) e,
         ),
       ),
     )
 
 parts_back : (s : StationRecord) (day : ℤ) (p : DayParts) (w : List Reading) → HasParts s day p w
-    → Day p ≡ with_window s.gap s.stage_array s.discharge_array (day_start s day) (day_start s (day +ℤ pos 1)) s.corrections s.shifts w
+    → Day p ≡ with_window s.gap s.stage_array s.discharge_array (day_start s day) (day_start s (day +ℤ pos 1)) s.corrections s.shifts s.ratings w
 parts_back s day p w h =
-    bearing_are s.gap s.stage_array s.discharge_array (day_start s day) (day_start s (day +ℤ pos 1)) s.corrections s.shifts p w
+    rules_are s.gap s.stage_array s.discharge_array (day_start s day) (day_start s (day +ℤ pos 1)) s.corrections s.shifts s.ratings p w
     (sym h.0.0) (sym h.0.1) (sym h.0.2) h.1.0.0 h.1.0.1 h.1.1.0 h.1.1.1
 
 pub parts_decide : (s : StationRecord) (day : ℤ) (p : DayParts) (settings bounds window entries told : Bool) → settings ≡ true ↔ HasSettings s p
-    → bounds ≡ true ↔ HasBounds s day p → window ≡ true ↔ p.window ≡ station_window s day → entries ≡ has_bearing s.corrections s.shifts p
+    → bounds ≡ true ↔ HasBounds s day p → window ≡ true ↔ p.window ≡ station_window s day → entries ≡ has_rules s.corrections s.shifts s.ratings p
     → told ≡ (settings && (bounds && (window && entries))) → told ≡ true ↔ Day p ≡ station_day s day
 parts_decide s day p settings bounds window entries told f g h e t =
-    let bearing : Decides entries (has_bearing s.corrections s.shifts p ≡ true) = (λ k. sym e ∙ k, λ k. e ∙ k) in
+    let bearing : Decides entries (has_rules s.corrections s.shifts s.ratings p ≡ true) = (λ k. sym e ∙ k, λ k. e ∙ k) in
     let all = Decides-and settings (bounds && (window && entries)) f (Decides-and bounds (window && entries) g (Decides-and window entries h bearing)) in
     Decides-at told (settings && (bounds && (window && entries))) t
     (Decides-like (settings && (bounds && (window && entries))) (parts_back s day p (station_window s day)) (parts_step s day p (station_window s day)) all)
@@ -301,7 +311,7 @@ window_kept kept view e day from until before after rs list told =
 
 -- a station with readings put keeps to its ranges
 pub put_station : (s : StationRecord) (rs new : List Reading) → IsStation s → All IsPutReading rs → new ≡ put_all rs s.readings
-    → IsStation (record { site = s.site; name = s.name; zone = s.zone; gap = s.gap; stage_array = s.stage_array; discharge_array = s.discharge_array; corrections = s.corrections; shifts = s.shifts; readings = new })
+    → IsStation (record { site = s.site; name = s.name; zone = s.zone; gap = s.gap; stage_array = s.stage_array; discharge_array = s.discharge_array; corrections = s.corrections; shifts = s.shifts; ratings = s.ratings; readings = new })
 put_station s rs new h k e = record {
   site_range = h.site_range;
   zone_is = h.zone_is;
@@ -310,5 +320,6 @@ put_station s rs new h k e = record {
   corrections_are = h.corrections_are;
   shifts_are = h.shifts_are;
   entries_at_stamps = h.entries_at_stamps;
+  ratings_are = h.ratings_are;
   readings_are = subst AreReadings (sym e) (put_all_are rs s.readings k h.readings_are);
 }

@@ -10,7 +10,7 @@ use Rattle.rising.specs.Ends.{first, last}
 use Rattle.rising.proofs.Ends.{last-cons, last-append}
 use Rattle.rising.proofs.Selecting.{AllPairs-head, AllPairs-tail}
 use Rattle.readings.specs.Readings.{IsRising, is_used}
-use Rattle.readings.specs.Window.{inner, of_day, window, with_neighbours, neighbour_before, neighbour_after}
+use Rattle.readings.specs.Window.{inner, of_day, with_neighbours, neighbour_before, neighbour_after}
 use Rattle.readings.proofs.Selecting.{reverse-cons, reverse-filter}
 use Rattle.readings.proofs.WindowLemmas.{window_rises}
 use Rattle.readings.proofs.WindowParts.{inner_found}

@@ -7,6 +7,7 @@ use Rattle.curves.specs.declared.entries.Entry.{Entry}
 use Rattle.curves.specs.Entries.{IsSeries}
 use Rattle.curves.specs.Corrections.{Corrections, AreCorrections}
 use Rattle.civil_days.specs.Starts.{IsZone}
+use Rattle.ratings.specs.Numbered.{AreRatings}
 use Rattle.day_inputs.specs.DayInputs.{most_gap}
 use Rattle.office_inputs.specs.Series.{SeriesRoom}
 use Rattle.office_inputs.specs.Stations.{StationRecord}
@@ -33,6 +34,7 @@ pub record IsStation (station : StationRecord) : Type 0 where
   pub corrections_are : AreCorrections station.corrections
   pub shifts_are : IsSeries station.shifts
   pub entries_at_stamps : AreAtStamps station.corrections station.shifts
+  pub ratings_are : AreRatings station.ratings
   pub readings_are : AreReadings station.readings
 
 -- a station that is kept, and for how many more readings, and more entries of each series, it has room

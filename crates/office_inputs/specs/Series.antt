@@ -1,26 +1,12 @@
 -- The series of a station: its three correction sets and its shifts, and each of them changed.
-use Rattle.std.specs.Prelude.{ℕ, Bool, ◌==◌, ⊤, List, [], ◌∷◌, ℤ, if◌then◌else◌}
+use Rattle.std.specs.Prelude.{ℕ, ◌==◌, ⊤, List, [], ◌∷◌, if◌then◌else◌}
 use Rattle.curves.specs.declared.entries.Entry.{Entry}
-use Rattle.curves.specs.Corrections.{Corrections}
+use Rattle.curves.specs.Corrections.{Corrections, set_entries, with_set_changed}
 use Rattle.curves.specs.declared.sets.CorrectionSets.{CorrectionSets}
 use Rattle.curves.specs.declared.sets.Shifts.{Shifts}
 use Rattle.edits.specs.Lawful.{IsSetNumber}
 use Rattle.office_inputs.specs.declared.series.StationSeries.{StationSeries}
 use Rattle.office_inputs.specs.declared.series.StationSeries.TheVariants.{Correction, Shift}
-
--- an entry of these parts
-abbrev pub entry_of : ℤ → List (ℤ × ℤ) → Bool → Entry
-entry_of at curve prorate = record { at = at; curve = curve; prorate = prorate }
-
--- the entries of the correction set of a number from 1 to 3, and the sets with these entries changed
-abbrev pub set_entries : Corrections → ℕ → List Entry
-set_entries corrections set = if set == 1 then corrections.first else (if set == 2 then corrections.second else corrections.third)
-
-abbrev pub with_set_changed : ℕ → (List Entry → List Entry) → Corrections → Corrections
-with_set_changed set change corrections =
-    if set == 1 then record { first = change corrections.first; second = corrections.second; third = corrections.third }
-    else (if set == 2 then record { first = corrections.first; second = change corrections.second; third = corrections.third }
-    else record { first = corrections.first; second = corrections.second; third = change corrections.third })
 
 -- the entries of a series, and all series with one of them changed
 abbrev pub entries_in : StationSeries → Corrections → List Entry → List Entry

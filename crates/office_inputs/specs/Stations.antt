@@ -1,5 +1,5 @@
 -- The inputs in force: the record of each station that is kept, and what an edit makes of them.
-use Rattle.std.specs.Prelude.{ℕ, ◌*◌, Bool, List, [], Option, Some, None, ℤ, ◌+ℤ◌, pos, fold}
+use Rattle.std.specs.Prelude.{ℕ, ◌*◌, List, [], Option, Some, None, ℤ, ◌+ℤ◌, pos, fold}
 use Rattle.fixed_units.specs.Quantities.{SiteNumber, site_place}
 use Rattle.fixed_units.specs.declared.readings.Reading.{Reading}
 use Rattle.rising.specs.Lists as lists
@@ -10,12 +10,14 @@ use Rattle.curves.specs.Corrections.{Corrections}
 use Rattle.curves.specs.Entries as series
 use Rattle.civil_days.specs.Starts.{day_start_of}
 use Rattle.day_inputs.specs.DayInputs.{day_inputs}
+use Rattle.ratings.specs.Numbered.{StationRatings}
 use Rattle.day_inputs.specs.declared.day_inputs.DayInputs.{DayInputs}
 use Rattle.day_inputs.specs.declared.day_inputs.DayInputs.TheVariants.{Empty}
 use Rattle.edits.specs.declared.content.What.{What}
 use Rattle.edits.specs.declared.content.What.TheVariants.{AddStation, SetStation, PutReadings, PutCorrection, DropCorrection, PutShift, DropShift}
 use Rattle.edits.specs.declared.content.Edit.{Edit}
-use Rattle.office_inputs.specs.Series.{corrections_with, entries_in, entry_of, shifts_with}
+use Rattle.curves.specs.Entries.{entry_of}
+use Rattle.office_inputs.specs.Series.{corrections_with, entries_in, shifts_with}
 use Rattle.office_inputs.specs.declared.series.StationSeries.{StationSeries}
 use Rattle.office_inputs.specs.declared.series.StationSeries.TheVariants.{Correction, Shift}
 
@@ -29,6 +31,7 @@ pub record StationRecord : Type 0 where
   pub discharge_array : List ℕ
   pub corrections : Corrections
   pub shifts : List Entry
+  pub ratings : StationRatings
   pub readings : List Reading
 
 -- the number that a station stands at: that of its site
@@ -47,7 +50,7 @@ with_changed change (Some station) stations = lists.put place_of (change station
 abbrev pub changed_at : SiteNumber → (StationRecord → StationRecord) → List StationRecord → List StationRecord
 changed_at site change stations = with_changed change (station_of stations site) stations
 
--- a station as it is added: without corrections, shifts and readings
+-- a station as it is added: without corrections, shifts, ratings and readings
 abbrev pub new_station : SiteNumber → List ℕ → List ℕ → ℕ → List ℕ → List ℕ → StationRecord
 new_station site name zone gap stage_array discharge_array = record {
   site = site;
@@ -58,10 +61,11 @@ new_station site name zone gap stage_array discharge_array = record {
   discharge_array = discharge_array;
   corrections = record { first = []; second = []; third = [] };
   shifts = [];
+  ratings = record { tables = []; periods = [] };
   readings = [];
 }
 
--- a station described anew: it keeps its site, its zone, its corrections, its shifts and its readings
+-- a station described anew: it keeps its site, its zone, its corrections, its shifts, its ratings and its readings
 abbrev pub described : List ℕ → ℕ → List ℕ → List ℕ → StationRecord → StationRecord
 described name gap stage_array discharge_array s = record {
   site = s.site;
@@ -72,6 +76,7 @@ described name gap stage_array discharge_array s = record {
   discharge_array = discharge_array;
   corrections = s.corrections;
   shifts = s.shifts;
+  ratings = s.ratings;
   readings = s.readings;
 }
 
@@ -86,6 +91,7 @@ with_readings readings s = record {
   discharge_array = s.discharge_array;
   corrections = s.corrections;
   shifts = s.shifts;
+  ratings = s.ratings;
   readings = put_all readings s.readings;
 }
 
@@ -104,6 +110,7 @@ with_series which change s = record {
   discharge_array = s.discharge_array;
   corrections = corrections_with which change s.corrections;
   shifts = shifts_with which change s.shifts;
+  ratings = s.ratings;
   readings = s.readings;
 }
 
@@ -143,7 +150,7 @@ station_window s day = window (day_start s day) (day_start s (day +ℤ pos 1)) (
 
 -- the inputs of a day of a station
 abbrev pub station_day : StationRecord → ℤ → DayInputs
-station_day s day = day_inputs s.gap s.stage_array s.discharge_array (day_start s day) (day_start s (day +ℤ pos 1)) s.corrections s.shifts s.readings
+station_day s day = day_inputs s.gap s.stage_array s.discharge_array (day_start s day) (day_start s (day +ℤ pos 1)) s.corrections s.shifts s.ratings s.readings
 
 -- the inputs of a day of a site: none where it is not kept
 abbrev pub day_of_station : Option StationRecord → ℤ → DayInputs

@@ -8,8 +8,7 @@ use Rattle.fixed_units.specs.Quantities.{IsDay, SiteNumber, last_stamp}
 use Rattle.fixed_units.specs.declared.readings.Reading.{Reading}
 use Rattle.fixed_units.specs.Calendar.{calendar}
 use Rattle.curves.specs.declared.entries.Entry.{Entry}
-use Rattle.curves.specs.Entries.{instant_of}
-use Rattle.rising.specs.Lists as lists
+use Rattle.curves.specs.Entries.{entry_after, entry_before}
 use Rattle.day_inputs.specs.DayInputs.{most_gap}
 use Rattle.day_inputs.specs.declared.day_inputs.DayInputs.{DayInputs}
 use Rattle.day_inputs.specs.declared.day_inputs.DayInputs.TheVariants.{Empty, Day}
@@ -59,7 +58,7 @@ says_until (Some next) = next.at
 -- the time in which the entry at an instant of a series has a say: only days that have inputs can change
 abbrev pub about_entry : ℤ → List Entry → Touched
 about_entry at entries =
-    Between (says_from at (last (lists.before instant_of at entries))) (says_until (first (lists.after instant_of at entries))) true
+    Between (says_from at (entry_before at entries)) (says_until (entry_after at entries)) true
 
 abbrev pub about_entry_of : Option StationRecord → StationSeries → ℤ → Touched
 about_entry_of None which at = Nothing

@@ -57,22 +57,14 @@ impl Inputs {
                 curve,
                 prorate,
             } => {
-                let entry = Entry {
-                    at: *at,
-                    curve: *curve,
-                    prorate: *prorate,
-                };
+                let entry = Entry::new(*at, *curve, *prorate);
                 self.put_entry(place, StationSeries::Correction(*set), entry)
             }
             What::DropCorrection { set, at } => {
                 self.drop_entry(place, StationSeries::Correction(*set), *at)
             }
             What::PutShift { at, curve, prorate } => {
-                let entry = Entry {
-                    at: *at,
-                    curve: *curve,
-                    prorate: *prorate,
-                };
+                let entry = Entry::new(*at, *curve, *prorate);
                 self.put_entry(place, StationSeries::Shift, entry)
             }
             What::DropShift { at } => self.drop_entry(place, StationSeries::Shift, *at),

@@ -48,22 +48,14 @@ impl Station {
                 curve,
                 prorate,
             } => {
-                let entry = Entry {
-                    at: *at,
-                    curve: *curve,
-                    prorate: *prorate,
-                };
+                let entry = Entry::new(*at, *curve, *prorate);
                 self.keeps_day_with_entry(StationSeries::Correction(*set), &entry, day)
             }
             What::DropCorrection { set, at } => {
                 self.keeps_day_without_entry(StationSeries::Correction(*set), *at, day)
             }
             What::PutShift { at, curve, prorate } => {
-                let entry = Entry {
-                    at: *at,
-                    curve: *curve,
-                    prorate: *prorate,
-                };
+                let entry = Entry::new(*at, *curve, *prorate);
                 self.keeps_day_with_entry(StationSeries::Shift, &entry, day)
             }
             What::DropShift { at } => self.keeps_day_without_entry(StationSeries::Shift, *at, day),

@@ -3,22 +3,22 @@
 ghost use Rattle.std.specs.Prelude.{◌≡◌, ◌↔◌, ◌&&◌, ◌||◌, not, true, false, ℕ, ℤ, List, [], ◌∷◌, pos, ◌+ℤ◌, ◌≤ℤ◌, filter, find, is_some, reverse, None, Some, IfOk, IfSome, IfNone};
 ghost use Rattle.civil_days.specs.Starts.{IsDayLength, IsIn};
 ghost use Rattle.curves.specs.Bearing.{bears_at};
-ghost use Rattle.curves.specs.Entries.{IsRising, stands_at};
+ghost use Rattle.curves.specs.Entries.{stands_at};
 ghost use Rattle.curves.specs.Equality.{has_entry};
 ghost use Rattle.fixed_units.specs.Quantities.{IsDay, IsStamp};
 ghost use Rattle.readings.specs.Readings.{is_used};
 ghost use Rattle.readings.specs.Window.{of_day, with_neighbours};
 ghost use Rattle.day_inputs.specs.DayInputs.{AreInputs, window_ends};
-ghost use Rattle.day_inputs.specs.Equality.{same_inputs, has_bearing};
+ghost use Rattle.day_inputs.specs.Equality.{same_inputs, has_rules};
 ghost use Rattle.day_inputs.specs.declared.day_inputs.DayInputs.TheVariants as DayInputs;
 ghost use Rattle.office_inputs.specs.Series.{IsOfStation};
 ghost use Rattle.office_inputs.specs.Stations.{described, with_readings, with_entry, without_entry, station_day, station_window, day_start};
 ghost use Rattle.office_inputs.specs.Touched.{has_inputs, IsSpanOf};
 
-use crate::series::{StationSeries, stands_in};
+use crate::series::StationSeries;
 use crate::stations::Station;
-use curves::{Entry, Series};
-use day_inputs::{DayInputs, DayParts, has_bearing, with_window};
+use curves::{Entry, Series, is_found};
+use day_inputs::{DayInputs, DayParts, has_rules, with_window};
 use fixed_units::{Day, Flag, NoMemory, Reading, RoundingArray, Second};
 use readings::{Window, window_is};
 use std::alloc::Global;
@@ -77,6 +77,7 @@ impl Station {
             until,
             &self.corrections,
             &self.shifts,
+            &self.ratings,
             window,
         )
     }
@@ -98,14 +99,14 @@ impl Station {
         let settings = self.has_settings(parts.gap, parts.stage_array, parts.discharge_array);
         let bounds = self.has_bounds(day, parts.from, parts.until);
         let window = self.has_window(day, parts.window.as_slice());
-        are_all(settings, bounds, window, self.has_entries(parts))
+        are_all(settings, bounds, window, self.has_rules(parts))
     }
 
-    /// Whether the entries of a day are those of the station that bear on its window.
-    fn has_entries(&self, parts: &DayParts) -> bool
-        ensures { result ≡ has_bearing self.now.station.corrections self.now.station.shifts parts.now }
+    /// Whether the entries and the rating periods of a day are those of the station that count for its window.
+    fn has_rules(&self, parts: &DayParts) -> bool
+        ensures { result ≡ has_rules self.now.station.corrections self.now.station.shifts self.now.station.ratings parts.now }
     {
-        has_bearing(&self.corrections, &self.shifts, parts)
+        has_rules(&self.corrections, &self.shifts, &self.ratings, parts)
     }
 
     /// Whether a day begins and ends there.
@@ -214,10 +215,10 @@ impl Station {
 }
 
 /// Whether all parts of a day's inputs agree.
-fn are_all(settings: bool, bounds: bool, window: bool, entries: bool) -> bool
-    ensures { result ≡ (settings && (bounds && (window && entries))) }
+fn are_all(settings: bool, bounds: bool, window: bool, rules: bool) -> bool
+    ensures { result ≡ (settings && (bounds && (window && rules))) }
 {
-    settings && bounds && window && entries
+    settings && bounds && window && rules
 }
 
 /// Whether some reading is used.
@@ -262,16 +263,17 @@ fn used_ends(readings: &[Reading]) -> Option<(Reading, Reading)>
 fn stays_with(series: &Series, entry: &Entry, lo: Second, hi: Second) -> bool
     ensures { result ≡ (not (bears_at lo hi entry.now.at series.now.entries) || has_entry entry.now series.now.entries) }
 {
-    !series.bears_at(entry.at, lo, hi) || series.has_entry(entry)
+    let around = series.around(entry.at);
+    !around.bears(lo, hi) || is_found(entry, around.here)
 }
 
 /// Whether taking the entry at an instant out of a series leaves those that bear on the time between two instants: none stands
 /// there, or it does not bear on it.
 fn stays_without(series: &Series, at: Second, lo: Second, hi: Second) -> bool
-    requires { IsRising series.now.entries }
     ensures { result ≡ (not (stands_at at series.now.entries) || not (bears_at lo hi at series.now.entries)) }
 {
-    !stands_in(series, at) || !series.bears_at(at, lo, hi)
+    let around = series.around(at);
+    around.here.is_none() || !around.bears(lo, hi)
 }
 
 /// The instants of the first and the last reading that a window lends, or `None` exactly where it is empty.

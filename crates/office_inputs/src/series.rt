@@ -1,18 +1,17 @@
 //! The series of a station: its three correction sets and its shifts, and each of them changed.
 
 ghost use Rattle.std.specs.Prelude.{◌≡◌, ◌<◌, length, OnOk};
-ghost use Rattle.curves.specs.Corrections.{entries_of, set_of};
+ghost use Rattle.curves.specs.Corrections.{entries_of, set_of, with_set_changed};
 ghost use Rattle.curves.specs.Entries.{IsRising, put, stands_at, without};
 ghost use Rattle.edits.specs.Lawful.{IsPutCurve, IsSetNumber};
 ghost use Rattle.fixed_units.specs.Quantities.{IsStamp};
 ghost use Rattle.office_inputs.specs.KeptStation.{IsStation};
-ghost use Rattle.office_inputs.specs.Series.{IsOfStation, room_in, with_set_changed};
+ghost use Rattle.office_inputs.specs.Series.{IsOfStation, room_in};
 ghost use Rattle.office_inputs.specs.Stations.{series_of, with_entry, without_entry};
 
 use crate::stations::Station;
 use curves::{CorrectionSets, Entry, Series};
 use fixed_units::{NoMemory, Second};
-use rising::place_in;
 
 /// A series of a station.
 #[derive(Clone, Copy, Debug, PartialEq, Eq)]
@@ -50,7 +49,7 @@ impl Station {
         requires { IsOfStation which }
         ensures { result ≡ stands_at at (series_of which self.now.station) }
     {
-        stands_in(self.series(which), at)
+        self.series(which).stands_at(at)
     }
 
     /// Makes room for one entry more in a series. The record is as before, also after `NoMemory`.
@@ -92,14 +91,6 @@ impl Station {
             StationSeries::Shift => drop_from(self.shifts.series_mut(), at),
         }
     }
-}
-
-/// Whether an entry stands at an instant of a series.
-pub(crate) fn stands_in(series: &Series, at: Second) -> bool
-    requires { IsRising series.now.entries }
-    ensures { result ≡ stands_at at series.now.entries }
-{
-    place_in(series.entries(), at).is_some()
 }
 
 /// Makes room for one entry more in the correction set of a number.

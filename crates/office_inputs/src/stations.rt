@@ -1,4 +1,4 @@
-//! A station that is kept: what is said of it, its corrections and shifts, and its readings.
+//! A station that is kept: what is said of it, its corrections and shifts, its ratings, and its readings.
 
 ghost use Rattle.std.specs.Prelude.{◌≡◌, ◌≤◌, ◌<◌, ◌+◌, length, All, is_some, IfOk, OnOk};
 ghost use Rattle.std.specs.Arc.{arc_value};
@@ -13,6 +13,7 @@ use civil_days::StationZone;
 use curves::{CorrectionSets, Shifts};
 use edits::Name;
 use fixed_units::{NoMemory, Reading, RoundingArray, Second, Site};
+use ratings::Ratings;
 use readings::Readings;
 use rising::Keyed;
 use std::alloc::Global;
@@ -31,6 +32,7 @@ pub struct Station {
     pub(crate) discharge_array: RoundingArray,
     pub(crate) corrections: CorrectionSets,
     pub(crate) shifts: Shifts,
+    pub(crate) ratings: Ratings,
     pub(crate) readings: Readings,
 }
 
@@ -43,12 +45,12 @@ impl Model for Station {
     ghost Value = { KeptStation };
 
     ghost view = { λ s. record {
-      station = record { site = s.site; name = s.name; zone = arc_value s.zone; gap = s.gap; stage_array = s.stage_array; discharge_array = s.discharge_array; corrections = entries_of s.corrections; shifts = s.shifts.series.entries; readings = s.readings.list };
+      station = record { site = s.site; name = s.name; zone = arc_value s.zone; gap = s.gap; stage_array = s.stage_array; discharge_array = s.discharge_array; corrections = entries_of s.corrections; shifts = s.shifts.series.entries; ratings = s.ratings.ratings; readings = s.readings.list };
       spare = s.readings.spare;
       entry_room = room_of s.corrections s.shifts;
     } };
 
-    ghost invariant = { λ s. IsStation (record { site = s.site; name = s.name; zone = arc_value s.zone; gap = s.gap; stage_array = s.stage_array; discharge_array = s.discharge_array; corrections = entries_of s.corrections; shifts = s.shifts.series.entries; readings = s.readings.list }) };
+    ghost invariant = { λ s. IsStation (record { site = s.site; name = s.name; zone = arc_value s.zone; gap = s.gap; stage_array = s.stage_array; discharge_array = s.discharge_array; corrections = entries_of s.corrections; shifts = s.shifts.series.entries; ratings = s.ratings.ratings; readings = s.readings.list }) };
 }
 
 impl Keyed for Station {
@@ -133,7 +135,7 @@ impl Station {
 }
 
 impl Station {
-    /// A station without corrections, shifts and readings, which takes no memory of its own.
+    /// A station without corrections, shifts, ratings and readings, which takes no memory of its own.
     pub(crate) fn new(
         alloc: Global,
         site: Site,
@@ -158,6 +160,7 @@ impl Station {
             discharge_array,
             corrections: CorrectionSets::new(alloc),
             shifts: Shifts::new(alloc),
+            ratings: Ratings::new(alloc),
             readings: Readings::new(alloc),
         }
     }
@@ -196,7 +199,7 @@ impl Station {
         put_each(&mut self.readings, readings)
     }
 
-    /// Describes the station anew: its zone, its corrections, its shifts and its readings stay.
+    /// Describes the station anew: its zone, its corrections, its shifts, its ratings and its readings stay.
     pub(crate) fn describe(
         &mut self,
         name: Name,

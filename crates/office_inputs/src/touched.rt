@@ -1,7 +1,6 @@
 //! What an edit touches of a station's days.
 
 ghost use Rattle.std.specs.Prelude.{◌≡◌, option_map};
-ghost use Rattle.curves.specs.Entries.{IsRising};
 ghost use Rattle.office_inputs.specs.Kept.{in_force};
 ghost use Rattle.office_inputs.specs.Places.{IsPlace, IsPlaceOf};
 ghost use Rattle.office_inputs.specs.Series.{IsOfStation};
@@ -12,13 +11,9 @@ ghost use Rattle.rising.specs.Ends.{first, last};
 use crate::inputs::Inputs;
 use crate::places::Place;
 use crate::series::StationSeries;
-use curves::Entry;
+use curves::{Entry, Series};
 use edits::{Edit, What};
-use fixed_units::{Day, Reading, Second};
-use rising::{count_before, count_to};
-
-/// The last stamp in seconds, 2099-12-28T23:59:59Z.
-const LAST_STAMP: i64 = 4_102_185_599;
+use fixed_units::{Day, LAST_STAMP, Reading, Second};
 
 /// What an edit touches.
 #[derive(Clone, Copy, Debug, PartialEq, Eq)]
@@ -73,7 +68,7 @@ impl Inputs {
         ensures { result ≡ about_entry_of (station_of (in_force self.now) place.site) which at }
     {
         match self.station_at(place) {
-            Some(station) => about_entry(station.entries(which), at),
+            Some(station) => about_entry(station.series(which), at),
             None => Touched::Nothing,
         }
     }
@@ -94,15 +89,13 @@ fn between_readings(readings: &[Reading]) -> Touched
 }
 
 /// The time in which the entry at an instant of a series has a say.
-fn about_entry(entries: &[Entry], at: Second) -> Touched
-    requires { IsRising entries.now }
-    ensures { result ≡ about_entry at entries.now }
+fn about_entry(series: &Series, at: Second) -> Touched
+    ensures { result ≡ about_entry at series.now.entries }
 {
-    let (past, _) = entries.split_at(count_before(entries, at));
-    let (_, future) = entries.split_at(count_to(entries, at));
+    let around = series.around(at);
     Touched::Between {
-        first: says_from(at, past.last()),
-        last: says_until(future.first()),
+        first: says_from(at, around.before),
+        last: says_until(around.after),
         cells_only: true,
     }
 }

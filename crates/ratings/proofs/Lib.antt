@@ -1,7 +1,11 @@
+pub mod CuttingLemmas
 pub mod FieldLemmas
 pub mod LineTextLemmas
+pub mod PartEqualityLemmas
+pub mod PartLemmas
 pub mod PeriodLawLemmas
 pub mod PeriodLemmas
+pub mod RatingsLemmas
 pub mod RdbLemmas
 pub mod StageLawLemmas
 pub mod TableLawLemmas

@@ -9,20 +9,20 @@ use Rattle.ratings.proofs.PeriodLemmas.{IsApart}
 use Rattle.rising.proofs.Selecting.{AllPairs-head, AllPairs-tail}
 use Rattle.rising.proofs.Parting.{lt_yes, le_yes}
 
-both : (x y : Bool) → x ≡ true → y ≡ true → x && y ≡ true
+pub both : (x y : Bool) → x ≡ true → y ≡ true → x && y ≡ true
 both true y h k = k
 both false y h k = absurd (cc)
 
-first_of : (x y : Bool) → x && y ≡ true → x ≡ true
+pub first_of : (x y : Bool) → x && y ≡ true → x ≡ true
 first_of true y h = refl
 first_of false y h = absurd (cc)
 
-second_of : (x y : Bool) → x && y ≡ true → y ≡ true
+pub second_of : (x y : Bool) → x && y ≡ true → y ≡ true
 second_of true y h = h
 second_of false y h = absurd (cc)
 
 -- what is before an end at an instant is so earlier
-earlier : (x at : ℤ) (until : Option ℤ) → x ≤ℤ at → is_before_end at until ≡ true → is_before_end x until ≡ true
+pub earlier : (x at : ℤ) (until : Option ℤ) → x ≤ℤ at → is_before_end at until ≡ true → is_before_end x until ≡ true
 earlier x at None h k = refl
 earlier x at (Some u) h k = lt_yes x u (omega (arith, ints))
 

@@ -119,7 +119,7 @@ before_its_end from next None h k = refl
 before_its_end from next (Some u) h k = lt_yes from u (omega (arith, ints))
 
 -- a period has ended where a later one that it shares no instant with has begun
-ended : (from next at : ℤ) (until then : Option ℤ) → from <ℤ next → IfSome then (λ u. next <ℤ u) → is_before_end from then && is_before_end next until ≡ false
+pub ended : (from next at : ℤ) (until then : Option ℤ) → from <ℤ next → IfSome then (λ u. next <ℤ u) → is_before_end from then && is_before_end next until ≡ false
     → next ≤ℤ at → is_before_end at until ≡ false
 ended from next at None then h k apart m = let e = before_its_end from next then h k in let f : true ≡ false = rw e at apart in absurd (cc)
 ended from next at (Some u) then h k apart m =
@@ -136,7 +136,7 @@ kept_first at p kept qs q h e =
     (subst (All EndsLater) e (All-filter (λ (r : Span). int_le r.from at) EndsLater kept (All-tail EndsLater p kept h.ordered))) in
     ended p.from q.from at p.until q.until later ordered apart below
 
-rest_apart : (p : Span) (kept : List Span) → AreApart (p ∷ kept) → AreApart kept
+pub rest_apart : (p : Span) (kept : List Span) → AreApart (p ∷ kept) → AreApart kept
 rest_apart p kept h =
     record {
       ordered = All-tail EndsLater p kept h.ordered;

@@ -1,4 +1,7 @@
 pub mod Lines
+pub mod Numbered
+pub mod PartEquality
+pub mod Parts
 pub mod Periods
 pub mod RatedDischarge
 pub mod Rdb

@@ -1,9 +1,11 @@
 //! Laws of ratings: what the definitions say on rows, between them and of periods.
 
-ghost use Rattle.std.specs.Prelude.{◌≡◌, ◌↔◌, true, List, ◌∷◌, ◌++◌, Option, None, Some, IsSome, IfSome, ℤ, ◌<ℤ◌, ◌≤ℤ◌, Contains};
+ghost use Rattle.std.specs.Prelude.{◌≡◌, ◌↔◌, true, option_map, List, ◌∷◌, ◌++◌, Option, None, Some, IsSome, IfSome, ℤ, ◌<ℤ◌, ◌≤ℤ◌, Contains};
 ghost use Rattle.ratings.specs.declared.table.Rated.{Rated};
 ghost use Rattle.ratings.specs.declared.table.Rated.TheVariants.{Value};
-ghost use Rattle.ratings.specs.Periods.{AreApart, is_in_force, share};
+ghost use Rattle.ratings.specs.Numbered.{AreRatings, Numbered, StationRatings, rows_of};
+ghost use Rattle.ratings.specs.Parts.{AreParts, part_at, part_of, parts};
+ghost use Rattle.ratings.specs.Periods.{AreApart, in_force, is_in_force, share};
 ghost use Rattle.ratings.specs.RatedDischarge.{IsInside, IsOutside, IsRated, IsStageOf};
 ghost use Rattle.ratings.specs.Spans.{Span, EndsLater};
 ghost use Rattle.fixed_units.specs.Lines.{line_at};
@@ -37,4 +39,16 @@ pub fn one_period_is_in_force()
         → is_in_force at p ≡ true → is_in_force at q ≡ true → ⊥ }
     ensures share { (p q : Span) → EndsLater p → EndsLater q
         → (share p q ≡ true ↔ ((at : ℤ) × (is_in_force at p ≡ true) × (is_in_force at q ≡ true))) }
+{}
+
+/// At every instant from `lo` to `hi` the parts have in force what the periods have: the part of the period that is in force
+/// there, so its rating and that one's rows, and none where no period is. Parts of ratings are apart, each with a table.
+pub fn parts_stand_for_periods()
+    ensures part { (lo hi at : ℤ) (tables : List Numbered) (periods : List Span) → lo ≤ℤ at → at ≤ℤ hi
+        → part_at at (parts lo hi tables periods) ≡ option_map (part_of lo hi tables) (in_force at periods) }
+    ensures rating { (lo hi at : ℤ) (tables : List Numbered) (periods : List Span) → lo ≤ℤ at → at ≤ℤ hi
+        → option_map (λ p. p.rating) (part_at at (parts lo hi tables periods)) ≡ option_map (λ p. p.rating) (in_force at periods) }
+    ensures rows { (lo hi at : ℤ) (tables : List Numbered) (periods : List Span) → lo ≤ℤ at → at ≤ℤ hi
+        → option_map (λ p. p.rows) (part_at at (parts lo hi tables periods)) ≡ option_map (λ p. rows_of p.rating tables) (in_force at periods) }
+    ensures kept { (lo hi : ℤ) (ratings : StationRatings) → AreRatings ratings → lo ≤ℤ hi → AreParts (parts lo hi ratings.tables ratings.periods) }
 {}

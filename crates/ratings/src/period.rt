@@ -83,3 +83,32 @@ pub struct PeriodPart {
     /// The table of the rating.
     pub table: Arc<Table>,
 }
+
+impl Model for PeriodPart {
+    ghost use Rattle.std.specs.Arc.{arc_value};
+    ghost use Rattle.ratings.specs.Parts.{Part};
+
+    ghost Value = { Part };
+
+    ghost view = { λ p. record { from = p.from; until = p.until; rating = p.rating; rows = arc_value p.table } };
+}
+
+impl Keyed for PeriodPart {
+    type Key = Second;
+
+    ghost place = { λ p. p.from };
+
+    ghost number = { λ s. s };
+
+    fn key(&self) -> Second {
+        self.from
+    }
+
+    fn is_before(&self, key: Second) -> bool {
+        self.from < key
+    }
+
+    fn is_at(&self, key: Second) -> bool {
+        self.from == key
+    }
+}

@@ -1,9 +1,10 @@
 //! The periods of a station, of which at most one is in force at an instant.
 
-ghost use Rattle.std.specs.Prelude.{◌≡◌, ◌≢◌, ◌+◌, ◌<◌, ◌≤◌, [], length, None, All, OnOk, OnErr, IsOk, IsSome, ◌↔◌};
+ghost use Rattle.std.specs.Prelude.{◌≡◌, ◌≢◌, ◌+◌, ◌<◌, ◌≤◌, [], length, filter, drop, not, None, All, OnOk, OnErr, IsOk, IsSome, ◌↔◌};
 ghost use Rattle.rising.specs.Lists as lists;
 ghost use Rattle.ratings.specs.Periods as periods;
 ghost use Rattle.ratings.specs.Periods.{AreApart, begin, overlap, in_force, stands_in_the_way};
+ghost use Rattle.ratings.specs.Parts.{meets};
 
 use crate::period::Period;
 use fixed_units::{NoMemory, Second};
@@ -114,6 +115,32 @@ impl Periods {
             None
         }
     }
+
+    /// The periods that are in force at some instant from `lo` to `hi`, in order.
+    pub fn meeting(&self, lo: Second, hi: Second) -> &[Period]
+        ensures { result.now ≡ filter (meets lo hi) self.now.list }
+    {
+        let list = self.list.as_slice();
+        let (begun, _later) = list.split_at(count_to(list, hi));
+        let (_ended, met) = begun.split_at(count_ended(begun, lo));
+        met
+    }
+}
+
+/// How many periods have ended at an instant: those in front.
+fn count_ended(list: &[Period], at: Second) -> usize
+    requires { AreApart list.now }
+    ensures within { result ≤ length list.now }
+    ensures back { drop result list.now ≡ filter (λ p. periods.is_before_end at p.until) list.now }
+{
+    list.partition_point(|period| has_ended(period, at))
+}
+
+/// Whether a period has ended at an instant.
+fn has_ended(period: &Period, at: Second) -> bool
+    ensures { result ≡ not (periods.is_before_end at period.now.until) }
+{
+    !is_before_end(at, period.until)
 }
 
 /// Whether a kept period has another start than one, and shares an instant with it.

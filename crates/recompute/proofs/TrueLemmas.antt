@@ -17,7 +17,7 @@ use Rattle.fixed_units.specs.Calendar.{calendar}
 use Rattle.fixed_units.specs.Quantities.{SiteNumber, IsDay, site_place, same_site}
 use Rattle.fixed_units.proofs.CalendarLemmas.{calendar_any}
 use Rattle.office_inputs.specs.Changes.{keeps_day, changed_days}
-use Rattle.office_inputs.specs.Series.{entry_of}
+use Rattle.curves.specs.Entries.{entry_of}
 use Rattle.office_inputs.specs.Stations.{StationRecord, place_of, station_of, with_changed, new_station, described, with_readings, with_entry, without_entry, after_what, stations_after, day_of_station, inputs_of_day}
 use Rattle.office_inputs.specs.declared.series.StationSeries.TheVariants.{Correction, Shift}
 use Rattle.rising.specs.Lists.{at}

@@ -6,6 +6,7 @@ use crate::rows::fixtures::{micro, same, second};
 use curves::EntryList;
 use day_inputs::{DayInputs, DayParts, are_same, window_is};
 use fixed_units::RoundingArray;
+use ratings::PartList;
 use readings::{Flag, Reading, ReadingList, Window};
 use std::alloc::Global;
 use std::marker::Brand;
@@ -62,6 +63,7 @@ fn inputs(
         second: EntryList::from_vec(Vec::new(alloc)),
         third: EntryList::from_vec(Vec::new(alloc)),
         shifts: EntryList::from_vec(Vec::new(alloc)),
+        periods: PartList::from_vec(Vec::new(alloc)),
     })
 }
 

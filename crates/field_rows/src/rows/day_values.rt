@@ -1,17 +1,19 @@
 //! Days worked by hand.
 ghost use Rattle.std.specs.Prelude.{◌≡◌, ◌<◌, ◌≤◌, ◌-ℤ◌, pos, true, All, IsTrue};
 ghost use Rattle.curves.specs.Entries.{IsSeries};
-ghost use Rattle.fixed_units.specs.Quantities.{IsStage};
+ghost use Rattle.fixed_units.specs.Quantities.{IsStage, IsStamp};
+ghost use Rattle.ratings.specs.Parts.{AreParts};
 ghost use Rattle.readings.specs.Readings.{IsRising};
 ghost use Rattle.day_inputs.specs.DayInputs.{AreInputs};
 
 use crate::rows::fixtures::{micro, same};
-use crate::rows::units_rows::is_series;
+use crate::rows::units_rows::{are_parts, is_series};
 use curves::{CorrectionSets, Curve, Entry, EntryList, Shifts};
 use daily_values::{
     DayInputs, DayParts, DayValue, Figures, ReadingList, Sum, compute, from_scratch,
 };
-use fixed_units::{Flag, NoMemory, Published, Reading, RoundingArray, Second, is_stage};
+use fixed_units::{Flag, NoMemory, Published, Reading, RoundingArray, Second, is_stage, is_stamp};
+use ratings::{PartList, Ratings};
 use std::alloc::Global;
 use std::marker::Brand;
 use std::process::Abort;
@@ -40,7 +42,14 @@ fn are_stages(readings: &[Reading]) -> bool
     readings.iter().all(|r| is_stage(r.raw.get()))
 }
 
-fn are_inputs(inputs: &DayInputs) -> bool
+fn are_stamps(readings: &[Reading]) -> bool
+    ensures { IsTrue result → All (λ r. IsStamp r.at) readings.now }
+{
+    readings.iter().all(|r| is_stamp(r.at.get()))
+}
+
+/// Whether a day's inputs keep to what they must.
+pub fn are_inputs(inputs: &DayInputs) -> bool
     ensures { IsTrue result → AreInputs inputs.now }
 {
     let DayInputs::Day(parts) = inputs else {
@@ -54,22 +63,25 @@ fn are_inputs(inputs: &DayInputs) -> bool
     if !are_rising(window) || !are_stages(window) {
         return false;
     }
-    are_series(parts)
+    are_rules(parts)
 }
 
-fn are_series(parts: &DayParts) -> bool
+fn are_rules(parts: &DayParts) -> bool
     ensures first { IsTrue result → IsSeries parts.now.first }
     ensures second { IsTrue result → IsSeries parts.now.second }
     ensures third { IsTrue result → IsSeries parts.now.third }
     ensures shifts { IsTrue result → IsSeries parts.now.shifts }
+    ensures periods { IsTrue result → AreParts parts.now.periods }
 {
     is_series(parts.first.as_slice())
         && is_series(parts.second.as_slice())
         && is_series(parts.third.as_slice())
         && is_series(parts.shifts.as_slice())
+        && are_parts(parts.periods.as_slice())
 }
 
-fn value_of(inputs: &DayInputs) -> DayValue
+/// The value that the inputs of a day have.
+pub fn value_of(inputs: &DayInputs) -> DayValue
     requires { AreInputs inputs.now }
 {
     counted::<Brand>(inputs, Blank::new(1))
@@ -85,7 +97,8 @@ fn counted<L: Ledger>(inputs: &DayInputs, blank: Blank) -> DayValue
     compute(inputs, &mut steps)
 }
 
-fn second(rt: &impl Abort, after_start: i32) -> Second {
+/// So many seconds after the start of the day of the examples.
+pub fn second(rt: &impl Abort, after_start: i32) -> Second {
     Second::new(START + i64::from(after_start)).expect(rt, "an instant")
 }
 
@@ -124,6 +137,7 @@ fn figures_of(
         second: EntryList::from_vec(second_set),
         third: EntryList::from_vec(Vec::new(alloc)),
         shifts: EntryList::from_vec(Vec::new(alloc)),
+        periods: PartList::from_vec(Vec::new(alloc)),
     });
     assert!(rt; are_inputs(&inputs));
     let DayValue::Day(figures) = value_of(&inputs) else {
@@ -271,6 +285,7 @@ fn a_mean_is_published_by_the_array_of_its_day(rt: HostRuntime) {
 // The value of the example day from all readings of a station.
 fn from_all(rt: &impl Abort, alloc: Global, gap: u32, readings: &[Reading]) -> DayValue {
     assert!(rt; (1..=720).contains(&gap) && are_rising(readings) && are_stages(readings));
+    assert!(rt; are_stamps(readings));
     let from = second(rt, 0);
     let until = second(rt, 86_400);
     let length = until.get() - from.get();
@@ -290,10 +305,12 @@ fn without_entries(
     requires gap_high { gap ≤ 720 }
     requires length { until -ℤ from ≡ pos 86_400 }
     requires rising { IsRising readings.now }
+    requires stamps { All (λ r. IsStamp r.at) readings.now }
     requires stages { All (λ r. IsStage r.raw) readings.now }
 {
     let corrections = CorrectionSets::new(alloc);
     let shifts = Shifts::new(alloc);
+    let ratings = Ratings::new(alloc);
     from_scratch::day_value(
         alloc,
         gap,
@@ -303,6 +320,7 @@ fn without_entries(
         until,
         &corrections,
         &shifts,
+        &ratings,
         readings,
     )
 }

@@ -1,11 +1,14 @@
 //! Unit values worked by hand.
-ghost use Rattle.std.specs.Prelude.{All, IsTrue};
+ghost use Rattle.std.specs.Prelude.{All, IsTrue, ◌<ℤ◌};
 ghost use Rattle.curves.specs.Entries.{AreAmounts, IsSeries};
-ghost use Rattle.fixed_units.specs.Quantities.{IsAmount};
+ghost use Rattle.fixed_units.specs.Quantities.{IsAmount, IsDischarge};
+ghost use Rattle.ratings.specs.Parts.{AreParts};
+ghost use Rattle.ratings.specs.Table.{IsTable};
 
 use crate::rows::fixtures::{micro, same, second};
 use curves::{Curve, Entry, Series};
-use fixed_units::{Flag, Reading, is_amount, is_stage};
+use fixed_units::{Flag, Micro, Reading, is_amount, is_discharge, is_stage};
+use ratings::{PartList, PeriodPart};
 use std::alloc::Global;
 use std::process::Abort;
 use unit_discharge::{Missing, Unit, unit};
@@ -31,6 +34,27 @@ pub fn is_series(entries: &[Entry]) -> bool
     ensures { IsTrue result → IsSeries entries.now }
 {
     entries.len() < 2 && are_amounts(entries)
+}
+
+fn are_discharges(rows: &[(Micro, Micro)]) -> bool
+    ensures { IsTrue result → All (λ row. IsDischarge row.1) rows.now }
+{
+    rows.iter().all(|row| is_discharge(row.1.get()))
+}
+
+fn is_part(part: &PeriodPart) -> bool
+    ensures table { IsTrue result → IsTable part.now.rows }
+    ensures discharges { IsTrue result → All (λ row. IsDischarge row.1) part.now.rows }
+    ensures ordered { IsTrue result → part.now.from <ℤ part.now.until }
+{
+    are_discharges(part.table.rows()) && part.from < part.until
+}
+
+/// Whether at most one part stands there, with a table of discharges.
+pub fn are_parts(parts: &[PeriodPart]) -> bool
+    ensures { IsTrue result → AreParts parts.now }
+{
+    parts.len() < 2 && parts.iter().all(|part| is_part(part))
 }
 
 // A series of one entry from an instant on, whose curve goes through two points of a stage and an amount.
@@ -62,11 +86,14 @@ fn unit_at(rt: &impl Abort, alloc: Global, at: i64, raw: i64, flag: Flag) -> Uni
         flag,
     };
     assert!(rt; is_stage(reading.raw.get()));
+    let periods = PartList::from_vec(Vec::new(alloc));
+    assert!(rt; are_parts(periods.as_slice()));
     unit(
         first.entries(),
         second_set.entries(),
         third.entries(),
         shifts.entries(),
+        periods.as_slice(),
         reading,
     )
 }
@@ -87,14 +114,18 @@ const UNITS: [(i64, i64, i64, i64, i64); 5] = [
 #[test]
 fn units_worked_by_hand(rt: HostRuntime) {
     for (at, raw, correction, stage, shift) in UNITS {
-        for flag in [Flag::Usable, Flag::Affected, Flag::Erroneous] {
+        for (flag, missing) in [
+            (Flag::Usable, Missing::NoRating),
+            (Flag::Affected, Missing::Affected),
+            (Flag::Erroneous, Missing::NoRating),
+        ] {
             let want = Unit {
                 at: second(&rt, at),
                 raw: micro(&rt, raw),
                 correction: micro(&rt, correction),
                 stage: micro(&rt, stage),
                 shift: micro(&rt, shift),
-                discharge: Err(Missing::NoRating),
+                discharge: Err(missing),
             };
             same(&rt, at, &unit_at(&rt, rt.alloc(), at, raw, flag), &want);
         }

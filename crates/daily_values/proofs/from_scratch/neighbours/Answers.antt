@@ -1,6 +1,6 @@
 use Rattle.std.proofs.Common.{sym, ◌∙◌, ap, ◌++◌}
 use Rattle.std.proofs.lemmas.List.{append-nil}
-use Rattle.daily_values.proofs.AreaLemmas.{no-pairs}
+use Rattle.daily_values.proofs.SumLemmas.{no-pairs}
 use Rattle.daily_values.proofs.from_scratch.neighbours.Goals as goal
 
 pub returns : goal.returns

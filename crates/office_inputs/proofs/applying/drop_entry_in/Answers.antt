@@ -1,5 +1,5 @@
 -- The station is written over, with one of its series changed.
-use Rattle.std.specs.Prelude.{length, ◌<◌}
+use Rattle.std.specs.Prelude.{length}
 use Rattle.std.proofs.Common.{arith, ap, refl, sym, ◌∙◌}
 use Rattle.fixed_units.specs.Quantities.{site_place}
 use Rattle.office_inputs.specs.Stations.{StationRecord, without_entry}

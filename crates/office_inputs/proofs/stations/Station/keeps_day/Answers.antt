@@ -3,7 +3,7 @@ use Rattle.std.specs.Prelude.{[], ◌∷◌}
 use Rattle.std.proofs.Common.{ap, sym, refl, ◌∙◌}
 use Rattle.edits.specs.declared.content.What.{What}
 use Rattle.edits.specs.declared.content.What.TheVariants.{PutReadings}
-use Rattle.office_inputs.specs.Series.{entry_of}
+use Rattle.curves.specs.Entries.{entry_of}
 use Rattle.office_inputs.specs.Stations.{after_what, described, with_readings, with_entry, without_entry}
 use Rattle.office_inputs.specs.declared.series.StationSeries.TheVariants.{Correction, Shift}
 use Rattle.office_inputs.proofs.KeepLemmas.{change_told}
@@ -25,7 +25,7 @@ pub returns-in-PutCorrection : goal.returns-in-PutCorrection
 returns-in-PutCorrection c stations e =
     change_told stations c.args.edit.now.site c.args.edit.now.what c.args.day c.args.self.now.station
     (with_entry (Correction c.in-PutCorrection.set) (entry_of c.in-PutCorrection.at c.in-PutCorrection.curve c.in-PutCorrection.prorate)) c.keeps_day_with_entry.result
-    (ap (λ (what : What). after_what c.args.edit.now.site what stations) c.in-PutCorrection.is) refl e c.keeps_day_with_entry.ensures
+    (ap (λ (what : What). after_what c.args.edit.now.site what stations) c.in-PutCorrection.is) refl e (rw c.new-entry.ensures at c.keeps_day_with_entry.ensures)
 
 pub returns-in-DropCorrection : goal.returns-in-DropCorrection
 returns-in-DropCorrection c stations e =
@@ -37,7 +37,7 @@ pub returns-in-PutShift : goal.returns-in-PutShift
 returns-in-PutShift c stations e =
     change_told stations c.args.edit.now.site c.args.edit.now.what c.args.day c.args.self.now.station
     (with_entry Shift (entry_of c.in-PutShift.at c.in-PutShift.curve c.in-PutShift.prorate)) c.keeps_day_with_entry-in-PutShift.result
-    (ap (λ (what : What). after_what c.args.edit.now.site what stations) c.in-PutShift.is) refl e c.keeps_day_with_entry-in-PutShift.ensures
+    (ap (λ (what : What). after_what c.args.edit.now.site what stations) c.in-PutShift.is) refl e (rw c.new-entry-in-PutShift.ensures at c.keeps_day_with_entry-in-PutShift.ensures)
 
 pub returns-in-DropShift : goal.returns-in-DropShift
 returns-in-DropShift c stations e =

@@ -1,0 +1,227 @@
+//! Discharges of days worked by hand: the means, the seconds that they cover, and the readings without a discharge.
+
+use crate::rows::day_values::{are_inputs, second, value_of};
+use crate::rows::fixtures::{micro, part, same};
+use curves::{Curve, Entry, EntryList};
+use daily_values::{Counts, DayInputs, DayParts, DayValue, Figures, ReadingList};
+use fixed_units::{Flag, Reading, RoundingArray};
+use ratings::PartList;
+use std::alloc::Global;
+use std::process::Abort;
+
+// 10 to 30 cubic feet per second from 1 to 2 feet.
+const LINE: [(i64, i64); 2] = [(1_000_000, 10_000_000), (2_000_000, 30_000_000)];
+
+// The same, and from there steeper up to 100 at 3 feet.
+const BENT: [(i64, i64); 3] = [
+    (1_000_000, 10_000_000),
+    (2_000_000, 30_000_000),
+    (3_000_000, 100_000_000),
+];
+
+// Half a day and a day, in seconds.
+const NOON: i32 = 43_200;
+
+const DAY: i32 = 86_400;
+
+// The figures of a day of so many seconds by a rating that is in force from a day before it until an instant, and by a shift.
+fn figures_of(
+    rt: &impl Abort,
+    alloc: Global,
+    length: i32,
+    rating: &[(i64, i64)],
+    until: i32,
+    shift: i64,
+    listed: &[(i32, i64, Flag)],
+) -> Figures {
+    let mut window = Vec::new(alloc);
+    for (after_start, raw, flag) in listed {
+        let reading = Reading {
+            at: second(rt, *after_start),
+            raw: micro(rt, *raw),
+            flag: *flag,
+        };
+        window.push(reading).expect(rt, "memory for a reading");
+    }
+    let mut shifts = Vec::new(alloc);
+    let entry = Entry {
+        at: second(rt, -90_000),
+        curve: Curve::new(&[(micro(rt, 0), micro(rt, shift))]).expect(rt, "a curve"),
+        prorate: false,
+    };
+    shifts.push(entry).expect(rt, "memory for an entry");
+    let mut periods = Vec::new(alloc);
+    let rated = part(rt, alloc, second(rt, -90_000), second(rt, until), rating);
+    periods.push(rated).expect(rt, "memory for a part");
+    let inputs = DayInputs::Day(DayParts {
+        gap: 720,
+        stage_array: RoundingArray::STAGES,
+        discharge_array: RoundingArray::read(b"0222233332").expect(rt, "a rounding array"),
+        from: second(rt, 0),
+        until: second(rt, length),
+        window: ReadingList::from_vec(window),
+        first: EntryList::from_vec(Vec::new(alloc)),
+        second: EntryList::from_vec(Vec::new(alloc)),
+        third: EntryList::from_vec(Vec::new(alloc)),
+        shifts: EntryList::from_vec(shifts),
+        periods: PartList::from_vec(periods),
+    });
+    assert!(rt; are_inputs(&inputs));
+    let DayValue::Day(figures) = value_of(&inputs) else {
+        panic!(rt; "a day with a window has figures");
+    };
+    figures
+}
+
+// For the stage and for the discharge the seconds that are covered and the units of the published mean.
+fn expect_means(
+    rt: &impl Abort,
+    row: &str,
+    figures: &Figures,
+    stage: (u32, Option<i64>),
+    discharge: (u32, Option<i64>),
+) {
+    let text = figures.stage_text().map(|published| published.units);
+    same(rt, row, &(figures.stage().covered, text), &stage);
+    let text = figures.discharge_text().map(|published| published.units);
+    same(rt, row, &(figures.discharge().covered, text), &discharge);
+}
+
+fn usable(listed: [(i32, i64); 3]) -> [(i32, i64, Flag); 3] {
+    listed.map(|(after_start, raw)| (after_start, raw, Flag::Usable))
+}
+
+#[test]
+fn means_worked_by_hand(rt: HostRuntime) {
+    let alloc = rt.alloc();
+    let up_and_down = usable([(0, 1_000_000), (NOON, 2_000_000), (DAY, 1_000_000)]);
+    let figures = figures_of(&rt, alloc, DAY, &LINE, DAY + 1, 0, &up_and_down);
+    expect_means(
+        &rt,
+        "whole",
+        &figures,
+        (86_400, Some(150)),
+        (86_400, Some(20)),
+    );
+    // the second half is not covered
+    let figures = figures_of(&rt, alloc, DAY, &LINE, DAY + 1, 0, &up_and_down[..2]);
+    expect_means(&rt, "half", &figures, (43_200, None), (43_200, None));
+    // a day of 23 hours: twice its hours is 46, its stages give 88, its discharges 1,300
+    let short = [
+        (0, 1_000_000, Flag::Usable),
+        (14_400, 2_000_000, Flag::Usable),
+        (39_600, 2_000_000, Flag::Usable),
+        (82_800, 2_000_000, Flag::Usable),
+    ];
+    let figures = figures_of(&rt, alloc, 82_800, &LINE, DAY + 1, 0, &short);
+    expect_means(
+        &rt,
+        "short",
+        &figures,
+        (82_800, Some(191)),
+        (82_800, Some(28)),
+    );
+    // the mean of the discharges is not the discharge of the mean stage, which is 30
+    let high = usable([(0, 1_000_000), (NOON, 3_000_000), (DAY, 1_000_000)]);
+    let figures = figures_of(&rt, alloc, DAY, &BENT, DAY + 1, 0, &high);
+    expect_means(
+        &rt,
+        "bent",
+        &figures,
+        (86_400, Some(200)),
+        (86_400, Some(55)),
+    );
+    // at the end of the table with the shift, and over it
+    let shifted = usable([(0, 1_950_000), (NOON, 1_950_000), (DAY, 1_950_000)]);
+    let figures = figures_of(&rt, alloc, DAY, &LINE, DAY + 1, 50_000, &shifted);
+    expect_means(
+        &rt,
+        "end",
+        &figures,
+        (86_400, Some(195)),
+        (86_400, Some(30)),
+    );
+    let over = usable([(0, 1_950_000), (NOON, 1_950_001), (DAY, 1_950_000)]);
+    let figures = figures_of(&rt, alloc, DAY, &LINE, DAY + 1, 50_000, &over);
+    expect_means(&rt, "over", &figures, (86_400, Some(195)), (0, None));
+}
+
+// The seconds that the discharges of a day cover, and the counts of its readings.
+fn expect_counts(
+    rt: &impl Abort,
+    alloc: Global,
+    until: i32,
+    listed: &[(i32, i64, Flag)],
+    covered: u32,
+    want: Counts,
+) {
+    let figures = figures_of(rt, alloc, DAY, &LINE, until, 0, listed);
+    same(rt, "covered", &figures.discharge().covered, &covered);
+    same(rt, "counts", &figures.counts(), &want);
+}
+
+const NONE: Counts = Counts {
+    readings: 0,
+    affected: 0,
+    no_rating: 0,
+    below: 0,
+    above: 0,
+};
+
+#[test]
+fn counts_worked_by_hand(rt: HostRuntime) {
+    let alloc = rt.alloc();
+    // a reading above the table in the middle: its pairs cover stages alone
+    let above = [
+        (0, 1_000_000, Flag::Usable),
+        (21_600, 1_000_000, Flag::Usable),
+        (NOON, 2_500_000, Flag::Usable),
+        (DAY, 1_000_000, Flag::Usable),
+    ];
+    let want = Counts {
+        readings: 3,
+        above: 1,
+        ..NONE
+    };
+    expect_counts(&rt, alloc, DAY + 1, &above, 21_600, want);
+    // neighbours outside the day are not counted
+    let outside = usable([(-3_600, 500_000), (3_600, 1_000_000), (DAY, 500_000)]);
+    expect_counts(
+        &rt,
+        alloc,
+        DAY + 1,
+        &outside,
+        0,
+        Counts {
+            readings: 1,
+            ..NONE
+        },
+    );
+    // the rating ends at noon
+    let ended = usable([(0, 1_000_000), (NOON, 1_000_000), (DAY, 1_000_000)]);
+    let want = Counts {
+        readings: 2,
+        no_rating: 1,
+        ..NONE
+    };
+    expect_counts(&rt, alloc, NOON, &ended, 0, want);
+    let below = usable([(0, 999_999), (NOON, 1_000_000), (DAY, 1_000_000)]);
+    let want = Counts {
+        readings: 2,
+        below: 1,
+        ..NONE
+    };
+    expect_counts(&rt, alloc, DAY + 1, &below, 43_200, want);
+    // an affected reading is used for the stage alone, whatever is in force
+    let affected = [
+        (0, 1_000_000, Flag::Usable),
+        (NOON, 5_000_000, Flag::Affected),
+        (DAY, 1_000_000, Flag::Usable),
+    ];
+    let want = Counts {
+        readings: 2,
+        affected: 1,
+        ..NONE
+    };
+    expect_counts(&rt, alloc, DAY + 1, &affected, 0, want);
+}

@@ -2,6 +2,8 @@
 #![tactic(auto)]
 
 #[cfg(test)]
+mod cabinets;
+#[cfg(test)]
 mod disks;
 #[cfg(test)]
 mod fixtures;

@@ -2,7 +2,7 @@
 //! 2024-01-05, from 05:00:00Z on, where they name no other.
 
 use crate::fixtures::{ADDITION, FIRST, POTOMAC, SECOND, Sent};
-use crate::kept_rows::{Kept, first_kept_otherwise};
+use crate::kept_rows::{Kept, keep_all};
 
 const DAY: &str = "2024-01-05";
 
@@ -19,7 +19,7 @@ const HELD: &Sent = &Sent::Correction(2, (EARLY, 100_000, false));
 
 const PRORATED: &Sent = &Sent::Correction(2, (EARLY, 100_000, true));
 
-const PUTS: [Kept; 12] = [
+static PUTS: [Kept; 12] = [
     ("an entry long before", &[ADDITION, FIRST], HELD, DAY, false),
     (
         "a day without a reading",
@@ -94,7 +94,7 @@ const PUTS: [Kept; 12] = [
     ),
 ];
 
-const DROPS: [Kept; 6] = [
+static DROPS: [Kept; 6] = [
     (
         "the entry that governs the day",
         &[ADDITION, FIRST, HELD],
@@ -155,13 +155,15 @@ const DROPS: [Kept; 6] = [
 ];
 
 #[test]
-fn a_put_keeps_the_days_on_which_the_entry_does_not_bear(rt: HostRuntime) {
-    let otherwise = first_kept_otherwise(rt.alloc(), &PUTS);
-    assert!(rt; otherwise.is_none(), "{otherwise:?}");
+fn a_put_keeps_the_days_on_which_the_entry_does_not_bear(
+    rt: HostRuntime,
+) -> Result<(), &'static str> {
+    keep_all(rt.alloc(), &PUTS)
 }
 
 #[test]
-fn a_drop_keeps_the_days_on_which_the_entry_did_not_bear(rt: HostRuntime) {
-    let otherwise = first_kept_otherwise(rt.alloc(), &DROPS);
-    assert!(rt; otherwise.is_none(), "{otherwise:?}");
+fn a_drop_keeps_the_days_on_which_the_entry_did_not_bear(
+    rt: HostRuntime,
+) -> Result<(), &'static str> {
+    keep_all(rt.alloc(), &DROPS)
 }

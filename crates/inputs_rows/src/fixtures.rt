@@ -1,7 +1,7 @@
 //! Edits of stations as plain values, what is said to them, and the days that they change. The calls say little, so that a row
-//! is proved soon.
+//! is proved soon. Inputs and edits are boxed: each is dropped by one call.
 
-ghost use Rattle.std.specs.Prelude.{◌≡◌, ◌<◌, true, None};
+ghost use Rattle.std.specs.Prelude.{◌≡◌, ◌<◌, true, None, [], IfSome};
 ghost use Rattle.office_inputs.specs.Kept.{in_force};
 ghost use Rattle.office_inputs.specs.Refusals.{refusal_of};
 ghost use Rattle.office_inputs.specs.Stations.{stations_after};
@@ -150,26 +150,36 @@ fn no_shift(at: &str) -> Option<What> {
     Some(What::DropShift { at })
 }
 
-/// The number of a site, and what is changed there.
-fn change(alloc: Global, sent: &Sent) -> Option<(u64, What)> {
+/// The number of the site at which a row stands.
+fn site_of(sent: &Sent) -> u64 {
     match *sent {
-        Sent::Addition(number) => Some((number, addition(alloc)?)),
-        Sent::Setting(gap) => Some((POTOMAC, setting(alloc, gap)?)),
-        Sent::Put(number, stage) => Some((number, put(alloc, stage)?)),
-        Sent::Correction(set, entry) => Some((POTOMAC, correction(set, entry)?)),
-        Sent::NoCorrection(set, at) => Some((POTOMAC, no_correction(set, at)?)),
-        Sent::Shift(entry) => Some((POTOMAC, shift(entry)?)),
-        Sent::NoShift(at) => Some((POTOMAC, no_shift(at)?)),
-        Sent::ShiftAt(second) => Some((POTOMAC, shift_at(second)?)),
+        Sent::Addition(number) => number,
+        Sent::Put(number, _) => number,
+        _ => POTOMAC,
+    }
+}
+
+/// What is changed there.
+fn change(alloc: Global, sent: &Sent) -> Option<What> {
+    match *sent {
+        Sent::Addition(_) => addition(alloc),
+        Sent::Setting(gap) => setting(alloc, gap),
+        Sent::Put(_, stage) => put(alloc, stage),
+        Sent::Correction(set, entry) => correction(set, entry),
+        Sent::NoCorrection(set, at) => no_correction(set, at),
+        Sent::Shift(entry) => shift(entry),
+        Sent::NoShift(at) => no_shift(at),
+        Sent::ShiftAt(second) => shift_at(second),
     }
 }
 
 /// The edit by `AB` that is sent.
-pub fn edit(alloc: Global, sent: &Sent) -> Option<Edit> {
+pub fn edit(alloc: Global, sent: &Sent) -> Option<Box<Edit>> {
     let by = By::new(b"AB")?;
     let reference = Ref::new(b"r-1")?;
-    let (number, what) = change(alloc, sent)?;
-    Edit::new(alloc, by, reference, Site::new(8, number)?, what).ok()
+    let site = Site::new(8, site_of(sent))?;
+    let edit = Edit::new(alloc, by, reference, site, change(alloc, sent)?).ok()?;
+    Box::new(alloc, edit).ok()
 }
 
 /// Accepts an edit that is not refused, where there is memory for it.
@@ -183,25 +193,41 @@ pub fn accept(inputs: &mut Inputs, edit: &Edit) -> bool
     true
 }
 
-/// Sends an edit, which is accepted where nothing refuses it. Where there is no memory, that is the refusal.
-pub fn send(alloc: Global, inputs: &mut Inputs, sent: &Sent) -> Option<Refusal> {
-    let Some(edit) = edit(alloc, sent) else {
-        return Some(Refusal::NoMemory);
-    };
-    let refusal = inputs.refusal(&edit);
-    if refusal.is_none() && !accept(inputs, &edit) {
+/// What is said to an edit, which is accepted where nothing refuses it. Where there is no memory, that is the refusal.
+fn say(inputs: &mut Inputs, edit: &Edit) -> Option<Refusal> {
+    let refusal = inputs.refusal(edit);
+    if refusal.is_none() && !accept(inputs, edit) {
         return Some(Refusal::NoMemory);
     }
     refusal
 }
 
-/// What is in force after these are sent, one after another, to an office without a station.
-pub fn inputs_after(alloc: Global, before: &[&Sent]) -> Inputs {
-    let mut inputs = Inputs::new(alloc, Limits::usual());
-    for sent in before {
-        let _refusal = send(alloc, &mut inputs, sent);
+/// Sends an edit.
+pub fn send(alloc: Global, inputs: &mut Inputs, sent: &Sent) -> Option<Refusal> {
+    match edit(alloc, sent) {
+        Some(edit) => say(inputs, &edit),
+        None => Some(Refusal::NoMemory),
     }
-    inputs
+}
+
+/// What is in force in an office without a station.
+pub fn no_inputs(alloc: Global, limits: Limits) -> Option<Box<Inputs>>
+    ensures { IfSome result (λ inputs. in_force inputs.value ≡ []) }
+{
+    Box::new(alloc, Inputs::new(alloc, limits)).ok()
+}
+
+fn send_each(alloc: Global, inputs: &mut Inputs, edits: &[&Sent]) {
+    for sent in edits {
+        let _refusal = send(alloc, inputs, sent);
+    }
+}
+
+/// What is in force after these are sent, one after another, to an office without a station.
+pub fn inputs_after(alloc: Global, before: &[&Sent]) -> Option<Box<Inputs>> {
+    let mut inputs = no_inputs(alloc, Limits::usual())?;
+    send_each(alloc, &mut inputs, before);
+    Some(inputs)
 }
 
 /// The days that an edit changes.

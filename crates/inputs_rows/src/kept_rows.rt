@@ -10,28 +10,33 @@ use fixed_units::{Day, Site};
 use office_inputs::Inputs;
 use std::alloc::Global;
 
-/// Whether a station is kept once room is made for it, and once it is added; `None` where memory is short.
-fn is_kept_by_steps(inputs: &mut Inputs, edit: &Edit) -> Option<[bool; 2]> {
-    inputs.prepare(edit).ok()?;
-    let is_kept = inputs.station(edit.site).is_some();
-    accept(inputs, edit);
-    Some([is_kept, inputs.station(edit.site).is_some()])
+fn has_station(inputs: &Inputs, site: Site) -> bool {
+    inputs.station(site).is_some()
 }
 
-fn is_added_by_steps(alloc: Global) -> Option<[bool; 2]> {
+/// Whether a station is kept once it is added, and not once room is made for it.
+fn is_kept_by_steps(inputs: &mut Inputs, edit: &Edit) -> bool {
+    if inputs.prepare(edit).is_err() || has_station(inputs, edit.site) {
+        return false;
+    }
+    accept(inputs, edit) && has_station(inputs, edit.site)
+}
+
+fn is_added_by_steps(alloc: Global) -> Option<bool> {
     let edit = edit(alloc, ADDITION)?;
-    is_kept_by_steps(&mut inputs_after(alloc, &[]), &edit)
+    let mut inputs = inputs_after(alloc, &[])?;
+    Some(is_kept_by_steps(&mut inputs, &edit))
 }
 
 #[test]
 fn room_alone_adds_no_station(rt: HostRuntime) {
-    assert!(rt; is_added_by_steps(rt.alloc()) == Some([false, true]));
+    assert!(rt; is_added_by_steps(rt.alloc()) == Some(true));
 }
 
 /// What was sent, and the first and the last day of the station that have inputs then.
 type Used = (&'static str, &'static [&'static Sent], Span);
 
-const USED: [Used; 3] = [
+static USED: [Used; 3] = [
     (
         "two readings, the later one first",
         &[ADDITION, LATE, FIRST],
@@ -45,24 +50,21 @@ const USED: [Used; 3] = [
     ),
 ];
 
-fn used(alloc: Global, sent: &[&Sent]) -> Option<(Day, Day)> {
+fn is_used(alloc: Global, sent: &[&Sent], days: Option<(Day, Day)>) -> Option<bool> {
     let site = Site::new(8, POTOMAC)?;
-    inputs_after(alloc, sent).used_span(site)
+    let inputs = inputs_after(alloc, sent)?;
+    Some(inputs.used_span(site) == days)
 }
 
-fn first_used_otherwise(alloc: Global, rows: &[Used]) -> Option<&'static str> {
-    for (row, sent, span) in rows {
-        if used(alloc, sent) != days(*span) {
-            return Some(row);
+/// The row of which other days have inputs.
+#[test]
+fn used_days_go_from_the_first_reading_to_the_last(rt: HostRuntime) -> Result<(), &'static str> {
+    for (row, sent, span) in &USED {
+        if is_used(rt.alloc(), sent, days(*span)) != Some(true) {
+            return Err(row);
         }
     }
-    None
-}
-
-#[test]
-fn used_days_go_from_the_first_reading_to_the_last(rt: HostRuntime) {
-    let otherwise = first_used_otherwise(rt.alloc(), &USED);
-    assert!(rt; otherwise.is_none(), "{otherwise:?}");
+    Ok(())
 }
 
 const SET: [&Sent; 3] = [ADDITION, FIRST, &Sent::Setting(60)];
@@ -74,7 +76,8 @@ fn settings(inputs: &Inputs) -> Option<(u32, bool)> {
 }
 
 fn settings_once_set(alloc: Global) -> Option<(u32, bool)> {
-    settings(&inputs_after(alloc, &SET))
+    let inputs = inputs_after(alloc, &SET)?;
+    settings(&inputs)
 }
 
 #[test]
@@ -91,7 +94,7 @@ pub type Kept = (
     bool,
 );
 
-const KEPT: [Kept; 7] = [
+static KEPT: [Kept; 7] = [
     (
         "a reading, the day before it",
         &[ADDITION, FIRST],
@@ -154,32 +157,38 @@ fn keeps(inputs: &Inputs, edit: &Edit, day: Day) -> Option<bool> {
 /// Whether the inputs of a day are those from before an edit, once it is accepted.
 fn stay(inputs: &mut Inputs, edit: &Edit, day: Day) -> Option<bool> {
     let before = inputs.day_inputs(edit.site, day).ok()?;
-    if !accept(inputs, edit) {
-        return None;
-    }
-    Some(inputs.is_day_inputs(edit.site, day, &before))
+    let accepted = accept(inputs, edit);
+    let same = inputs.is_day_inputs(edit.site, day, &before);
+    if accepted { Some(same) } else { None }
 }
 
-fn both(alloc: Global, before: &[&Sent], sent: &Sent, day: &str) -> Option<[Option<bool>; 2]> {
-    let day = read_day(day.as_bytes())?;
+/// Whether that is told before the edit is accepted, and found after.
+fn keeps_as(inputs: &mut Inputs, edit: &Edit, day: Day, kept: bool) -> bool {
+    keeps(inputs, edit, day) == Some(kept) && stay(inputs, edit, day) == Some(kept)
+}
+
+fn is_kept_as(alloc: Global, before: &[&Sent], sent: &Sent, day: Day, kept: bool) -> Option<bool> {
     let edit = edit(alloc, sent)?;
-    let mut inputs = inputs_after(alloc, before);
-    let keeps = keeps(&inputs, &edit, day);
-    Some([keeps, stay(&mut inputs, &edit, day)])
+    let mut inputs = inputs_after(alloc, before)?;
+    Some(keeps_as(&mut inputs, &edit, day, kept))
+}
+
+fn is_row(alloc: Global, row: &Kept) -> Option<bool> {
+    let day = read_day(row.3.as_bytes())?;
+    is_kept_as(alloc, row.1, row.2, day, row.4)
 }
 
 /// The first of some rows in which the edit keeps the inputs otherwise, as it is told before or found after.
-pub fn first_kept_otherwise(alloc: Global, rows: &[Kept]) -> Option<&'static str> {
-    for (row, before, sent, day, kept) in rows {
-        if both(alloc, before, sent, day) != Some([Some(*kept); 2]) {
-            return Some(row);
+pub fn keep_all(alloc: Global, rows: &[Kept]) -> Result<(), &'static str> {
+    for row in rows {
+        if is_row(alloc, row) != Some(true) {
+            return Err(row.0);
         }
     }
-    None
+    Ok(())
 }
 
 #[test]
-fn an_edit_keeps_the_inputs_of_other_days(rt: HostRuntime) {
-    let otherwise = first_kept_otherwise(rt.alloc(), &KEPT);
-    assert!(rt; otherwise.is_none(), "{otherwise:?}");
+fn an_edit_keeps_the_inputs_of_other_days(rt: HostRuntime) -> Result<(), &'static str> {
+    keep_all(rt.alloc(), &KEPT)
 }

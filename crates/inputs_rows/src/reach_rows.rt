@@ -6,7 +6,7 @@ ghost use Rattle.office_inputs.specs.Stations.{stations_after};
 
 use crate::fixtures::{
     ADDITION, FIRST, LATE, NEXT, POTOMAC, SECOND, Sent, Span, accept, days, edit, inputs_after,
-    reached,
+    no_inputs, reached,
 };
 use civil_days::read_day;
 use depend::from_scratch::changed_days;
@@ -37,7 +37,7 @@ type Change = (
     &'static [&'static str],
 );
 
-const CHANGES: [Change; 12] = [
+static CHANGES: [Change; 12] = [
     ("a station", &[], ADDITION, &[]),
     ("the first reading", &[ADDITION], FIRST, &["2024-01-05"]),
     (
@@ -128,28 +128,25 @@ fn are_changed(alloc: Global, inputs: &Inputs, edit: &Edit, days: &[&str]) -> Op
 
 fn changes(alloc: Global, before: &[&Sent], sent: &Sent, days: &[&str]) -> Option<bool> {
     let edit = edit(alloc, sent)?;
-    are_changed(alloc, &inputs_after(alloc, before), &edit, days)
+    let inputs = inputs_after(alloc, before)?;
+    are_changed(alloc, &inputs, &edit, days)
 }
 
-fn first_changed_otherwise(alloc: Global, rows: &[Change]) -> Option<&'static str> {
-    for (row, before, sent, days) in rows {
-        if changes(alloc, before, sent, days) != Some(true) {
-            return Some(row);
+/// The first row in which other days are changed.
+#[test]
+fn an_edit_changes_the_days_near_it(rt: HostRuntime) -> Result<(), &'static str> {
+    for (row, before, sent, days) in &CHANGES {
+        if changes(rt.alloc(), before, sent, days) != Some(true) {
+            return Err(row);
         }
     }
-    None
-}
-
-#[test]
-fn an_edit_changes_the_days_near_it(rt: HostRuntime) {
-    let otherwise = first_changed_otherwise(rt.alloc(), &CHANGES);
-    assert!(rt; otherwise.is_none(), "{otherwise:?}");
+    Ok(())
 }
 
 /// What was sent, what is sent then, and the first and the last of the days that are compared for it.
 type Compared = (&'static str, &'static [&'static Sent], &'static Sent, Span);
 
-const COMPARED: [Compared; 5] = [
+static COMPARED: [Compared; 5] = [
     ("a station", &[], ADDITION, None),
     (
         "the first reading",
@@ -177,24 +174,26 @@ const COMPARED: [Compared; 5] = [
     ),
 ];
 
-fn compared(alloc: Global, before: &[&Sent], sent: &Sent) -> Option<Option<(Day, Day)>> {
+fn are_compared(
+    alloc: Global,
+    before: &[&Sent],
+    sent: &Sent,
+    days: Option<(Day, Day)>,
+) -> Option<bool> {
     let edit = edit(alloc, sent)?;
-    Some(compared_days(&inputs_after(alloc, before), &edit))
+    let inputs = inputs_after(alloc, before)?;
+    Some(compared_days(&inputs, &edit) == days)
 }
 
-fn first_compared_otherwise(alloc: Global, rows: &[Compared]) -> Option<&'static str> {
-    for (row, before, sent, span) in rows {
-        if compared(alloc, before, sent) != Some(days(*span)) {
-            return Some(row);
+/// The first row in which other days are compared.
+#[test]
+fn days_about_an_edit_are_compared(rt: HostRuntime) -> Result<(), &'static str> {
+    for (row, before, sent, span) in &COMPARED {
+        if are_compared(rt.alloc(), before, sent, days(*span)) != Some(true) {
+            return Err(row);
         }
     }
-    None
-}
-
-#[test]
-fn days_about_an_edit_are_compared(rt: HostRuntime) {
-    let otherwise = first_compared_otherwise(rt.alloc(), &COMPARED);
-    assert!(rt; otherwise.is_none(), "{otherwise:?}");
+    Ok(())
 }
 
 /// Accepts the station before, and the station and the reading after.
@@ -206,11 +205,17 @@ fn accept_each(before: &mut Inputs, after: &mut Inputs, added: &Edit, put: &Edit
 }
 
 /// The days that a reading changes at a station that is added, as every day of the calendar is compared by itself.
-fn changed_by_all(alloc: Global, added: &Edit, put: &Edit) -> Option<DayList> {
-    let mut before = Inputs::new(alloc, Limits::usual());
-    let mut after = Inputs::new(alloc, Limits::usual());
-    if accept_each(&mut before, &mut after, added, put) {
-        changed_days(alloc, &before, &after, put).ok()
+fn changed_by_all(
+    alloc: Global,
+    before: &mut Inputs,
+    after: &mut Inputs,
+    added: &Edit,
+    put: &Edit,
+) -> Option<DayList>
+    requires { in_force before.old ≡ in_force after.old }
+{
+    if accept_each(before, after, added, put) {
+        changed_days(alloc, before, after, put).ok()
     } else {
         None
     }
@@ -218,7 +223,9 @@ fn changed_by_all(alloc: Global, added: &Edit, put: &Edit) -> Option<DayList> {
 
 /// Whether the first reading is found to change its own day alone.
 fn changes_its_own_day(alloc: Global, added: &Edit, put: &Edit) -> Option<bool> {
-    let days = changed_by_all(alloc, added, put)?;
+    let mut before = no_inputs(alloc, Limits::usual())?;
+    let mut after = no_inputs(alloc, Limits::usual())?;
+    let days = changed_by_all(alloc, &mut before, &mut after, added, put)?;
     Some(are_days(days.as_slice(), &["2024-01-05"]))
 }
 

@@ -1,7 +1,9 @@
 //! Which edits the inputs in force refuse, and for which cause: the first that holds. A count that is exactly at its limit is
 //! allowed.
 
-use crate::fixtures::{ADDITION, FIRST, LAST, LATE, NEXT, POTOMAC, SECOND, Sent, Stage, send};
+use crate::fixtures::{
+    ADDITION, FIRST, LAST, LATE, NEXT, POTOMAC, SECOND, Sent, Stage, no_inputs, send,
+};
 use office_inputs::{Inputs, Limits, Refusal, Which};
 use std::alloc::Global;
 
@@ -95,7 +97,7 @@ const DROPS: [Row; 15] = [
 /// The limits of the stations, of all readings and of the readings of a local day, and what is sent under them.
 type History = (&'static str, u32, u64, u32, &'static [Row]);
 
-const HISTORIES: [History; 5] = [
+static HISTORIES: [History; 5] = [
     (
         "stations are asked for before limits",
         1,
@@ -152,25 +154,23 @@ fn count_right(alloc: Global, inputs: &mut Inputs, rows: &[Row]) -> usize {
 }
 
 fn count_right_under(alloc: Global, limits: Limits, rows: &[Row]) -> usize {
-    count_right(alloc, &mut Inputs::new(alloc, limits), rows)
+    match no_inputs(alloc, limits) {
+        Some(mut inputs) => count_right(alloc, &mut inputs, rows),
+        None => 0,
+    }
 }
 
 /// The first history with such an edit, and the number of the edit from 0 on.
-fn first_otherwise(alloc: Global, histories: &[History]) -> Option<(&'static str, usize)> {
-    for (history, stations, readings, day_readings, rows) in histories {
+#[test]
+fn edits_are_refused_for_the_first_cause(rt: HostRuntime) -> Result<(), (&'static str, usize)> {
+    for (history, stations, readings, day_readings, rows) in &HISTORIES {
         let limits = limits(*stations, *readings, *day_readings);
-        let right = count_right_under(alloc, limits, rows);
+        let right = count_right_under(rt.alloc(), limits, rows);
         if right < rows.len() {
-            return Some((history, right));
+            return Err((history, right));
         }
     }
-    None
-}
-
-#[test]
-fn edits_are_refused_for_the_first_cause(rt: HostRuntime) {
-    let otherwise = first_otherwise(rt.alloc(), &HISTORIES);
-    assert!(rt; otherwise.is_none(), "{otherwise:?}");
+    Ok(())
 }
 
 /// An entry more than a series has at most.
@@ -185,21 +185,21 @@ const ONCE_FULL: [Row; 5] = [
     (&Sent::ShiftAt(10_000), None),
 ];
 
-/// A station with that many shifts.
-fn station_with_shifts(alloc: Global, count: i64) -> Inputs {
-    let mut inputs = Inputs::new(alloc, Limits::usual());
-    let _refusal = send(alloc, &mut inputs, ADDITION);
+/// Adds a station with that many shifts.
+fn add_station_with_shifts(alloc: Global, inputs: &mut Inputs, count: i64) {
+    let _refusal = send(alloc, inputs, ADDITION);
     for second in 0..count {
-        let _refusal = send(alloc, &mut inputs, &Sent::ShiftAt(second));
+        let _refusal = send(alloc, inputs, &Sent::ShiftAt(second));
     }
-    inputs
 }
 
-fn count_right_once_full(alloc: Global) -> usize {
-    count_right(alloc, &mut station_with_shifts(alloc, 10_000), &ONCE_FULL)
+fn count_right_once_full(alloc: Global) -> Option<usize> {
+    let mut inputs = no_inputs(alloc, Limits::usual())?;
+    add_station_with_shifts(alloc, &mut inputs, 10_000);
+    Some(count_right(alloc, &mut inputs, &ONCE_FULL))
 }
 
 #[test]
 fn a_full_series_takes_an_entry_in_place_of_another_alone(rt: HostRuntime) {
-    assert!(rt; count_right_once_full(rt.alloc()) == ONCE_FULL.len());
+    assert!(rt; count_right_once_full(rt.alloc()) == Some(ONCE_FULL.len()));
 }

@@ -1,20 +1,17 @@
-//! Records and disks of the rows, and the assertion that the rows make.
+//! Records and disks of the rows, and what is read of a journal. The calls say nothing, so that a row is proved soon.
 
 use devices::MemoryDisk;
-use journal::{AppendFault, Journal, OpenFault, open};
+use journal::{OpenFault, Opening, open};
 use records::{Record, encode};
-use std::alloc::Global;
-use std::fmt::{Debug, Display};
-use std::process::Abort;
+use std::alloc::{AllocError, Global};
 
 /// The text that a journal begins with.
 const HEADER: &[u8] = b"STREAMOFFICE-J1\n";
 
-/// A journal of no records.
-pub const EMPTY: &[u8] = b"STREAMOFFICE-J1\n\0";
-
-/// An open gate.
+/// An open gate, and a closed one.
 pub const GATE: &[u8] = b"\x01";
+
+pub const CLOSED: &[u8] = b"\0";
 
 /// The station 01646500, POTOMAC, is added, with readings up to twelve hours apart.
 pub const ADDITION: &[u8] =
@@ -28,85 +25,84 @@ pub const ADDED: &[u8] =
 pub const PUT: &[u8] =
     b"\x25\0\0\0\x03\x02AB\x02r2\x08\xa4\x1f\x19\0\0\0\0\0\x01\0\0\0\xd0\x8c\x97\x65\0\0\0\0\x40\x42\x0f\0\0\0\0\0\0\0";
 
+/// What stands behind the header, in parts.
+pub type Parts = &'static [&'static [u8]];
+
 /// The header, and these parts behind it.
-pub fn file(rt: &impl Abort, alloc: Global, parts: &[&[u8]]) -> Vec<u8> {
-    let mut bytes = HEADER.to_vec(alloc).expect(rt, "memory for the header");
+pub fn file(alloc: Global, parts: &[&[u8]]) -> Result<Vec<u8>, AllocError> {
+    let mut bytes = HEADER.to_vec(alloc)?;
     for part in parts {
-        bytes
-            .extend_from_slice(part)
-            .expect(rt, "memory for a part");
+        bytes.extend_from_slice(part)?;
     }
-    bytes
+    Ok(bytes)
 }
 
 /// A disk of these bytes, whose calls of these numbers fail.
-pub fn disk(rt: &impl Abort, alloc: Global, bytes: &[u8], failing: &[u64]) -> MemoryDisk {
-    let bytes = bytes.to_vec(alloc).expect(rt, "memory for bytes");
-    let failing = failing.to_vec(alloc).expect(rt, "memory for faults");
-    MemoryDisk::new(alloc, bytes, failing).expect(rt, "memory for a disk")
+pub fn disk(alloc: Global, bytes: &[u8], failing: &[u64]) -> Result<MemoryDisk, AllocError> {
+    let bytes = bytes.to_vec(alloc)?;
+    MemoryDisk::new(alloc, bytes, failing.to_vec(alloc)?)
 }
 
-/// What comes of a row is what stands in it.
-pub fn same<R: Display + Drop, T: PartialEq + Debug>(rt: &impl Abort, row: R, got: &T, want: &T) {
-    assert_eq!(rt; got, want, "{row}");
+/// What comes of a read.
+#[derive(Clone, Copy, Debug, PartialEq, Eq)]
+pub enum Came {
+    /// The record whose bytes stand behind its gate, which is open.
+    Record,
+    /// A record that does not stand there.
+    Other,
+    End,
+    Fault(OpenFault),
+    NoMemory,
 }
 
-/// How many records there are, and why not more. Each is the one whose bytes stand behind its gate.
-pub fn count(rt: &impl Abort, alloc: Global, bytes: &[u8]) -> (u64, Option<OpenFault>) {
-    let mut opening = match open(alloc, disk(rt, alloc, bytes, &[])) {
-        Ok(opening) => opening,
-        Err(refused) => return (0, Some(refused.fault)),
-    };
-    for number in 0..9 {
-        match opening.next(alloc) {
-            Ok(Some(piece)) => expect_behind(rt, alloc, bytes, opening.offset(), &piece),
-            Ok(None) => return (number, None),
-            Err(fault) => return (number, Some(fault)),
-        }
-    }
-    panic!(rt; "a journal ends");
-}
-
-/// The bytes of the record stand behind an open gate at this offset.
-fn expect_behind(rt: &impl Abort, alloc: Global, bytes: &[u8], gate: u64, piece: &Record) {
-    let text = encode(alloc, piece).expect(rt, "memory for a record");
+/// Whether these bytes stand behind an open gate at this offset.
+fn stands(bytes: &[u8], gate: u64, text: &[u8]) -> bool {
     let from_gate = bytes.get(gate as usize..).unwrap_or_default();
     let behind = from_gate.strip_prefix(GATE).unwrap_or_default();
-    assert!(rt; behind.starts_with(text.as_slice()));
+    behind.starts_with(text)
 }
 
-/// The journal on a disk whose records are read to the end, or why there is none.
-fn read_to_end(
-    alloc: Global,
-    made: MemoryDisk,
-    limit: u64,
-) -> Result<Journal<MemoryDisk>, OpenFault> {
-    let mut opening = match open(alloc, made) {
-        Ok(opening) => opening,
-        Err(refused) => return Err(refused.fault),
-    };
-    for _ in 0..9 {
-        match opening.next(alloc) {
-            Ok(Some(_)) => {}
-            Ok(None) => return Ok(opening.finish(limit)),
-            Err(fault) => return Err(fault),
+fn look_behind(alloc: Global, bytes: &[u8], gate: u64, piece: &Record) -> Came {
+    match encode(alloc, piece) {
+        Ok(text) if stands(bytes, gate, text.as_slice()) => Came::Record,
+        Ok(_) => Came::Other,
+        Err(_) => Came::NoMemory,
+    }
+}
+
+/// Reads a journal of these bytes on.
+pub fn read(alloc: Global, opening: &mut Opening<MemoryDisk>, bytes: &[u8]) -> Came {
+    match opening.next(alloc) {
+        Ok(Some(piece)) => look_behind(alloc, bytes, opening.offset(), &piece),
+        Ok(None) => Came::End,
+        Err(fault) => Came::Fault(fault),
+    }
+}
+
+/// How many records there are, and what comes of the read behind them.
+pub type Found = (u64, Came);
+
+fn read_all(alloc: Global, opening: &mut Opening<MemoryDisk>, bytes: &[u8]) -> Found {
+    for number in 0..9 {
+        let found = read(alloc, opening, bytes);
+        if found != Came::Record {
+            return (number, found);
         }
     }
-    Err(OpenFault::NoMemory)
+    (9, Came::Record)
 }
 
-/// The journal of at most so many bytes on a disk.
-pub fn opened(rt: &impl Abort, alloc: Global, made: MemoryDisk, limit: u64) -> Journal<MemoryDisk> {
-    match read_to_end(alloc, made, limit) {
-        Ok(journal) => journal,
-        Err(_) => panic!(rt; "the journal is not opened"),
+fn count_on(alloc: Global, made: MemoryDisk, bytes: &[u8]) -> Found {
+    match open(alloc, made) {
+        Ok(mut opening) => read_all(alloc, &mut opening, bytes),
+        Err(refused) => (0, Came::Fault(refused.fault)),
     }
 }
 
-/// Appends to a journal that is not in doubt.
-pub fn append(journal: &mut Journal<MemoryDisk>, bytes: &[u8]) -> Option<Result<(), AppendFault>> {
-    if journal.in_doubt() {
-        return None;
+/// The records of a journal of these bytes.
+pub fn count(alloc: Global, bytes: &[u8]) -> Found {
+    match disk(alloc, bytes, &[]) {
+        Ok(made) => count_on(alloc, made, bytes),
+        Err(_) => (0, Came::NoMemory),
     }
-    Some(journal.append(bytes))
 }

@@ -4,6 +4,8 @@
 #[cfg(test)]
 mod appending;
 #[cfg(test)]
+mod edits_written;
+#[cfg(test)]
 mod fixtures;
 #[cfg(test)]
 mod making;
@@ -13,3 +15,5 @@ mod mending;
 mod opening;
 #[cfg(test)]
 mod reading;
+#[cfg(test)]
+mod rows;

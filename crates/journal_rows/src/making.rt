@@ -1,48 +1,94 @@
 //! What a journal is made over.
 
-use crate::fixtures::{EMPTY, disk, same};
-use journal::laws::{begun_is_made_anew, empty_journal_has_no_records};
+use crate::fixtures::disk;
+use devices::MemoryDisk;
 use journal::{InitFault, init};
+use std::alloc::Global;
 
-const MAKINGS: [(&[u8], Result<(), InitFault>); 10] = [
-    (b"", Ok(())),
-    (b"S", Ok(())),
-    (b"STREAMOFFICE-J1", Ok(())),
-    (b"STREAMOFFICE-J1\n", Ok(())),
-    (b"STREAMOFFICE-J1\n\x01", Ok(())),
-    (b"STREAMOFFICE-J1\n\x02", Ok(())),
-    (b"17 bytes of a tex", Ok(())),
-    (b"STREAMOFFICE-J1\n\0", Err(InitFault::Exists)),
-    (b"STREAMOFFICE-J1\n\0\0", Err(InitFault::Exists)),
-    (b"18 bytes of a text", Err(InitFault::NotAJournal)),
-];
+/// A journal of no records.
+const EMPTY: &[u8] = b"STREAMOFFICE-J1\n\0";
 
-#[test]
-fn making(rt: HostRuntime) {
-    empty_journal_has_no_records();
-    for (bytes, wanted) in MAKINGS {
-        let mut made = disk(&rt, rt.alloc(), bytes, &[]);
-        same(&rt, bytes.len(), &init(&mut made), &wanted);
-        let left = if wanted.is_ok() { EMPTY } else { bytes };
-        same(&rt, bytes.len(), &made.bytes(), &left);
-    }
-}
+/// Bytes of a disk, its calls that fail, what comes of each making, and the bytes then.
+type Row = (
+    &'static [u8],
+    &'static [u64],
+    &'static [Result<(), InitFault>],
+    &'static [u8],
+);
 
-const MAKINGS_AGAIN: [(u64, Result<(), InitFault>); 4] = [
-    (1, Ok(())),
-    (2, Ok(())),
-    (3, Ok(())),
-    (4, Err(InitFault::Exists)),
+static MAKINGS: [Row; 10] = [
+    (b"", &[], &[Ok(())], EMPTY),
+    (b"S", &[], &[Ok(())], EMPTY),
+    (b"STREAMOFFICE-J1", &[], &[Ok(())], EMPTY),
+    (b"STREAMOFFICE-J1\n", &[], &[Ok(())], EMPTY),
+    (b"STREAMOFFICE-J1\n\x01", &[], &[Ok(())], EMPTY),
+    (b"STREAMOFFICE-J1\n\x02", &[], &[Ok(())], EMPTY),
+    (b"17 bytes of a tex", &[], &[Ok(())], EMPTY),
+    (
+        b"STREAMOFFICE-J1\n\0",
+        &[],
+        &[Err(InitFault::Exists)],
+        b"STREAMOFFICE-J1\n\0",
+    ),
+    (
+        b"STREAMOFFICE-J1\n\0\0",
+        &[],
+        &[Err(InitFault::Exists)],
+        b"STREAMOFFICE-J1\n\0\0",
+    ),
+    (
+        b"18 bytes of a text",
+        &[],
+        &[Err(InitFault::NotAJournal)],
+        b"18 bytes of a text",
+    ),
 ];
 
 /// Each of the four calls fails once; the next making does it anew.
-#[test]
-fn making_fails(rt: HostRuntime) {
-    begun_is_made_anew();
-    for (call, again) in MAKINGS_AGAIN {
-        let mut made = disk(&rt, rt.alloc(), b"17 bytes of a tex", &[call]);
-        same(&rt, call, &init(&mut made), &Err(InitFault::Fault));
-        same(&rt, call, &init(&mut made), &again);
-        same(&rt, call, &made.bytes(), &EMPTY);
+const AGAIN: &[Result<(), InitFault>] = &[Err(InitFault::Fault), Ok(())];
+
+const MADE: &[Result<(), InitFault>] = &[Err(InitFault::Fault), Err(InitFault::Exists)];
+
+static FAILURES: [Row; 4] = [
+    (b"17 bytes of a tex", &[1], AGAIN, EMPTY),
+    (b"17 bytes of a tex", &[2], AGAIN, EMPTY),
+    (b"17 bytes of a tex", &[3], AGAIN, EMPTY),
+    (b"17 bytes of a tex", &[4], MADE, EMPTY),
+];
+
+/// Whether these come of makings, one after another.
+fn make_all(made: &mut MemoryDisk, all: &[Result<(), InitFault>]) -> bool {
+    for due in all {
+        if init(made) != *due {
+            return false;
+        }
     }
+    true
+}
+
+fn play(alloc: Global, row: &Row) -> bool {
+    match disk(alloc, row.0, row.1) {
+        Ok(mut made) => make_all(&mut made, row.2) && made.bytes() == row.3,
+        Err(_) => false,
+    }
+}
+
+/// The place of a row that fails.
+fn play_all(alloc: Global, rows: &[Row]) -> Result<(), usize> {
+    for (place, row) in rows.iter().enumerate() {
+        if !play(alloc, row) {
+            return Err(place);
+        }
+    }
+    Ok(())
+}
+
+#[test]
+fn making(rt: HostRuntime) -> Result<(), usize> {
+    play_all(rt.alloc(), &MAKINGS)
+}
+
+#[test]
+fn making_fails(rt: HostRuntime) -> Result<(), usize> {
+    play_all(rt.alloc(), &FAILURES)
 }

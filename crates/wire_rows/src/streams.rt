@@ -1,13 +1,13 @@
 //! Streams and their messages, however the source cuts them.
 
-use crate::reading::{WHOLE, read_all};
-use fixed_units::NoMemory;
-use std::alloc::Global;
-use std::process::Abort;
-use std::test::Fail;
+use crate::reading::{ALL, Row, WHOLE, Wrong, play};
+use std::alloc::{AllocError, Global};
+
+/// The bytes of a stream, and its messages.
+type Stream = (&'static [u8], &'static [u8]);
 
 /// Streams without a body.
-const HEADS: [(&[u8], &[u8]); 9] = [
+static HEADS: [Stream; 9] = [
     (b"", b"end;"),
     (b"\r\n\n", b"end;"),
     (
@@ -32,7 +32,7 @@ const HEADS: [(&[u8], &[u8]); 9] = [
 ];
 
 /// Streams with bodies.
-const BODIES: [(&[u8], &[u8]); 9] = [
+static BODIES: [Stream; 9] = [
     (
         b"POST /a HTTP/1.1\r\nContent-Length: 5\r\n\r\nhello",
         b"post /a [hello];end;",
@@ -72,7 +72,7 @@ const BODIES: [(&[u8], &[u8]); 9] = [
 ];
 
 /// What may stand for the length of a body of three bytes, and what may not.
-const LENGTHS: [(&[u8], &[u8]); 16] = [
+static LENGTHS: [Stream; 16] = [
     (b"3", b"post /a [abc];end;"),
     (b"03", b"post /a [abc];end;"),
     (b"00000003", b"post /a [abc];end;"),
@@ -91,38 +91,65 @@ const LENGTHS: [(&[u8], &[u8]); 16] = [
     (b"3\r\ntransfer-ENCODING: identity", b"malformed 0;"),
 ];
 
-/// That a stream has these messages, uncut and cut, also behind every byte.
-fn compare(rt: &impl Abort, alloc: Global, bytes: &[u8], want: &[u8]) -> Result<(), NoMemory> {
+/// Fails where a stream has other messages than these, uncut or cut, also behind every byte.
+fn compare(alloc: Global, bytes: &[u8], due: &[u8]) -> Result<(), Wrong> {
     for piece in [1, 2, 7, WHOLE] {
-        let all = read_all(alloc, bytes, Vec::new(alloc), piece)?;
-        assert_eq!(rt; all.as_slice(), want, "in pieces of {piece}");
+        play(
+            alloc,
+            &Row {
+                bytes,
+                failing: &[],
+                piece,
+                count: ALL,
+                due,
+                asked: None,
+            },
+        )?;
+    }
+    Ok(())
+}
+
+/// Fails where one of some streams has other messages than these: its place, and why.
+fn compare_all(alloc: Global, streams: &[Stream]) -> Result<(), (usize, Wrong)> {
+    for (place, (bytes, due)) in streams.iter().enumerate() {
+        if let Err(wrong) = compare(alloc, bytes, due) {
+            return Err((place, wrong));
+        }
     }
     Ok(())
 }
 
 #[test]
-fn heads(rt: HostRuntime) -> Result<(), Fail> {
-    for (bytes, want) in HEADS {
-        compare(&rt, rt.alloc(), bytes, want)?;
-    }
-    Ok(())
+fn heads(rt: HostRuntime) -> Result<(), (usize, Wrong)> {
+    compare_all(rt.alloc(), &HEADS)
 }
 
 #[test]
-fn bodies(rt: HostRuntime) -> Result<(), Fail> {
-    for (bytes, want) in BODIES {
-        compare(&rt, rt.alloc(), bytes, want)?;
+fn bodies(rt: HostRuntime) -> Result<(), (usize, Wrong)> {
+    compare_all(rt.alloc(), &BODIES)
+}
+
+/// A message whose body of three bytes has this for its length.
+fn with_length(alloc: Global, value: &[u8]) -> Result<Vec<u8>, AllocError> {
+    let mut bytes = b"POST /a HTTP/1.1\r\nContent-Length:".to_vec(alloc)?;
+    bytes.extend_from_slice(value)?;
+    bytes.extend_from_slice(b"\r\n\r\nabc")?;
+    Ok(bytes)
+}
+
+fn compare_length(alloc: Global, value: &[u8], due: &[u8]) -> Result<(), Wrong> {
+    match with_length(alloc, value) {
+        Ok(bytes) => compare(alloc, &bytes, due),
+        Err(_) => Err(Wrong::NoMemory),
     }
-    Ok(())
 }
 
 #[test]
-fn lengths(rt: HostRuntime) -> Result<(), Fail> {
-    for (value, want) in LENGTHS {
-        let mut bytes = Vec::from_slice(rt.alloc(), b"POST /a HTTP/1.1\r\nContent-Length:")?;
-        bytes.extend_from_slice(value)?;
-        bytes.extend_from_slice(b"\r\n\r\nabc")?;
-        compare(&rt, rt.alloc(), bytes.as_slice(), want)?;
+fn lengths(rt: HostRuntime) -> Result<(), (usize, Wrong)> {
+    for (place, (value, due)) in LENGTHS.iter().enumerate() {
+        if let Err(wrong) = compare_length(rt.alloc(), value, due) {
+            return Err((place, wrong));
+        }
     }
     Ok(())
 }

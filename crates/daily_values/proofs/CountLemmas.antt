@@ -1,8 +1,9 @@
 -- Counts of a day: what is counted and what is left make up the whole, and a day has no more readings than seconds.
-use Rattle.std.proofs.Common.{◌≡◌, refl, ℕ, ◌+◌, ◌≤◌, Bool, true, false, cond, List, [], ◌∷◌, length, ℤ, pos, ◌+ℤ◌, ◌≤ℤ◌, ◌<ℤ◌, arith}
-use Rattle.std.specs.Prelude.{count_by, ◌&&◌, int_le, int_lt}
+use Rattle.std.proofs.Common.{◌≡◌, refl, sym, subst, drop, ℕ, ◌+◌, ◌≤◌, Bool, true, false, cond, List, [], ◌∷◌, length, Result, Ok, Err, ℤ, pos, ◌+ℤ◌, ◌-ℤ◌, ◌≤ℤ◌, ◌<ℤ◌, arith}
+use Rattle.std.specs.Prelude.{count_by, map, ◌&&◌, int_le, int_lt}
 use Rattle.std.specs.Int.{int_max}
 use Rattle.std.proofs.lemmas.Int.{ints, clamps}
+use Rattle.std.proofs.lemmas.List.{drop_all}
 use Rattle.std.proofs.lemmas.List.Sums.{sum_by-cons}
 use Rattle.fixed_units.specs.declared.readings.Reading.{Reading}
 use Rattle.unit_discharge.specs.declared.unit_values.Unit.{Unit}
@@ -11,8 +12,9 @@ use Rattle.unit_discharge.specs.declared.unit_values.Missing.TheVariants as miss
 use Rattle.day_inputs.specs.declared.day_inputs.DayParts.{DayParts}
 use Rattle.day_inputs.specs.DayInputs.{AreParts}
 use Rattle.daily_values.specs.declared.counts.Counts.{Counts}
-use Rattle.daily_values.specs.DayValue.{units_of, is_of_day, is_missing, has_reason, counts_of}
-use Rattle.daily_values.proofs.AreaLemmas.{AreRising, units-rise, rising-first, rising-tail}
+use Rattle.daily_values.specs.DayValue.{unit_of, units_of, is_of_day, is_missing, has_reason, counts_of, day_length}
+use Rattle.daily_values.specs.Figures.{AreCounts}
+use Rattle.daily_values.proofs.AreaLemmas.{AreRising, day_length-le, positive_part-is, units-rise, rising-first, rising-tail}
 
 -- one more or none
 abbrev pub one : Bool → ℕ
@@ -126,14 +128,53 @@ counted-behind day u (v ∷ us) h =
         omega (arith, ints, clamps, low, high)
 
 -- a day has no more readings than seconds
-pub counted-le : (day : DayParts) → AreParts day → count_by (is_of_day day) (units_of day) ≤ 100_800
+counted-le : (day : DayParts) → AreParts day → count_by (is_of_day day) (units_of day) ≤ day_length day
 counted-le day are = by (units_of day) (units-rise day day.window are.rising)
   where
-    by : (us : List Unit) → AreRising us → count_by (is_of_day day) us ≤ 100_800
+    by : (us : List Unit) → AreRising us → count_by (is_of_day day) us ≤ day_length day
     by [] h = omega arith
     by (u ∷ us) h =
         let behind = counted-behind day u us h in
-        omega (arith, ints, clamps, behind, are.shortest, are.longest)
+        let length = positive_part-is (day.until -ℤ day.from) (omega (arith, ints, are.shortest)) in
+        omega (arith, ints, clamps, behind, length, are.shortest)
+
+-- a unit value of the day is missing for one reason at most
+missing-one : (a : Bool) (r : Result ℤ Missing)
+    → one (a && has_reason missing.Affected r) + one (a && has_reason missing.NoRating r) + one (a && has_reason missing.Below r) + one (a && has_reason missing.Above r) ≤ one a
+missing-one false r = omega arith
+missing-one true (Ok discharge) = omega arith
+missing-one true (Err missing.Affected) = omega arith
+missing-one true (Err missing.NoRating) = omega arith
+missing-one true (Err missing.Below) = omega arith
+missing-one true (Err missing.Above) = omega arith
+
+missing-le : (day : DayParts) (us : List Unit)
+    → count_by (is_missing day missing.Affected) us + count_by (is_missing day missing.NoRating) us + count_by (is_missing day missing.Below) us + count_by (is_missing day missing.Above) us
+    ≤ count_by (is_of_day day) us
+missing-le day [] = omega arith
+missing-le day (u ∷ us) =
+    let here = missing-one (is_of_day day u) u.discharge in
+    let behind = missing-le day us in
+    let affected = count-cons (is_missing day missing.Affected) u us in
+    let no_rating = count-cons (is_missing day missing.NoRating) u us in
+    let below = count-cons (is_missing day missing.Below) u us in
+    let above = count-cons (is_missing day missing.Above) u us in
+    let readings = count-cons (is_of_day day) u us in
+    omega (arith, here, behind, affected, no_rating, below, above, readings)
+
+counts-within : (day : DayParts) → AreParts day → AreCounts (day_length day) (counts_of day)
+counts-within day are = record { readings = counted-le day are; missing = missing-le day (units_of day) }
+
+-- and so are counts that leave none to be counted
+pub counts-whole : (day : DayParts) → AreParts day → (rs : List Reading) (i : ℕ) (counts : Counts) → length rs ≤ i
+    → AreCountsOfRest day (map (unit_of day) (drop i rs)) (units_of day) counts → AreCounts (day_length day) counts
+counts-whole day are rs i counts l h =
+    let none = drop_all i rs l in
+    let whole = counts-done day counts (subst (λ (left : List Reading). AreCountsOfRest day (map (unit_of day) left) (units_of day) counts) none h) in
+    subst (AreCounts (day_length day)) (sym whole) (counts-within day are)
+
+counted-most : (day : DayParts) → AreParts day → count_by (is_of_day day) (units_of day) ≤ 100_800
+counted-most day are = let most = counted-le day are in let long = day_length-le day are in omega (arith, most, long)
 
 -- so the counts are no more than that
 pub record AreFew (counts : Counts) : Type 0 where
@@ -145,7 +186,7 @@ pub record AreFew (counts : Counts) : Type 0 where
 
 pub counts-few : (day : DayParts) → AreParts day → (rest : List Unit) (counts : Counts) → AreCountsOfRest day rest (units_of day) counts → AreFew counts
 counts-few day are rest counts h =
-    let most = counted-le day are in
+    let most = counted-most day are in
     record {
       readings = omega (arith, most, h.readings);
       affected = few missing.Affected counts.affected h.affected;
@@ -156,6 +197,6 @@ counts-few day are rest counts h =
   where
     few : (reason : Missing) (n : ℕ) → n + count_by (is_missing day reason) rest ≡ count_by (is_missing day reason) (units_of day) → n ≤ 100_800
     few reason n h =
-        let most = counted-le day are in
+        let most = counted-most day are in
         let less = count-le (is_of_day day) (λ (u : Unit). has_reason reason u.discharge) (units_of day) in
         omega (arith, most, less, h)

@@ -1,5 +1,5 @@
 -- The figures of a day: its length, its counts, the sums for its stage and its discharge, and how their means are published.
-use Rattle.std.specs.Prelude.{ℕ, ℤ, List, ◌*◌, ◌≤◌, ◌==◌, if◌then◌else◌, Option, Some, None, IfSome, pos, neg_ℤ}
+use Rattle.std.specs.Prelude.{ℕ, ℤ, List, ◌+◌, ◌*◌, ◌≤◌, ◌==◌, if◌then◌else◌, Option, Some, None, IfSome, pos, neg_ℤ}
 use Rattle.unit_discharge.specs.Unit.{most_corrected}
 use Rattle.fixed_units.specs.Published.{published}
 use Rattle.fixed_units.specs.Quantities.{IsWithin, most_discharge}
@@ -28,11 +28,17 @@ IsAreaWithin below above seconds twice = IsWithin (neg_ℤ (pos (2 * below * sec
 abbrev pub IsSumWithin : ℕ → ℕ → Sum → Type 0
 IsSumWithin below above sum = IsAreaWithin below above sum.covered sum.twice
 
--- what every day's figures keep to: a day of 20 to 28 hours, no more covered than it is long, a sum of corrected stages, and one
--- of discharges
+-- the counts of so many seconds: at most a reading a second, and each reading without a discharge counts for one reason
+pub record AreCounts (seconds : ℕ) (counts : Counts) : Type 0 where
+  pub readings : counts.readings ≤ seconds
+  pub missing : counts.affected + counts.no_rating + counts.below + counts.above ≤ counts.readings
+
+-- what every day's figures keep to: a day of 20 to 28 hours, no more readings than it has seconds, no more covered than it is long,
+-- a sum of corrected stages, and one of discharges
 pub record AreFigures (figures : DayFigures) : Type 0 where
   pub shortest : shortest_day ≤ figures.length
   pub longest : figures.length ≤ longest_day
+  pub counts : AreCounts figures.length figures.counts
   pub stage_covered : figures.stage.covered ≤ figures.length
   pub discharge_covered : figures.discharge.covered ≤ figures.length
   pub stage : IsSumWithin most_corrected most_corrected figures.stage

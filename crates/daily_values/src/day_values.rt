@@ -129,7 +129,8 @@ impl Figures {
 
     /// The used readings of the day, without those of its neighbours, and those of them that have no discharge.
     pub fn counts(&self) -> Counts
-        ensures { result ≡ self.now.counts }
+        ensures counts { result ≡ self.now.counts }
+        ensures figures { AreFigures self.now }
     {
         self.counts
     }

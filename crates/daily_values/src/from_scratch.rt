@@ -14,7 +14,7 @@ ghost use Rattle.day_inputs.specs.DayInputs as inputs;
 ghost use Rattle.day_inputs.specs.DayInputs.{AreParts, shortest_day, longest_day, most_gap};
 ghost use Rattle.daily_values.specs.DayValue as values;
 ghost use Rattle.daily_values.specs.DayValue.{counts_of, pair_seconds, sum_of, twice_areas};
-ghost use Rattle.daily_values.specs.Figures.{IsSumWithin, IsValueWithin};
+ghost use Rattle.daily_values.specs.Figures.{AreCounts, IsSumWithin, IsValueWithin};
 ghost use Rattle.ratings.specs.Numbered.{AreRatings};
 
 use crate::counts::{Counts, add_unit};
@@ -285,7 +285,8 @@ fn add_areas(parts: &DayParts, pairs: &[(Point, Point)]) -> Sum
 /// The counts of a day's readings.
 fn count_units(parts: &DayParts) -> Counts
     requires { AreParts parts.now }
-    ensures { result ≡ counts_of parts.now }
+    ensures counts { result ≡ counts_of parts.now }
+    ensures within { AreCounts (values.day_length parts.now) result }
 {
     let mut counts = Counts::none();
     for reading in parts.window.as_slice() {

@@ -6,7 +6,7 @@ ghost use Rattle.unit_discharge.specs.Unit.{IsCorrected, most_corrected};
 ghost use Rattle.day_inputs.specs.DayInputs.{AreParts};
 ghost use Rattle.daily_values.specs.DayValue as values;
 ghost use Rattle.daily_values.specs.DayValue.{counts_of, day_length, discharge_point, stage_point, sum_of};
-ghost use Rattle.daily_values.specs.Figures.{IsSumWithin};
+ghost use Rattle.daily_values.specs.Figures.{AreCounts, IsSumWithin};
 
 use crate::counts::{Counts, add_unit};
 use crate::sums::{Sum, add_pair, discharge_point, seconds_between, stage_point};
@@ -31,6 +31,7 @@ pub(crate) fn totals_of(parts: &DayParts) -> Totals
     ensures stage { result.stage ≡ sum_of stage_point parts.now }
     ensures discharge { result.discharge ≡ sum_of discharge_point parts.now }
     ensures counts { result.counts ≡ counts_of parts.now }
+    ensures counts_within { AreCounts (day_length parts.now) result.counts }
     ensures stage_covered { result.stage.covered ≤ day_length parts.now }
     ensures discharge_covered { result.discharge.covered ≤ day_length parts.now }
     ensures stage_within { IsSumWithin most_corrected most_corrected result.stage }
@@ -53,6 +54,7 @@ fn totals_along(parts: &DayParts, first: Reading, rest: &[Reading]) -> Totals
     ensures stage { result.stage ≡ sum_of stage_point parts.now }
     ensures discharge { result.discharge ≡ sum_of discharge_point parts.now }
     ensures counts { result.counts ≡ counts_of parts.now }
+    ensures counts_within { AreCounts (day_length parts.now) result.counts }
     ensures stage_covered { result.stage.covered ≤ day_length parts.now }
     ensures discharge_covered { result.discharge.covered ≤ day_length parts.now }
     ensures stage_within { IsSumWithin most_corrected most_corrected result.stage }

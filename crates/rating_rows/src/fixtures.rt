@@ -1,15 +1,14 @@
 //! Ratings of a station as its periods are listed, and what they say of an instant.
 
-ghost use Rattle.std.specs.Prelude.{All};
-ghost use Rattle.std.specs.Arc.{arc_value};
-ghost use Rattle.fixed_units.specs.Quantities.{IsDischarge, IsStamp};
+ghost use Rattle.fixed_units.specs.Quantities.{IsStamp};
+ghost use Rattle.rating_tables.specs.Table.{IsRating};
+ghost use Rattle.ratings.specs.Parts.{AreParts};
 
 use civil_days::read_instant;
-use fixed_units::{Micro, Second, is_discharge};
-use ratings::{Period, Rated, Ratings, Table};
+use fixed_units::{Micro, Second};
+use ratings::{PartList, Period, Rated, Ratings, SharedTable, Table};
 use std::alloc::Global;
 use std::process::Abort;
-use std::sync::Arc;
 
 /// When a period begins, when it ends if at all, and the number of its rating.
 pub type Span = (&'static str, Option<&'static str>, u32);
@@ -25,6 +24,21 @@ pub const FIRST: Pair = (10_000_000, 30_000_000);
 
 /// 20 cubic feet per second of a foot, and 60 of two: the table under number 2.
 pub const SECOND: Pair = (20_000_000, 60_000_000);
+
+/// A year before the window of the parts.
+pub const EARLY: &str = "2023-01-01T00:00:00Z";
+
+/// The first instant of the window: of the day 2024-01-05, five hours behind UTC.
+pub const START: &str = "2024-01-05T05:00:00Z";
+
+/// The middle of the window.
+pub const NOON: &str = "2024-01-05T17:00:00Z";
+
+/// The last instant of the window.
+pub const END: &str = "2024-01-06T05:00:00Z";
+
+/// The second behind the window.
+pub const BEHIND: &str = "2024-01-06T05:00:01Z";
 
 /// The instant of a text.
 pub fn instant(rt: &impl Abort, text: &str) -> Second
@@ -46,26 +60,21 @@ pub fn micro(rt: &impl Abort, millionths: i64) -> Micro {
     Micro::new(millionths).expect(rt, "a quantity")
 }
 
-fn discharge(rt: &impl Abort, millionths: i64) -> Micro
-    ensures { IsDischarge result }
+fn table(rt: &impl Abort, alloc: Global, pair: Pair) -> SharedTable
+    ensures { IsRating result }
 {
-    assert!(rt; is_discharge(millionths));
-    Micro::new(millionths).expect(rt, "a discharge")
-}
-
-fn table(rt: &impl Abort, alloc: Global, pair: Pair) -> Arc<Table>
-    ensures { All (λ row. IsDischarge row.1) (arc_value result) }
-{
-    let low = (micro(rt, FOOT), discharge(rt, pair.0));
-    let high = (micro(rt, 2 * FOOT), discharge(rt, pair.1));
+    let low = (micro(rt, FOOT), micro(rt, pair.0));
+    let high = (micro(rt, 2 * FOOT), micro(rt, pair.1));
     let table = Table::new(alloc, &[low, high]).expect(rt, "a table");
-    Arc::new(alloc, table).expect(rt, "memory for a table")
+    assert!(rt; table.is_rating());
+    SharedTable::new(alloc, table).expect(rt, "memory for a table")
 }
 
-/// Puts a table under a number.
+/// Adds a table under a number that none has.
 pub fn add(rt: &impl Abort, alloc: Global, ratings: &mut Ratings, number: u32, pair: Pair) {
     let table = table(rt, alloc, pair);
     ratings.reserve_rating().expect(rt, "memory for a rating");
+    assert!(rt; ratings.rating(number).is_none());
     ratings.add(number, table);
 }
 
@@ -113,4 +122,15 @@ pub fn pair_of(rt: &impl Abort, table: &Table) -> Option<Pair> {
 /// The discharges of a foot and of two feet by the table that is in force at an instant.
 pub fn pair_at(rt: &impl Abort, ratings: &Ratings, at: &str) -> Option<Pair> {
     pair_of(rt, ratings.table_at(instant(rt, at))?)
+}
+
+/// The parts of the window.
+pub fn parts_of(rt: &impl Abort, alloc: Global, ratings: &Ratings) -> PartList
+    ensures { AreParts result }
+{
+    let (start, end) = (instant(rt, START), instant(rt, END));
+    assert!(rt; start.get() <= end.get());
+    ratings
+        .parts(alloc, start, end)
+        .expect(rt, "memory for parts")
 }

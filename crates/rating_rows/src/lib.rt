@@ -3,6 +3,8 @@
 #![tactic(auto)]
 
 #[cfg(test)]
+mod change_rows;
+#[cfg(test)]
 mod fixtures;
 #[cfg(test)]
 mod part_rows;

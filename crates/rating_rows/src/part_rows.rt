@@ -1,23 +1,12 @@
 //! The parts of a day, from its first instant to its end, both included.
 
-ghost use Rattle.ratings.specs.Parts.{AreParts};
-
-use crate::fixtures::{FIRST, Pair, SECOND, Span, instant, pair_of, ratings_with};
-use ratings::{PartList, PeriodPart, Ratings, part_at};
+use crate::fixtures::{
+    BEHIND, EARLY, END, FIRST, NOON, Pair, SECOND, START, Span, instant, pair_of, parts_of,
+    ratings_with,
+};
+use ratings::{PeriodPart, Ratings, part_at};
 use std::alloc::Global;
 use std::process::Abort;
-
-// A year before the day.
-const EARLY: &str = "2023-01-01T00:00:00Z";
-
-// The window: the day 2024-01-05, five hours behind UTC, its middle, and the second behind.
-const START: &str = "2024-01-05T05:00:00Z";
-
-const NOON: &str = "2024-01-05T17:00:00Z";
-
-const END: &str = "2024-01-06T05:00:00Z";
-
-const BEHIND: &str = "2024-01-06T05:00:01Z";
 
 // From when until when, the number of the rating, and the discharges of a foot and of two feet by its table.
 type Cut = (&'static str, &'static str, u32, Pair);
@@ -69,18 +58,7 @@ fn expect_part(rt: &impl Abort, row: &str, part: &PeriodPart, cut: Cut) {
     assert_eq!(rt; part.from, instant(rt, from), "{row}");
     assert_eq!(rt; part.until, instant(rt, until), "{row}");
     assert_eq!(rt; part.rating, rating, "{row}");
-    assert_eq!(rt; pair_of(rt, &part.table), Some(pair), "{row}");
-}
-
-// The parts of the window.
-fn parts_of(rt: &impl Abort, alloc: Global, ratings: &Ratings) -> PartList
-    ensures { AreParts result }
-{
-    let (start, end) = (instant(rt, START), instant(rt, END));
-    assert!(rt; start.get() <= end.get());
-    ratings
-        .parts(alloc, start, end)
-        .expect(rt, "memory for parts")
+    assert_eq!(rt; pair_of(rt, part.table.table()), Some(pair), "{row}");
 }
 
 fn expect_parts(rt: &impl Abort, alloc: Global, row: &str, ratings: &Ratings, want: &[Cut]) {

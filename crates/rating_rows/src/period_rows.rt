@@ -42,10 +42,12 @@ fn a_rating_under_a_number(rt: HostRuntime) {
     assert_eq!(rt; pair_at(&rt, &ratings, BEFORE), None);
     assert_eq!(rt; pair_at(&rt, &ratings, FROM), Some(FIRST));
     assert_eq!(rt; pair_at(&rt, &ratings, NEXT), Some(FIRST));
-    // another table under the same number
-    add(&rt, rt.alloc(), &mut ratings, 1, SECOND);
-    assert_eq!(rt; numbered(&rt, &ratings, 1), Some((1, SECOND)));
-    assert_eq!(rt; pair_at(&rt, &ratings, FROM), Some(SECOND));
+    // another table under a number of its own changes nothing of the first
+    add(&rt, rt.alloc(), &mut ratings, 2, SECOND);
+    assert_eq!(rt; numbered(&rt, &ratings, 1), Some((1, FIRST)));
+    assert_eq!(rt; numbered(&rt, &ratings, 2), Some((2, SECOND)));
+    assert_eq!(rt; ratings.tables().len(), 2);
+    assert_eq!(rt; pair_at(&rt, &ratings, FROM), Some(FIRST));
 }
 
 // Half a year of the first rating, and half of the next year of the second.

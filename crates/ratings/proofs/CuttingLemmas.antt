@@ -9,12 +9,11 @@ use Rattle.std.proofs.lemmas.List.Elements.{All-head, All-tail, All-map, All-fil
 use Rattle.std.proofs.lemmas.List.Kept.{AllPairs-cons, AllPairs-filter}
 use Rattle.rising.proofs.Parting.{lt_yes, lt_no, le_yes}
 use Rattle.rising.proofs.Selecting.{AllPairs-head, AllPairs-tail, filter_both}
-use Rattle.fixed_units.specs.Quantities.{IsDischarge}
 use Rattle.ratings.specs.Numbered.{Numbered, StationRatings, AreRatings, rating_of, rows_found, rows_of}
 use Rattle.ratings.specs.Parts.{Part, AreParts, meets, cut_end, part_of, parts, holds, part_at}
 use Rattle.ratings.specs.Periods.{AreApart, share, is_before_end, is_in_force, in_force}
 use Rattle.ratings.specs.Spans.{Span, EndsLater}
-use Rattle.ratings.specs.Table.{Row, IsTable}
+use Rattle.rating_tables.specs.Table.{Row, IsRating}
 use Rattle.ratings.proofs.PeriodLemmas.{ended}
 use Rattle.ratings.proofs.PeriodLawLemmas.{both, first_of, second_of, earlier}
 
@@ -160,8 +159,7 @@ rows_kept P q lo hi tables ps h k =
 pub parts_are : (lo hi : ℤ) (ratings : StationRatings) → AreRatings ratings → lo ≤ℤ hi → AreParts (parts lo hi ratings.tables ratings.periods)
 parts_are lo hi ratings h k =
     record {
-      tables = rows_kept IsTable (meets lo hi) lo hi ratings.tables ratings.periods h.rows h.known;
-      discharges = rows_kept (All (λ (row : Row). IsDischarge row.1)) (meets lo hi) lo hi ratings.tables ratings.periods h.discharges h.known;
+      tables = rows_kept IsRating (meets lo hi) lo hi ratings.tables ratings.periods h.rows h.known;
       ordered =
           All-map (λ (p : Part). p.from <ℤ p.until) (part_of lo hi ratings.tables) (filter (meets lo hi) ratings.periods)
           (λ i d l. step (get_or (filter (meets lo hi) ratings.periods) i d) (All-filter (meets lo hi) EndsLater ratings.periods h.apart.ordered i d l)

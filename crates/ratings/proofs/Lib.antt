@@ -1,12 +1,7 @@
 pub mod CuttingLemmas
-pub mod FieldLemmas
-pub mod LineTextLemmas
 pub mod PartEqualityLemmas
 pub mod PartLemmas
+pub mod PeriodChangeLemmas
 pub mod PeriodLawLemmas
 pub mod PeriodLemmas
 pub mod RatingsLemmas
-pub mod RdbLemmas
-pub mod StageLawLemmas
-pub mod TableLawLemmas
-pub mod TableLemmas

@@ -1,24 +1,16 @@
 -- The tests of equality of parts decide it.
-use Rattle.std.specs.Prelude.{◌≡◌, Bool, true, false, ◌&&◌, ◌==◌, ◌+◌, ◌<◌, ◌≤◌, ℕ, List, [], ◌∷◌, length, drop, get_or, ℤ}
+use Rattle.std.specs.Prelude.{◌≡◌, Bool, true, false, ◌&&◌, ◌==◌, ◌+◌, ◌<◌, ◌≤◌, ℕ, List, [], ◌∷◌, length, drop, get_or}
 use Rattle.std.specs.Bool.{Decides}
 use Rattle.std.specs.Ordering.{int_eq}
-use Rattle.std.specs.Cmp.Lexicographic.{pointwise}
 use Rattle.std.proofs.Common.{refl, ap, sym, ◌∙◌, arith, add-one, drop-cons}
 use Rattle.std.proofs.lemmas.Grind.{common_steps}
 use Rattle.std.proofs.lemmas.List.{drop_all}
 use Rattle.std.proofs.lemmas.Bool.Decides.{Decides-int_eq, Decides-eqb, Decides-and, Decides-like}
 use Rattle.std.proofs.lemmas.Slice.Eq.{slice_eq-Decides}
 use Rattle.ratings.specs.Parts.{Part}
-use Rattle.ratings.specs.PartEquality.{same_row, same_part, same_parts}
-use Rattle.ratings.specs.Table.{Row}
-
-rows_decide : (p q : Row) → Decides (same_row p q) (p ≡ q)
-rows_decide p q =
-    Decides-like (same_row p q) (λ h. paired p q h.0 h.1) (λ e. (ap (λ (x : ℤ × ℤ). x.0) e, ap (λ (x : ℤ × ℤ). x.1) e))
-    (Decides-and (int_eq p.0 q.0) (int_eq p.1 q.1) (Decides-int_eq p.0 q.0) (Decides-int_eq p.1 q.1))
-  where
-    paired : (p q : ℤ × ℤ) → p.0 ≡ q.0 → p.1 ≡ q.1 → p ≡ q
-    paired p q e f = let k : ◌≡◌ {A = ℤ × ℤ} (p.0, p.1) (q.0, q.1) = rw (e, f) refl in k
+use Rattle.ratings.specs.PartEquality.{same_part, same_parts}
+use Rattle.rating_tables.specs.RowEquality.{same_rows}
+use Rattle.rating_tables.proofs.RowLemmas.{rows_decide}
 
 same_members : (p q : Part) → p.from ≡ q.from → p.until ≡ q.until → p.rating ≡ q.rating → p.rows ≡ q.rows → p ≡ q
 same_members p q a b c d =
@@ -38,8 +30,7 @@ members_decide p q b c h k =
 
 pub parts_decide : (p q : Part) → Decides (same_part p q) (p ≡ q)
 parts_decide p q =
-    members_decide p q (p.rating == q.rating) (pointwise same_row p.rows q.rows)
-    (Decides-eqb p.rating q.rating) (slice_eq-Decides rows_decide p.rows q.rows (pointwise same_row p.rows q.rows) refl)
+    members_decide p q (p.rating == q.rating) (same_rows p.rows q.rows) (Decides-eqb p.rating q.rating) (rows_decide p.rows q.rows)
 
 pub lists_decide : (ps qs : List Part) → Decides (same_parts ps qs) (ps ≡ qs)
 lists_decide ps qs = slice_eq-Decides parts_decide ps qs (same_parts ps qs) refl

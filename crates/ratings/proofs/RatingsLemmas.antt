@@ -1,15 +1,14 @@
 -- Ratings with one more, with a period put among theirs and without one keep to what ratings do.
-use Rattle.std.specs.Prelude.{◌≡◌, ℕ, List, None, IsSome, Option, ℤ, pos, All}
+use Rattle.std.specs.Prelude.{◌≡◌, ℕ, List, None, IsSome, Option, ℤ, pos}
 use Rattle.std.proofs.Common.{arith, refl, sym, subst}
 use Rattle.std.proofs.lemmas.Int.{ints, by_lt_z}
 use Rattle.std.proofs.lemmas.List.Elements.{All-weaker}
 use Rattle.rising.proofs.Placing.{put_rises, put_keeps, without_keeps, at_put, at_put_other}
 use Rattle.rising.specs.Lists.{put}
-use Rattle.fixed_units.specs.Quantities.{IsDischarge}
-use Rattle.ratings.specs.Numbered.{Numbered, StationRatings, AreRatings, number_of, rating_of, with_rating, with_period, without_period}
+use Rattle.ratings.specs.Numbered.{Numbered, StationRatings, AreRatings, number_of, rating_of, with_period, without_period}
 use Rattle.ratings.specs.Periods.{begin, overlap}
 use Rattle.ratings.specs.Spans.{Span, EndsLater}
-use Rattle.ratings.specs.Table.{Row, IsTable}
+use Rattle.rating_tables.specs.Table.{IsRating}
 use Rattle.ratings.proofs.CuttingLemmas.{IsKnown}
 use Rattle.ratings.proofs.PeriodLemmas.{put_apart, without_apart}
 
@@ -26,12 +25,12 @@ still_there x n tables h =
     (λ m. subst (λ (k : ℕ). IsSome (rating_of k (put number_of x tables))) (let same : x.number ≡ n = omega (arith, ints) in same)
     (subst (λ (o : Option Numbered). IsSome o) (sym (at_put number_of x tables)) refl)))
 
-pub with_rating_are : (x : Numbered) (ratings : StationRatings) → AreRatings ratings → IsTable x.rows → All (λ (row : Row). IsDischarge row.1) x.rows → AreRatings (with_rating x ratings)
-with_rating_are x ratings h table discharges =
+pub more_ratings_are : (x : Numbered) (ratings : StationRatings) → AreRatings ratings → IsRating x.rows
+    → AreRatings (record { tables = put number_of x ratings.tables; periods = ratings.periods })
+more_ratings_are x ratings h rating =
     record {
       rising = put_rises number_of x ratings.tables h.rising;
-      rows = put_keeps number_of (λ r. IsTable r.rows) x ratings.tables table h.rows;
-      discharges = put_keeps number_of (λ r. All (λ (row : Row). IsDischarge row.1) r.rows) x ratings.tables discharges h.discharges;
+      rows = put_keeps number_of (λ r. IsRating r.rows) x ratings.tables rating h.rows;
       apart = h.apart;
       known =
           All-weaker (IsKnown ratings.tables) (IsKnown (put number_of x ratings.tables)) (λ p k. still_there x p.rating ratings.tables k) ratings.periods h.known;
@@ -43,7 +42,6 @@ with_period_are p ratings h ordered known free =
     record {
       rising = h.rising;
       rows = h.rows;
-      discharges = h.discharges;
       apart = put_apart p ratings.periods h.apart ordered free;
       known = put_keeps begin (IsKnown ratings.tables) p ratings.periods known h.known;
     }
@@ -53,7 +51,6 @@ without_period_are from ratings h =
     record {
       rising = h.rising;
       rows = h.rows;
-      discharges = h.discharges;
       apart = without_apart from ratings.periods h.apart;
       known = without_keeps begin (IsKnown ratings.tables) from ratings.periods h.known;
     }

@@ -1,9 +1,6 @@
-pub mod Lines
 pub mod Numbered
 pub mod PartEquality
 pub mod Parts
+pub mod PeriodChanges
 pub mod Periods
-pub mod RatedDischarge
-pub mod Rdb
 pub mod Spans
-pub mod Table

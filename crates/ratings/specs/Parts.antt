@@ -1,11 +1,10 @@
 -- The parts of rating periods that a day is rated by: periods cut to the time between two instants, with their tables.
 use Rattle.std.specs.Prelude.{ℕ, Bool, ◌&&◌, List, find, filter, map, All, AllPairs, Option, None, Some, ℤ, pos, ◌+ℤ◌, int_le, int_lt, ◌≤ℤ◌, ◌<ℤ◌}
 use Rattle.std.specs.Int.{int_max, int_min}
-use Rattle.fixed_units.specs.Quantities.{IsDischarge}
 use Rattle.ratings.specs.Numbered.{Numbered, rows_of}
 use Rattle.ratings.specs.Periods.{is_before_end}
 use Rattle.ratings.specs.Spans.{Span}
-use Rattle.ratings.specs.Table.{Row, IsTable}
+use Rattle.rating_tables.specs.Table.{Row, IsRating}
 
 -- a part of a period as contracts see it: from its start until its end, that one excluded, a rating is in force
 pub record Part : Type 0 where
@@ -44,9 +43,8 @@ holds at p = int_le p.from at && int_lt at p.until
 abbrev pub part_at : ℤ → List Part → Option Part
 part_at at parts = find (holds at) parts
 
--- what the parts of a day keep to: each has a table of discharges and ends after it begins, and each ends before the next begins
+-- what the parts of a day keep to: each has a rating's table and ends after it begins, and each ends before the next begins
 pub record AreParts (parts : List Part) : Type 0 where
-  pub tables : All (λ p. IsTable p.rows) parts
-  pub discharges : All (λ p. All (λ r. IsDischarge r.1) p.rows) parts
+  pub tables : All (λ p. IsRating p.rows) parts
   pub ordered : All (λ p. p.from <ℤ p.until) parts
   pub apart : AllPairs (λ p q. p.until ≤ℤ q.from) parts

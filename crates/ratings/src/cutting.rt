@@ -1,7 +1,6 @@
 //! Periods cut to the time between two instants, with the tables of their ratings.
 
 ghost use Rattle.std.specs.Prelude.{◌≡◌, false, List, ◌∷◌, map, All, IsSome, IfOk, IfSome, IfNone};
-ghost use Rattle.std.specs.Arc.{arc_value};
 ghost use Rattle.std.specs.Int.{int_max, int_min};
 ghost use Rattle.std.specs.Ordering.{int_eq};
 ghost use Rattle.fixed_units.specs.Quantities.{IsSecond, IsStamp};
@@ -13,16 +12,15 @@ ghost use Rattle.ratings.specs.Parts.{Part, part_of};
 use crate::parts::PartList;
 use crate::period::{Period, PeriodPart};
 use crate::station_ratings::Rating;
-use crate::table::Table;
 use fixed_units::{NoMemory, Second};
+use rating_tables::SharedTable;
 use rising::RisingList;
 use std::alloc::Global;
-use std::sync::Arc;
 
 /// The table of a rating that is there.
-pub(crate) fn table_of(tables: &RisingList<Rating>, number: u32) -> &Arc<Table>
+pub(crate) fn table_of(tables: &RisingList<Rating>, number: u32) -> &SharedTable
     requires { IsSome (rating_of number tables.now.list) }
-    ensures { arc_value result.now ≡ rows_of number tables.now.list }
+    ensures { result.now ≡ rows_of number tables.now.list }
 {
     match tables.get(number) {
         Some(rating) => &rating.table,
@@ -60,7 +58,7 @@ fn cut(
     requires known { IsSome (rating_of period.now.rating tables.now.list) }
     ensures { IfOk result (λ part. part ≡ part_of lo hi tables.now.list period.now) }
 {
-    let table = Arc::try_clone(table_of(tables, period.rating))?;
+    let table = table_of(tables, period.rating).share()?;
     Ok(PeriodPart {
         from: later(period.from, lo),
         until: Second::new(cut_end(hi, period.until)).unwrap(),
@@ -125,7 +123,7 @@ fn is_cut(
     part.from == later(period.from, lo)
         && ends_at(part.until, hi, period.until)
         && part.rating == period.rating
-        && part.table.rows() == table_of(tables, period.rating).rows()
+        && part.table.is_same(table_of(tables, period.rating))
 }
 
 /// Whether a period that is cut right behind an instant ends at another one.
@@ -136,7 +134,7 @@ fn ends_at(at: Second, hi: Second, until: Option<Second>) -> bool
 }
 
 /// Where a period ends that is cut right behind an instant, in seconds.
-fn cut_end(hi: Second, until: Option<Second>) -> i64
+pub(crate) fn cut_end(hi: Second, until: Option<Second>) -> i64
     ensures end { result ≡ cut.cut_end hi until }
     ensures range { IsStamp hi → IsSecond result }
 {

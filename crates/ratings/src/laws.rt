@@ -1,36 +1,13 @@
-//! Laws of ratings: what the definitions say on rows, between them and of periods.
+//! Laws of ratings: what the definitions say of periods.
 
-ghost use Rattle.std.specs.Prelude.{◌≡◌, ◌↔◌, true, option_map, List, ◌∷◌, ◌++◌, Option, None, Some, IsSome, IfSome, ℤ, ◌<ℤ◌, ◌≤ℤ◌, Contains};
-ghost use Rattle.ratings.specs.declared.table.Rated.{Rated};
-ghost use Rattle.ratings.specs.declared.table.Rated.TheVariants.{Value};
-ghost use Rattle.ratings.specs.Numbered.{AreRatings, Numbered, StationRatings, rows_of};
+ghost use Rattle.std.specs.Prelude.{◌≡◌, ◌↔◌, true, option_map, List, ◌∷◌, ◌++◌, ℤ, ◌≤ℤ◌, Contains};
+ghost use Rattle.rising.specs.Lists.{IsRising};
+ghost use Rattle.ratings.specs.Numbered.{AreRatings, Numbered, StationRatings, rows_of, with_period, with_rating, without_period};
+ghost use Rattle.ratings.specs.PartEquality.{same_parts};
 ghost use Rattle.ratings.specs.Parts.{AreParts, part_at, part_of, parts};
-ghost use Rattle.ratings.specs.Periods.{AreApart, in_force, is_in_force, share};
-ghost use Rattle.ratings.specs.RatedDischarge.{IsInside, IsOutside, IsRated, IsStageOf};
+ghost use Rattle.ratings.specs.PeriodChanges.{stays_with_period, stays_without_period};
+ghost use Rattle.ratings.specs.Periods.{AreApart, begin, in_force, is_in_force, share};
 ghost use Rattle.ratings.specs.Spans.{Span, EndsLater};
-ghost use Rattle.fixed_units.specs.Lines.{line_at};
-ghost use Rattle.ratings.specs.Table.{IsTable, Row, rated, stage_of};
-
-/// Each stage has exactly one rated discharge by cases. Whatever two neighbouring rows a stage lies between, both of
-/// them included, it is what the line between them has there; on a row it is that row's discharge.
-pub fn stages_are_rated_by_their_line()
-    ensures stands { (rows : List Row) (stage : ℤ) → IsTable rows → IsRated rows stage (rated rows stage) }
-    ensures unique { (rows : List Row) (stage : ℤ) (v w : Rated) → IsTable rows → IsRated rows stage v → IsRated rows stage w → v ≡ w }
-    ensures between { (rows front back : List Row) (r s : Row) (stage : ℤ) → IsTable rows → rows ≡ front ++ r ∷ s ∷ back
-        → r.0 ≤ℤ stage → stage ≤ℤ s.0 → rated rows stage ≡ Value (line_at r s stage) }
-    ensures row { (rows front back : List Row) (r : Row) → IsTable rows → rows ≡ front ++ r ∷ back → rated rows r.0 ≡ Value r.1 }
-{}
-
-/// Each discharge from the first row's to the last row's has a stage, any other has none, and there is no second one by
-/// cases. The stage of a row's discharge is that of a row of this discharge.
-pub fn discharges_have_a_stage()
-    ensures stands { (rows : List Row) (discharge : ℤ) → IsTable rows → IsStageOf rows discharge (stage_of rows discharge) }
-    ensures unique { (rows : List Row) (discharge : ℤ) (a b : Option ℤ) → IsTable rows → IsStageOf rows discharge a → IsStageOf rows discharge b → a ≡ b }
-    ensures inside { (rows : List Row) (discharge : ℤ) → IsTable rows → IsInside rows discharge → IsSome (stage_of rows discharge) }
-    ensures outside { (rows : List Row) (discharge : ℤ) → IsTable rows → IsOutside rows discharge → stage_of rows discharge ≡ None }
-    ensures row { (rows front back : List Row) (r : Row) → IsTable rows → rows ≡ front ++ r ∷ back
-        → (s : Row) × Contains rows s × (s.1 ≡ r.1) × (stage_of rows r.1 ≡ Some s.0) }
-{}
 
 /// At most one kept period is in force at an instant, and two periods share an instant exactly where the test of their
 /// ends says so.
@@ -51,4 +28,15 @@ pub fn parts_stand_for_periods()
     ensures rows { (lo hi at : ℤ) (tables : List Numbered) (periods : List Span) → lo ≤ℤ at → at ≤ℤ hi
         → option_map (λ p. p.rows) (part_at at (parts lo hi tables periods)) ≡ option_map (λ p. rows_of p.rating tables) (in_force at periods) }
     ensures kept { (lo hi : ℤ) (ratings : StationRatings) → AreRatings ratings → lo ≤ℤ hi → AreParts (parts lo hi ratings.tables ratings.periods) }
+{}
+
+/// Which edits of a station's ratings change the parts of the time from `lo` to `hi`: a rating more changes none, and a period
+/// that is put among periods that rise by their starts, or taken out, changes them exactly where its own part changes.
+pub fn parts_change_by_their_period()
+    ensures rating { (lo hi : ℤ) (rating : Numbered) (ratings : StationRatings) → AreRatings ratings
+        → parts lo hi (with_rating rating ratings).tables (with_rating rating ratings).periods ≡ parts lo hi ratings.tables ratings.periods }
+    ensures put { (lo hi : ℤ) (period : Span) (ratings : StationRatings) → IsRising begin ratings.periods
+        → same_parts (parts lo hi ratings.tables ratings.periods) (parts lo hi ratings.tables (with_period period ratings).periods) ≡ stays_with_period lo hi period ratings.periods }
+    ensures taken { (lo hi from : ℤ) (ratings : StationRatings) → IsRising begin ratings.periods
+        → same_parts (parts lo hi ratings.tables ratings.periods) (parts lo hi ratings.tables (without_period from ratings).periods) ≡ stays_without_period lo hi from ratings.periods }
 {}

@@ -96,5 +96,5 @@ fn is_same(part: &PeriodPart, other: &PeriodPart) -> bool
     part.from == other.from
         && part.until == other.until
         && part.rating == other.rating
-        && part.table.rows() == other.table.rows()
+        && part.table.is_same(&other.table)
 }

@@ -1,10 +1,9 @@
 //! A period in which a rating is in force.
 
-use crate::table::Table;
 use fixed_units::Second;
+use rating_tables::SharedTable;
 use rising::Keyed;
 use std::marker::Model;
-use std::sync::Arc;
 
 /// A rating is in force from an instant until another one, that one excluded, or without end.
 #[derive(Clone, Copy, Debug, PartialEq, Eq)]
@@ -81,16 +80,15 @@ pub struct PeriodPart {
     /// The number of the rating.
     pub rating: u32,
     /// The table of the rating.
-    pub table: Arc<Table>,
+    pub table: SharedTable,
 }
 
 impl Model for PeriodPart {
-    ghost use Rattle.std.specs.Arc.{arc_value};
     ghost use Rattle.ratings.specs.Parts.{Part};
 
     ghost Value = { Part };
 
-    ghost view = { λ p. record { from = p.from; until = p.until; rating = p.rating; rows = arc_value p.table } };
+    ghost view = { λ p. record { from = p.from; until = p.until; rating = p.rating; rows = p.table } };
 }
 
 impl Keyed for PeriodPart {

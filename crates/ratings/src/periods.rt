@@ -102,6 +102,13 @@ impl Periods {
         }
     }
 
+    /// The period that begins at an instant.
+    pub fn starting_at(&self, from: Second) -> Option<Period>
+        ensures { result ≡ lists.at begin from self.now.list }
+    {
+        self.list.get(from).copied()
+    }
+
     /// The period that is in force at an instant.
     pub fn at(&self, at: Second) -> Option<Period>
         ensures { result ≡ in_force at self.now.list }
@@ -153,7 +160,7 @@ fn is_in_the_way(kept: &Period, period: &Period) -> bool
 }
 
 /// Whether an instant is before an end, if there is one.
-fn is_before_end(at: Second, until: Option<Second>) -> bool
+pub(crate) fn is_before_end(at: Second, until: Option<Second>) -> bool
     ensures { result ≡ periods.is_before_end at until }
 {
     match until {

@@ -1,11 +1,12 @@
 //! The ratings of a station under their numbers, and the periods in which they are in force.
 
 ghost use Rattle.std.specs.Prelude.{◌≡◌, ◌≢◌, ◌<◌, ◌≤◌, ◌≤ℤ◌, [], None, All, IsSome, IfOk, OnOk, OnErr, option_map};
-ghost use Rattle.std.specs.Arc.{arc_value};
-ghost use Rattle.fixed_units.specs.Quantities.{IsDischarge, IsStamp};
+ghost use Rattle.fixed_units.specs.Quantities.{IsStamp};
 ghost use Rattle.rising.specs.Lists as lists;
-ghost use Rattle.ratings.specs.Numbered.{AreRatings, rating_of, rows_in_force, with_rating, with_period, without_period};
+ghost use Rattle.rating_tables.specs.Table.{IsRating};
+ghost use Rattle.ratings.specs.Numbered.{AreRatings, period_from, rating_of, rows_in_force, with_rating, with_period, without_period};
 ghost use Rattle.ratings.specs.PartEquality.{same_parts};
+ghost use Rattle.ratings.specs.PeriodChanges.{stays_with_period, stays_without_period};
 ghost use Rattle.ratings.specs.Parts as cut;
 ghost use Rattle.ratings.specs.Parts.{AreParts};
 ghost use Rattle.ratings.specs.Periods.{begin, overlap};
@@ -13,28 +14,27 @@ ghost use Rattle.ratings.specs.Periods.{begin, overlap};
 use crate::cutting::{are_cut, cut_all, table_of};
 use crate::parts::PartList;
 use crate::period::{Period, PeriodPart};
+use crate::period_changes::{meets, stays_in_place};
 use crate::periods::Periods;
-use crate::table::Table;
 use fixed_units::{NoMemory, Second};
+use rating_tables::{SharedTable, Table};
 use rising::{Keyed, NoEntry, RisingList};
 use std::alloc::Global;
 use std::marker::Model;
-use std::sync::Arc;
 
 /// A table under a number. Contracts see the number and the rows.
 #[derive(Debug, Drop)]
 pub struct Rating {
     pub(crate) number: u32,
-    pub(crate) table: Arc<Table>,
+    pub(crate) table: SharedTable,
 }
 
 impl Model for Rating {
-    ghost use Rattle.std.specs.Arc.{arc_value};
     ghost use Rattle.ratings.specs.Numbered.{Numbered};
 
     ghost Value = { Numbered };
 
-    ghost view = { λ r. record { number = r.number; rows = arc_value r.table } };
+    ghost view = { λ r. record { number = r.number; rows = r.table } };
 }
 
 impl Keyed for Rating {
@@ -71,7 +71,7 @@ impl Rating {
     pub fn table(&self) -> &Table
         ensures { result.now ≡ self.now.rows }
     {
-        &self.table
+        self.table.table()
     }
 }
 
@@ -130,7 +130,52 @@ impl Ratings {
         ensures { option_map (λ t. t.now) result ≡ rows_in_force at self.now.ratings }
     {
         let period = self.periods.at(at)?;
-        Some(table_of(&self.tables, period.rating))
+        Some(table_of(&self.tables, period.rating).table())
+    }
+
+    /// Whether the parts of the time from `lo` to `hi` stay as they are with a period put in place of the one of its start. It takes
+    /// no memory.
+    pub fn keeps_parts_with(&self, period: &Period, lo: Second, hi: Second) -> bool
+        ensures { result ≡ stays_with_period lo hi period.now self.now.ratings.periods }
+    {
+        match self.period_from(period.from) {
+            Some(kept) => stays_in_place(&kept, period, lo, hi),
+            None => !meets(period, lo, hi),
+        }
+    }
+
+    /// Whether the parts of the time from `lo` to `hi` stay as they are without the period that begins at an instant. It takes no
+    /// memory.
+    pub fn keeps_parts_without(&self, from: Second, lo: Second, hi: Second) -> bool
+        ensures { result ≡ stays_without_period lo hi from self.now.ratings.periods }
+    {
+        match self.period_from(from) {
+            Some(kept) => !meets(&kept, lo, hi),
+            None => true,
+        }
+    }
+
+    /// The period that begins at an instant, if there is one.
+    pub fn period_from(&self, from: Second) -> Option<Period>
+        ensures { result ≡ period_from from self.now.ratings.periods }
+    {
+        self.periods.starting_at(from)
+    }
+
+    /// The ratings, rising by number.
+    pub fn tables(&self) -> &[Rating]
+        ensures tables { result.now ≡ self.now.ratings.tables }
+        ensures kept { AreRatings self.now.ratings }
+    {
+        self.tables.as_slice()
+    }
+
+    /// The periods, rising by their starts.
+    pub fn periods(&self) -> &[Period]
+        ensures periods { result.now ≡ self.now.ratings.periods }
+        ensures kept { AreRatings self.now.ratings }
+    {
+        self.periods.as_slice()
     }
 
     /// The rating of a number, if there is one.
@@ -146,7 +191,9 @@ impl Ratings {
     pub fn reserve_rating(&mut self) -> Result<(), NoMemory>
         ensures ratings { self.new.ratings ≡ self.old.ratings }
         ensures room { OnOk result (1 ≤ self.new.rating_room) }
+        ensures kept { self.old.rating_room ≤ self.new.rating_room }
         ensures period_room { self.new.period_room ≡ self.old.period_room }
+        ensures err { OnErr result (self.new ≡ self.old) }
     {
         self.tables.reserve(1)?;
         Ok(())
@@ -156,20 +203,21 @@ impl Ratings {
     pub fn reserve_period(&mut self) -> Result<(), NoMemory>
         ensures ratings { self.new.ratings ≡ self.old.ratings }
         ensures room { OnOk result (1 ≤ self.new.period_room) }
+        ensures kept { self.old.period_room ≤ self.new.period_room }
         ensures rating_room { self.new.rating_room ≡ self.old.rating_room }
+        ensures err { OnErr result (self.new ≡ self.old) }
     {
         self.periods.reserve(1)
     }
 
-    /// Puts a table of discharges under a number, in place of the one there. There is room for it, so no memory is taken.
-    pub fn add(&mut self, number: u32, table: Arc<Table>)
+    /// Adds a rating under a number that none has. There is room for it, so no memory is taken.
+    pub fn add(&mut self, number: u32, table: SharedTable)
         requires room { 0 < self.old.rating_room }
-        requires discharges { All (λ row. IsDischarge row.1) (arc_value table) }
-        ensures ratings { self.new.ratings ≡ with_rating (record { number = number; rows = arc_value table }) self.old.ratings }
+        requires rating { IsRating table }
+        requires absent { rating_of number self.old.ratings.tables ≡ None }
+        ensures ratings { self.new.ratings ≡ with_rating (record { number = number; rows = table }) self.old.ratings }
         ensures period_room { self.new.period_room ≡ self.old.period_room }
     {
-        // The proof learns here that the rows are a table.
-        let _rows = table.rows();
         self.tables.put(Rating { number, table });
     }
 
@@ -204,6 +252,8 @@ impl Ratings {
         ensures ratings { self.new.ratings ≡ without_period from self.old.ratings }
         ensures err { OnErr result (All (λ p. p.from ≢ from) self.old.ratings.periods) }
         ensures unchanged { OnErr result (self.new ≡ self.old) }
+        ensures rating_room { self.new.rating_room ≡ self.old.rating_room }
+        ensures period_room { self.old.period_room ≤ self.new.period_room }
     {
         self.periods.take_out(from)
     }

@@ -1,1 +1,1 @@
-pub mod RangeLemmas
+pub mod PartLemmas

@@ -9,9 +9,9 @@ use Rattle.curves.specs.Entries.{series_value}
 use Rattle.curves.specs.Corrections.{correction_by}
 use Rattle.fixed_units.specs.Quantities.{IsWithin, most_stage, most_amount}
 use Rattle.ratings.specs.Parts.{Part, part_at}
-use Rattle.ratings.specs.Table.{rated}
-use Rattle.ratings.specs.declared.table.Rated.{Rated}
-use Rattle.ratings.specs.declared.table.Rated.TheVariants as rateds
+use Rattle.rating_tables.specs.Table.{rated}
+use Rattle.rating_tables.specs.declared.table.Rated.{Rated}
+use Rattle.rating_tables.specs.declared.table.Rated.TheVariants as rateds
 use Rattle.unit_discharge.specs.declared.unit_values.Unit.{Unit}
 use Rattle.unit_discharge.specs.declared.unit_values.Missing.{Missing}
 use Rattle.unit_discharge.specs.declared.unit_values.Missing.TheVariants.{Affected, NoRating, Below, Above}

@@ -1,10 +1,11 @@
 //! The unit value of a reading: datum corrections first, then the shift, then the rating (the practice of ADAPS, after
 //! Water-Supply Paper 2175).
 
-ghost use Rattle.std.specs.Prelude.{◌≡◌, ◌*◌, pos, neg_ℤ, ◌+ℤ◌, ◌≤ℤ◌, All, IfOk, Some};
+ghost use Rattle.std.specs.Prelude.{◌≡◌, ◌*◌, pos, neg_ℤ, ◌+ℤ◌, ◌≤ℤ◌, IfOk, Some};
 ghost use Rattle.fixed_units.specs.Quantities.{IsStage, IsMicro, IsAmount, IsDischarge, most_amount};
 ghost use Rattle.curves.specs.Corrections.{correction_by};
 ghost use Rattle.curves.specs.Entries.{IsSeries, series_value};
+ghost use Rattle.rating_tables.specs.Table.{IsRating};
 ghost use Rattle.ratings.specs.Parts.{AreParts, part_at};
 ghost use Rattle.unit_discharge.specs.Unit as units;
 ghost use Rattle.unit_discharge.specs.Unit.{corrected_stage, discharge, discharge_by, IsCorrected};
@@ -89,11 +90,11 @@ fn discharge_of(
 
 /// What the table of a part of a rating period says of a stage.
 fn rated(part: &PeriodPart, stage: Micro) -> Result<Micro, Missing>
-    requires { All (λ row. IsDischarge row.1) part.now.rows }
+    requires { IsRating part.now.rows }
     ensures value { result ≡ discharge_by (Some part.now) stage }
     ensures range { IfOk result (λ q. IsDischarge q) }
 {
-    match part.table.rate(stage) {
+    match part.table.table().rate(stage) {
         Rated::Value(discharge) => Ok(discharge),
         Rated::Below => Err(Missing::Below),
         Rated::Above => Err(Missing::Above),
@@ -101,6 +102,7 @@ fn rated(part: &PeriodPart, stage: Micro) -> Result<Micro, Missing>
 }
 
 /// The amount in millionths of a foot that a series has at an instant and a stage.
+#[inline(always)]
 fn amount_of(entries: &[Entry], at: Second, stage: Micro) -> i64
     requires { IsSeries entries.now }
     ensures value { result ≡ series_value entries.now at stage }

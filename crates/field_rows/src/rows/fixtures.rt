@@ -2,11 +2,10 @@
 ghost use Rattle.std.specs.Prelude.{◌≡◌};
 
 use fixed_units::{Micro, Second};
-use ratings::{PeriodPart, Table};
+use ratings::{PeriodPart, SharedTable, Table};
 use std::alloc::Global;
 use std::fmt::{Debug, Display};
 use std::process::Abort;
-use std::sync::Arc;
 
 /// That many millionths of a foot or of a cubic foot per second.
 pub fn micro(rt: &impl Abort, millionths: i64) -> Micro
@@ -40,7 +39,7 @@ pub fn part(
         from,
         until,
         rating: 1,
-        table: Arc::new(alloc, table).expect(rt, "memory for a table"),
+        table: SharedTable::new(alloc, table).expect(rt, "memory for a table"),
     }
 }
 

@@ -1,13 +1,13 @@
 //! Unit values worked by hand.
 ghost use Rattle.std.specs.Prelude.{All, IsTrue, ◌<ℤ◌};
 ghost use Rattle.curves.specs.Entries.{AreAmounts, IsSeries};
-ghost use Rattle.fixed_units.specs.Quantities.{IsAmount, IsDischarge};
+ghost use Rattle.fixed_units.specs.Quantities.{IsAmount};
 ghost use Rattle.ratings.specs.Parts.{AreParts};
-ghost use Rattle.ratings.specs.Table.{IsTable};
+ghost use Rattle.rating_tables.specs.Table.{IsRating};
 
 use crate::rows::fixtures::{micro, same, second};
 use curves::{Curve, Entry, Series};
-use fixed_units::{Flag, Micro, Reading, is_amount, is_discharge, is_stage};
+use fixed_units::{Flag, Reading, is_amount, is_stage};
 use ratings::{PartList, PeriodPart};
 use std::alloc::Global;
 use std::process::Abort;
@@ -36,21 +36,14 @@ pub fn is_series(entries: &[Entry]) -> bool
     entries.len() < 2 && are_amounts(entries)
 }
 
-fn are_discharges(rows: &[(Micro, Micro)]) -> bool
-    ensures { IsTrue result → All (λ row. IsDischarge row.1) rows.now }
-{
-    rows.iter().all(|row| is_discharge(row.1.get()))
-}
-
 fn is_part(part: &PeriodPart) -> bool
-    ensures table { IsTrue result → IsTable part.now.rows }
-    ensures discharges { IsTrue result → All (λ row. IsDischarge row.1) part.now.rows }
+    ensures rating { IsTrue result → IsRating part.now.rows }
     ensures ordered { IsTrue result → part.now.from <ℤ part.now.until }
 {
-    are_discharges(part.table.rows()) && part.from < part.until
+    part.table.table().is_rating() && part.from < part.until
 }
 
-/// Whether at most one part stands there, with a table of discharges.
+/// Whether at most one part stands there, with a rating's table.
 pub fn are_parts(parts: &[PeriodPart]) -> bool
     ensures { IsTrue result → AreParts parts.now }
 {

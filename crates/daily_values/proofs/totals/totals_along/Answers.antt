@@ -9,7 +9,7 @@ use Rattle.daily_values.specs.declared.sums.Sum.{Sum}
 use Rattle.daily_values.specs.DayValue.{Point, unit_of, units_of, neighbours, stage_point, discharge_point, pair_area, pair_seconds}
 use Rattle.daily_values.specs.Figures.{IsSumWithin, IsValueWithin}
 use Rattle.daily_values.proofs.AreaLemmas.{AreRising, covered-le, day_length-le, discharge-IfSome, none-within, rising-first, rising-tail, units-rise}
-use Rattle.daily_values.proofs.CountLemmas.{AreCountsOfRest, counts-few, counts-start, counts-step}
+use Rattle.daily_values.proofs.CountLemmas.{AreCountsOfRest, counts-few, counts-start, counts-step, counts-whole}
 use Rattle.daily_values.proofs.SumLemmas.{IsSumOfRest, next-stage, pair-same, sum-room, sum-start, sum-step, units-start, units-step}
 use Rattle.daily_values.proofs.totals.totals_along.Goals as goal
 
@@ -171,6 +171,10 @@ loop-reading-preserved c =
           (subst IsDischargePoint (sym c.discharge_point.ensures) (discharge-IfSome (λ q. IsDischarge q) left.discharge c.loop-reading.invariant.left_discharge))
           (subst IsDischargePoint (sym c.discharge_point-in-loop-reading.ensures) (discharge-IfSome (λ q. IsDischarge q) right.discharge c.unit_of-right.ensures.discharge)) c.loop-reading.invariant.discharge_within;
     }
+
+pub returns-clause-counts_within : goal.returns-clause-counts_within
+returns-clause-counts_within c =
+    counts-whole c.args.parts.now c.requires.parts c.args.rest.now c.loop-reading.reading-index c.loop-reading.counts c.loop-reading-test.false c.loop-reading.invariant.counted
 
 pub returns-clause-stage_covered : goal.returns-clause-stage_covered
 returns-clause-stage_covered c =

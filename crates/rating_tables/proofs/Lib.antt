@@ -1,0 +1,10 @@
+pub mod FieldLemmas
+pub mod LineTextLemmas
+pub mod RangeLemmas
+pub mod RatedRangeLemmas
+pub mod RdbFaultLemmas
+pub mod RdbLemmas
+pub mod RowLemmas
+pub mod StageLawLemmas
+pub mod TableLawLemmas
+pub mod TableLemmas

@@ -1,7 +1,0 @@
--- What is left to find is what the rows from the last one passed on have.
-use Rattle.std.proofs.Common.{◌≡◌, ◌-◌, ◌<◌, drop}
-use Rattle.ratings.specs.Table.{order_fault}
-use Rattle.ratings.proofs.table.find_order_fault.Given as goal
-
-abbrev pub invariant-loop-i : goal.invariant-loop-i
-invariant-loop-i l = (0 < l.i) × (order_fault 0 l.rows ≡ order_fault (l.i - 1) (drop (l.i - 1) l.rows))

@@ -1,7 +1,7 @@
 -- Why there is no such edit.
 use Rattle.edits.specs.Lawful.{IsLawful}
 use Rattle.edits.specs.declared.content.What.{What}
-use Rattle.edits.specs.declared.content.What.TheVariants.{AddStation, SetStation, PutReadings, PutCorrection, DropCorrection, PutShift, DropShift}
+use Rattle.edits.specs.declared.content.What.TheVariants.{AddStation, SetStation, PutReadings, PutCorrection, DropCorrection, PutShift, DropShift, AddRating, PutPeriod, DropPeriod, PutMeasurement, DropMeasurement}
 use Rattle.edits.specs.declared.faults.EditFault.{EditFault}
 use Rattle.edits.specs.declared.faults.EditFault.TheVariants.{NotLawful, NoMemory}
 
@@ -14,6 +14,11 @@ AddsStation (PutCorrection set at curve prorate) = ⊥
 AddsStation (DropCorrection set at) = ⊥
 AddsStation (PutShift at curve prorate) = ⊥
 AddsStation (DropShift at) = ⊥
+AddsStation (AddRating rating table) = ⊥
+AddsStation (PutPeriod period) = ⊥
+AddsStation (DropPeriod from) = ⊥
+AddsStation (PutMeasurement measurement) = ⊥
+AddsStation (DropMeasurement number) = ⊥
 
 -- `NotLawful` where it is not lawful, and `NoMemory` only where it is and adds a station
 abbrev pub IsEditFault : What → EditFault → Type 0

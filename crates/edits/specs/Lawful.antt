@@ -1,15 +1,18 @@
 -- What an edit keeps to, by its kind.
-use Rattle.std.specs.Prelude.{◌≡◌, ℕ, ◌≤◌, List, length, All, ℤ}
+use Rattle.std.specs.Prelude.{◌≡◌, ℕ, ◌≤◌, List, length, All, IfSome, ℤ}
 use Rattle.civil_days.specs.Starts.{IsZone}
 use Rattle.curves.specs.Curve.{stage_of}
 use Rattle.edits.specs.Texts.{IsName}
 use Rattle.edits.specs.declared.content.What.{What}
-use Rattle.edits.specs.declared.content.What.TheVariants.{AddStation, SetStation, PutReadings, PutCorrection, DropCorrection, PutShift, DropShift}
-use Rattle.fixed_units.specs.Quantities.{IsAmount, IsStage, IsStamp}
+use Rattle.edits.specs.declared.content.What.TheVariants.{AddStation, SetStation, PutReadings, PutCorrection, DropCorrection, PutShift, DropShift, AddRating, PutPeriod, DropPeriod, PutMeasurement, DropMeasurement}
+use Rattle.edits.specs.declared.measurements.Measurement.{Measurement}
+use Rattle.fixed_units.specs.Quantities.{IsAmount, IsDischarge, IsStage, IsStamp}
 use Rattle.fixed_units.specs.RoundingArray.{IsRoundingArray}
 use Rattle.fixed_units.specs.declared.readings.Flag.TheVariants.{Usable}
 use Rattle.fixed_units.specs.declared.readings.Reading.{Reading}
 use Rattle.readings.specs.Readings.{IsRising}
+use Rattle.rating_tables.specs.Table.{IsRating}
+use Rattle.ratings.specs.Spans.{Span, EndsLater}
 use Rattle.rising.specs.Lists as lists
 
 -- a gap tolerance is 1 to 720 minutes
@@ -66,6 +69,30 @@ pub record IsPutCurve (points : List (ℤ × ℤ)) : Type 0 where
   pub rising : lists.IsRising stage_of points
   pub each : All IsPutPoint points
 
+-- the number of a rating: 1 to 999,999
+pub record IsRatingNumber (rating : ℕ) : Type 0 where
+  pub least : 1 ≤ rating
+  pub greatest : rating ≤ 999_999
+
+-- a period that is put: of a rating, from a stamp until a later one, or without end
+pub record IsPutPeriod (period : Span) : Type 0 where
+  pub rating : IsRatingNumber period.rating
+  pub begins : IsStamp period.from
+  pub ends : IfSome period.until IsStamp
+  pub ordered : EndsLater period
+
+-- the number of a measurement: from 1, in 32 bits
+pub record IsMeasurementNumber (number : ℕ) : Type 0 where
+  pub least : 1 ≤ number
+  pub greatest : number ≤ 4_294_967_295
+
+-- a measurement that is put: a discharge at a gage height, made at a stamp
+pub record IsPutMeasurement (measurement : Measurement) : Type 0 where
+  pub numbered : IsMeasurementNumber measurement.number
+  pub stamp : IsStamp measurement.at
+  pub gage : IsStage measurement.gage
+  pub discharge : IsDischarge measurement.discharge
+
 -- what an edit of each kind is lawful by
 abbrev pub IsLawful : What → Type 0
 IsLawful (AddStation name zone gap stage_array discharge_array) =
@@ -76,3 +103,8 @@ IsLawful (PutCorrection set at curve prorate) = IsSetNumber set × IsStamp at ×
 IsLawful (DropCorrection set at) = IsSetNumber set × IsStamp at
 IsLawful (PutShift at curve prorate) = IsStamp at × IsPutCurve curve
 IsLawful (DropShift at) = IsStamp at
+IsLawful (AddRating rating table) = IsRatingNumber rating × IsRating table
+IsLawful (PutPeriod period) = IsPutPeriod period
+IsLawful (DropPeriod from) = IsStamp from
+IsLawful (PutMeasurement measurement) = IsPutMeasurement measurement
+IsLawful (DropMeasurement number) = IsMeasurementNumber number

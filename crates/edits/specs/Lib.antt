@@ -1,4 +1,5 @@
 pub mod Faults
+pub mod Grades
 pub mod Lawful
 pub mod Same
 pub mod Single

@@ -1,20 +1,40 @@
 -- When two edits are the same: member by member.
-use Rattle.std.specs.Prelude.{Bool, false, ◌&&◌, ◌==◌, bytes_eq}
+use Rattle.std.specs.Prelude.{Bool, true, false, ◌&&◌, ◌==◌, bytes_eq, Option, Some, None, ℤ}
 use Rattle.std.specs.Ordering.{int_eq}
 use Rattle.curves.specs.Entries.{entry_of}
 use Rattle.curves.specs.Equality.{same_entry}
 use Rattle.edits.specs.declared.content.Edit.{Edit}
 use Rattle.edits.specs.declared.content.What.{What}
-use Rattle.edits.specs.declared.content.What.TheVariants.{AddStation, SetStation, PutReadings, PutCorrection, DropCorrection, PutShift, DropShift}
+use Rattle.edits.specs.declared.content.What.TheVariants.{AddStation, SetStation, PutReadings, PutCorrection, DropCorrection, PutShift, DropShift, AddRating, PutPeriod, DropPeriod, PutMeasurement, DropMeasurement}
+use Rattle.edits.specs.Grades.{grade_number}
+use Rattle.edits.specs.declared.measurements.Measurement.{Measurement}
 use Rattle.fixed_units.specs.Quantities.{same_site}
+use Rattle.rating_tables.specs.RowEquality.{same_rows}
+use Rattle.ratings.specs.Spans.{Span}
 use Rattle.readings.specs.Equality.{same_readings}
 
 -- sent by the same person, under the same reference and about the same site
 abbrev pub are_sent_alike : Edit → Edit → Bool
 are_sent_alike a b = bytes_eq a.by b.by && (bytes_eq a.reference b.reference && same_site a.site b.site)
 
--- of one kind, and each member of what is changed is the same: a zone by its text, readings by instant, stage and flag, and a curve
--- by its points
+-- the ends are one, or there is none
+abbrev pub same_end : Option ℤ → Option ℤ → Bool
+same_end None None = true
+same_end (Some until) (Some its_until) = int_eq until its_until
+same_end _ _ = false
+
+-- the starts, the ends and the numbers of the ratings are
+abbrev pub same_period : Span → Span → Bool
+same_period p q = int_eq p.from q.from && (same_end p.until q.until && p.rating == q.rating)
+
+-- the numbers, the instants, the gage heights, the discharges and the grades are
+abbrev pub same_measurement : Measurement → Measurement → Bool
+same_measurement a b =
+    a.number == b.number && (int_eq a.at b.at && (int_eq a.gage b.gage && (int_eq a.discharge b.discharge
+    && grade_number a.grade == grade_number b.grade)))
+
+-- of one kind, and each member of what is changed is the same: a zone by its text, readings by instant, stage and flag, a curve
+-- by its points, and a rating by its rows
 abbrev pub is_same_what : What → What → Bool
 is_same_what (AddStation name zone gap stages discharges) (AddStation its_name its_zone its_gap its_stages its_discharges) =
     bytes_eq name its_name && (bytes_eq zone its_zone && (gap == its_gap
@@ -27,6 +47,11 @@ is_same_what (PutCorrection set at curve prorate) (PutCorrection its_set its_at 
 is_same_what (DropCorrection set at) (DropCorrection its_set its_at) = set == its_set && int_eq at its_at
 is_same_what (PutShift at curve prorate) (PutShift its_at its_curve its_prorate) = same_entry (entry_of at curve prorate) (entry_of its_at its_curve its_prorate)
 is_same_what (DropShift at) (DropShift its_at) = int_eq at its_at
+is_same_what (AddRating rating table) (AddRating its_rating its_table) = rating == its_rating && same_rows table its_table
+is_same_what (PutPeriod period) (PutPeriod its_period) = same_period period its_period
+is_same_what (DropPeriod from) (DropPeriod its_from) = int_eq from its_from
+is_same_what (PutMeasurement measurement) (PutMeasurement its_measurement) = same_measurement measurement its_measurement
+is_same_what (DropMeasurement number) (DropMeasurement its_number) = number == its_number
 is_same_what _ _ = false
 
 -- sent alike, and they change the same

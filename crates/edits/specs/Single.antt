@@ -4,12 +4,15 @@ use Rattle.std.proofs.Common.{ap, ◌∙◌}
 use Rattle.std.proofs.Props.{props}
 use Rattle.civil_days.specs.Starts.{IsZone}
 use Rattle.civil_days.proofs.ZoneLemmas.{IsZone-prop}
-use Rattle.edits.specs.Lawful.{IsLawful, AreSettings, ArePutReadings, IsPutCurve, IsSetNumber, IsStationZone}
+use Rattle.edits.specs.Lawful.{IsLawful, AreSettings, ArePutReadings, IsMeasurementNumber, IsPutCurve, IsPutMeasurement, IsPutPeriod, IsRatingNumber, IsSetNumber, IsStationZone}
 use Rattle.edits.specs.Texts.{IsName}
 use Rattle.edits.specs.declared.content.What.{What}
-use Rattle.edits.specs.declared.content.What.TheVariants.{AddStation, SetStation, PutReadings, PutCorrection, DropCorrection, PutShift, DropShift}
+use Rattle.edits.specs.declared.content.What.TheVariants.{AddStation, SetStation, PutReadings, PutCorrection, DropCorrection, PutShift, DropShift, AddRating, PutPeriod, DropPeriod, PutMeasurement, DropMeasurement}
 use Rattle.fixed_units.specs.Quantities.{IsStamp}
+use Rattle.edits.specs.declared.measurements.Measurement.{Measurement}
 use Rattle.fixed_units.specs.declared.readings.Reading.{Reading}
+use Rattle.rating_tables.specs.Table.{Row, IsRating}
+use Rattle.ratings.specs.Spans.{Span}
 
 abbrev zone_of : (text : List ℕ) → IsName text → IsZone text → IsStationZone text
 zone_of text name zone = record { printed = name; is = zone }
@@ -39,6 +42,18 @@ put_shift_prop at curve = Prim.hlevel props
 stamp_prop : (at : ℤ) → IsProp (IsStamp at)
 stamp_prop at = Prim.hlevel props
 
+add_rating_prop : (rating : ℕ) (table : List Row) → IsProp (IsRatingNumber rating × IsRating table)
+add_rating_prop rating table = Prim.hlevel props
+
+period_prop : (period : Span) → IsProp (IsPutPeriod period)
+period_prop period = Prim.hlevel props
+
+measurement_prop : (measurement : Measurement) → IsProp (IsPutMeasurement measurement)
+measurement_prop measurement = Prim.hlevel props
+
+number_prop : (number : ℕ) → IsProp (IsMeasurementNumber number)
+number_prop number = Prim.hlevel props
+
 pub IsLawful-prop : (what : What) → IsProp (IsLawful what)
 IsLawful-prop (AddStation name zone gap stages discharges) a b =
     ap (λ (x : AreSettings name gap stages discharges). (x, a.1)) (settings_prop name gap stages discharges a.0 b.0) ∙ ap (λ (x : IsStationZone zone). (b.0, x)) (IsStationZone-prop zone a.1 b.1)
@@ -48,3 +63,8 @@ IsLawful-prop (PutCorrection set at curve prorate) a b = put_correction_prop set
 IsLawful-prop (DropCorrection set at) a b = drop_correction_prop set at a b
 IsLawful-prop (PutShift at curve prorate) a b = put_shift_prop at curve a b
 IsLawful-prop (DropShift at) a b = stamp_prop at a b
+IsLawful-prop (AddRating rating table) a b = add_rating_prop rating table a b
+IsLawful-prop (PutPeriod period) a b = period_prop period a b
+IsLawful-prop (DropPeriod from) a b = stamp_prop from a b
+IsLawful-prop (PutMeasurement measurement) a b = measurement_prop measurement a b
+IsLawful-prop (DropMeasurement number) a b = number_prop number a b

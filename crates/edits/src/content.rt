@@ -3,10 +3,12 @@
 ghost use Rattle.edits.specs.Lawful.{IsLawful};
 ghost use Rattle.edits.specs.Single.{IsLawful-prop};
 
+use crate::measurements::Measurement;
 use crate::names::Name;
 use crate::senders::{By, Ref};
 use curves::Curve;
 use fixed_units::{RoundingArray, Second, Site};
+use ratings::{Period, SharedTable};
 use readings::ReadingList;
 
 /// What an edit changes.
@@ -72,6 +74,33 @@ pub enum What {
     DropShift {
         /// The instant of the entry: a stamp.
         at: Second,
+    },
+    /// Adds a rating, which stays as it is.
+    AddRating {
+        /// The number of the rating, 1 to 999,999.
+        rating: u32,
+        /// Its table: stages of at most 100,000 feet either way, and discharges of 0 to 10,000,000 cubic feet per second.
+        table: SharedTable,
+    },
+    /// Puts a period, in which a rating is in force, in place of the one of its start.
+    PutPeriod {
+        /// The period: of a rating of a number from 1 to 999,999, from a stamp until a later one, or without end.
+        period: Period,
+    },
+    /// Takes out the period that begins at an instant.
+    DropPeriod {
+        /// The start of the period: a stamp.
+        from: Second,
+    },
+    /// Puts a field measurement in place of the one of its number.
+    PutMeasurement {
+        /// The measurement.
+        measurement: Measurement,
+    },
+    /// Takes out the field measurement of a number.
+    DropMeasurement {
+        /// The number, from 1.
+        number: u32,
     },
 }
 

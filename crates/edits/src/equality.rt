@@ -1,18 +1,20 @@
 //! Whether two edits are the same: by their values, however they were spelled.
 
 ghost use Rattle.std.specs.Prelude.{◌≡◌, ◌↔◌, true};
-ghost use Rattle.edits.specs.Same.{are_sent_alike, is_same, is_same_what};
-ghost use Rattle.edits.specs.declared.content.What.TheVariants.{AddStation, SetStation, PutReadings, PutCorrection, DropCorrection, PutShift, DropShift};
+ghost use Rattle.edits.specs.Same.{are_sent_alike, is_same, is_same_what, same_period};
+ghost use Rattle.edits.specs.declared.content.What.TheVariants.{AddStation, SetStation, PutReadings, PutCorrection, DropCorrection, PutShift, DropShift, AddRating, PutPeriod, DropPeriod, PutMeasurement, DropMeasurement};
 
 use crate::content::{Edit, What};
+use crate::measurements::Measurement;
 use crate::names::Name;
 use curves::{Entry, is_same_entry};
 use fixed_units::{Reading, RoundingArray, Second};
+use ratings::{Period, SharedTable};
 use readings::are_same;
 
 impl Edit {
-    /// Whether the edits are equal in every value: a zone by its text, readings by instant, stage and flag, and a curve by its
-    /// points.
+    /// Whether the edits are equal in every value: a zone by its text, readings by instant, stage and flag, a curve by its points,
+    /// and a rating by its rows.
     pub fn is_same(&self, other: &Edit) -> bool
         ensures same { result ≡ is_same self.now other.now }
         ensures equal { result ≡ true ↔ self.now ≡ other.now }
@@ -62,6 +64,11 @@ fn is_same_what(what: &What, other: &What) -> bool
             is_put_shift(other, &Entry::new(*at, *curve, *prorate))
         }
         What::DropShift { at } => is_dropped_shift(other, *at),
+        What::AddRating { rating, table } => is_added_rating(other, *rating, table),
+        What::PutPeriod { period } => is_put_period(other, period),
+        What::DropPeriod { from } => is_dropped_period(other, *from),
+        What::PutMeasurement { measurement } => is_put_measurement(other, measurement),
+        What::DropMeasurement { number } => is_dropped_measurement(other, *number),
     }
 }
 
@@ -187,6 +194,72 @@ fn is_dropped_shift(what: &What, at: Second) -> bool
 {
     match what {
         What::DropShift { at: own_at } => at == *own_at,
+        _ => false,
+    }
+}
+
+/// Whether this adds the rating of a number and a table.
+fn is_added_rating(what: &What, rating: u32, table: &SharedTable) -> bool
+    ensures same { result ≡ is_same_what (AddRating rating table.now) what.now }
+    ensures equal { result ≡ true ↔ what.now ≡ AddRating rating table.now }
+{
+    match what {
+        What::AddRating {
+            rating: own_rating,
+            table: own_table,
+        } => rating == *own_rating && table.is_same(own_table),
+        _ => false,
+    }
+}
+
+/// Whether this puts the period.
+fn is_put_period(what: &What, period: &Period) -> bool
+    ensures same { result ≡ is_same_what (PutPeriod period.now) what.now }
+    ensures equal { result ≡ true ↔ what.now ≡ PutPeriod period.now }
+{
+    match what {
+        What::PutPeriod { period: own } => is_same_period(period, own),
+        _ => false,
+    }
+}
+
+/// Whether two periods are equal.
+fn is_same_period(period: &Period, other: &Period) -> bool
+    ensures same { result ≡ same_period period.now other.now }
+    ensures equal { result ≡ true ↔ other.now ≡ period.now }
+{
+    period.from == other.from && period.until == other.until && period.rating == other.rating
+}
+
+/// Whether this takes out the period that begins at an instant.
+fn is_dropped_period(what: &What, from: Second) -> bool
+    ensures same { result ≡ is_same_what (DropPeriod from) what.now }
+    ensures equal { result ≡ true ↔ what.now ≡ DropPeriod from }
+{
+    match what {
+        What::DropPeriod { from: own_from } => from == *own_from,
+        _ => false,
+    }
+}
+
+/// Whether this puts the measurement.
+fn is_put_measurement(what: &What, measurement: &Measurement) -> bool
+    ensures same { result ≡ is_same_what (PutMeasurement measurement.now) what.now }
+    ensures equal { result ≡ true ↔ what.now ≡ PutMeasurement measurement.now }
+{
+    match what {
+        What::PutMeasurement { measurement: own } => measurement.is_same(own),
+        _ => false,
+    }
+}
+
+/// Whether this takes out the measurement of a number.
+fn is_dropped_measurement(what: &What, number: u32) -> bool
+    ensures same { result ≡ is_same_what (DropMeasurement number) what.now }
+    ensures equal { result ≡ true ↔ what.now ≡ DropMeasurement number }
+{
+    match what {
+        What::DropMeasurement { number: own_number } => number == *own_number,
         _ => false,
     }
 }

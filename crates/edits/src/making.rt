@@ -1,19 +1,23 @@
-//! How an edit is made: whether what it changes is lawful is tested here, and nowhere else.
+//! How an edit is made: whether what it changes is lawful is tested here, whole and by its members.
 
-ghost use Rattle.std.specs.Prelude.{◌≡◌, ◌↔◌, true, IfOk, IfErr, OnErr, All};
+ghost use Rattle.std.specs.Prelude.{◌≡◌, ◌↔◌, true, IfOk, IfErr, IfSome, OnErr, All};
 ghost use Rattle.civil_days.specs.Starts.{IsZone};
 ghost use Rattle.edits.specs.Faults.{AddsStation, IsEditFault};
-ghost use Rattle.edits.specs.Lawful.{IsLawful, AreSettings, ArePutReadings, IsGap, IsPutCurve, IsPutPoint, IsPutReading, IsSetNumber, IsStationZone};
+ghost use Rattle.edits.specs.Lawful.{IsLawful, AreSettings, ArePutReadings, IsGap, IsMeasurementNumber, IsPutCurve, IsPutMeasurement, IsPutPeriod, IsPutPoint, IsPutReading, IsRatingNumber, IsSetNumber, IsStationZone};
+ghost use Rattle.fixed_units.specs.Quantities.{IsStamp};
 
 use crate::content::{Edit, What};
 use crate::faults::EditFault;
+use crate::measurements::Measurement;
 use crate::names::is_name;
 use crate::senders::{By, Ref};
 use civil_days::{StationZone, ZoneFault};
 use curves::Curve;
 use fixed_units::{
-    Flag, Micro, NoMemory, Reading, RoundingArray, Site, is_amount, is_stage, is_stamp,
+    Flag, Micro, NoMemory, Reading, RoundingArray, Second, Site, is_amount, is_discharge, is_stage,
+    is_stamp,
 };
+use ratings::Period;
 use std::alloc::Global;
 
 impl Edit {
@@ -88,6 +92,13 @@ fn is_lawful(alloc: Global, what: &What) -> Result<bool, NoMemory>
         What::DropCorrection { set, at } => Ok(is_set_number(*set) && is_stamp(at.get())),
         What::PutShift { at, curve, .. } => Ok(is_stamp(at.get()) && is_put_curve(curve)),
         What::DropShift { at } => Ok(is_stamp(at.get())),
+        What::AddRating { rating, table } => {
+            Ok(is_rating_number(*rating) && table.table().is_rating())
+        }
+        What::PutPeriod { period } => Ok(is_put_period(period)),
+        What::DropPeriod { from } => Ok(is_stamp(from.get())),
+        What::PutMeasurement { measurement } => Ok(is_put_measurement(measurement)),
+        What::DropMeasurement { number } => Ok(is_measurement_number(*number)),
     }
 }
 
@@ -171,4 +182,45 @@ pub fn is_put_point(point: &(Micro, Micro)) -> bool
     ensures { result ≡ true ↔ IsPutPoint point.now }
 {
     is_stage(point.0.get()) && is_amount(point.1.get())
+}
+
+/// Whether the number is that of a rating: 1 to 999,999.
+pub fn is_rating_number(rating: u32) -> bool
+    ensures { result ≡ true ↔ IsRatingNumber rating }
+{
+    (1..=999_999).contains(&rating)
+}
+
+/// Whether an edit may put this period, which ends after it begins.
+pub fn is_put_period(period: &Period) -> bool
+    ensures { result ≡ true ↔ IsPutPeriod period.now }
+{
+    is_rating_number(period.rating) && is_stamp(period.from.get()) && is_stamp_or_none(period.until)
+}
+
+/// Whether an end, if there is one, is a stamp.
+fn is_stamp_or_none(until: Option<Second>) -> bool
+    ensures { result ≡ true ↔ IfSome until IsStamp }
+{
+    match until {
+        Some(until) => is_stamp(until.get()),
+        None => true,
+    }
+}
+
+/// Whether the number is that of a measurement: from 1.
+pub fn is_measurement_number(number: u32) -> bool
+    ensures { result ≡ true ↔ IsMeasurementNumber number }
+{
+    1 <= number
+}
+
+/// Whether an edit may put this measurement.
+pub fn is_put_measurement(measurement: &Measurement) -> bool
+    ensures { result ≡ true ↔ IsPutMeasurement measurement.now }
+{
+    is_measurement_number(measurement.number)
+        && is_stamp(measurement.at.get())
+        && is_stage(measurement.gage.get())
+        && is_discharge(measurement.discharge.get())
 }

@@ -2,8 +2,8 @@
 
 use crate::fixtures::{AB, Change, DISCHARGES, STAGES, Sent, curve, edit, made, name, reading};
 use edits::{
-    By, EditFault, Ref, are_put_readings, are_settings, is_gap, is_name, is_put_curve,
-    is_put_point, is_set_number, is_zone,
+    By, EditFault, Grade, Ref, are_put_readings, are_settings, is_gap, is_measurement_number,
+    is_name, is_put_curve, is_put_point, is_rating_number, is_set_number, is_zone,
 };
 use fixed_units::Flag::{Affected, Usable};
 use fixed_units::Micro;
@@ -130,8 +130,50 @@ fn points_are_tested(rt: HostRuntime) {
     assert!(rt; wrong.is_none(), "{wrong:?}");
 }
 
+/// Numbers, and whether each is that of a rating and of a measurement.
+const NUMBERS: [(u32, [bool; 2]); 5] = [
+    (0, [false, false]),
+    (1, [true, true]),
+    (999_999, [true, true]),
+    (1_000_000, [false, true]),
+    (4_294_967_295, [false, true]),
+];
+
+fn first_wrong_number() -> Option<u32> {
+    for (number, good) in &NUMBERS {
+        if [is_rating_number(*number), is_measurement_number(*number)] != *good {
+            return Some(*number);
+        }
+    }
+    None
+}
+
+#[test]
+fn numbers_of_ratings_and_measurements_are_tested(rt: HostRuntime) {
+    let wrong = first_wrong_number();
+    assert!(rt; wrong.is_none(), "{wrong:?}");
+}
+
+/// The numbers of grades, and a number of none.
+#[test]
+fn grades_are_numbered(rt: HostRuntime) {
+    let grades = [Grade::Excellent, Grade::Good, Grade::Fair, Grade::Poor];
+    assert!(rt; grades.map(|grade| grade.number()) == [0, 1, 2, 3]);
+    assert!(rt; Grade::of_number(3) == Some(Grade::Poor));
+    assert!(rt; Grade::of_number(4).is_none());
+}
+
+/// The rows of two ratings in millionths, and of one that no edit adds.
+const ROWS: &[(i64, i64)] = &[(0, 0), (1, 0)];
+
+const OTHER_ROWS: &[(i64, i64)] = &[(0, 0), (1, 1)];
+
+const BELOW: &[(i64, i64)] = &[(0, -1), (1, 0)];
+
+const TOO_HIGH: &[(i64, i64)] = &[(0, 0), (100_000_000_001, 0)];
+
 /// What may not be changed, told by its place from 0 on.
-const UNLAWFUL: [Change; 17] = [
+const UNLAWFUL: [Change; 30] = [
     Change::Addition("-05:00", 721, STAGES),
     Change::Addition("-05:60", 720, STAGES),
     Change::Setting("A", 0, STAGES),
@@ -149,6 +191,19 @@ const UNLAWFUL: [Change; 17] = [
     Change::Shift((4_102_185_600, &[(0, 0)], false)),
     Change::Shift((0, &[(0, 0), (1, 0), (2, -1_000_000_001)], false)),
     Change::NoShift(4_102_185_600),
+    Change::Rating(0, ROWS),
+    Change::Rating(1_000_000, ROWS),
+    Change::Rating(1, BELOW),
+    Change::Rating(1, TOO_HIGH),
+    Change::Period(0, 0, None),
+    Change::Period(1, 4_102_185_600, None),
+    Change::Period(1, 0, Some(4_102_185_600)),
+    Change::NoPeriod(4_102_185_600),
+    Change::Measurement((0, 0, 0, 0, Grade::Good)),
+    Change::Measurement((1, 4_102_185_600, 0, 0, Grade::Good)),
+    Change::Measurement((1, 0, 100_000_000_001, 0, Grade::Good)),
+    Change::Measurement((1, 0, 0, -1, Grade::Good)),
+    Change::NoMeasurement(0),
 ];
 
 fn fault(alloc: Global, change: Change) -> Option<EditFault> {
@@ -173,7 +228,7 @@ fn what_is_not_lawful_makes_no_edit(rt: HostRuntime) {
 const SET: Change = Change::Setting("A", 1, STAGES);
 
 /// Edits of which no two are the same, told by their places from 0 on.
-const EDITS: [&Sent; 28] = [
+const EDITS: [&Sent; 45] = [
     &(AB, "a1", Change::Addition("+00:00", 720, STAGES)),
     &(AB, "a1", Change::Addition("-00:00", 720, STAGES)),
     &(AB, "a1", Change::Addition("+00:00", 719, STAGES)),
@@ -202,6 +257,23 @@ const EDITS: [&Sent; 28] = [
     &(AB, "a1", Change::Shift((0, &[(0, 0)], true))),
     &(AB, "a1", Change::NoShift(0)),
     &(AB, "a1", Change::NoShift(1)),
+    &(AB, "a1", Change::Rating(1, ROWS)),
+    &(AB, "a1", Change::Rating(2, ROWS)),
+    &(AB, "a1", Change::Rating(1, OTHER_ROWS)),
+    &(AB, "a1", Change::Period(1, 0, None)),
+    &(AB, "a1", Change::Period(2, 0, None)),
+    &(AB, "a1", Change::Period(1, 1, None)),
+    &(AB, "a1", Change::Period(1, 0, Some(1))),
+    &(AB, "a1", Change::Period(1, 0, Some(2))),
+    &(AB, "a1", Change::NoPeriod(0)),
+    &(AB, "a1", Change::NoPeriod(1)),
+    &(AB, "a1", Change::Measurement((1, 0, 0, 0, Grade::Good))),
+    &(AB, "a1", Change::Measurement((2, 0, 0, 0, Grade::Good))),
+    &(AB, "a1", Change::Measurement((1, 1, 0, 0, Grade::Good))),
+    &(AB, "a1", Change::Measurement((1, 0, 1, 0, Grade::Good))),
+    &(AB, "a1", Change::Measurement((1, 0, 0, 1, Grade::Good))),
+    &(AB, "a1", Change::Measurement((1, 0, 0, 0, Grade::Fair))),
+    &(AB, "a1", Change::NoMeasurement(1)),
     &(AB, "a1", SET),
     &(AB, "a2", SET),
     &(("AC", 8, 1_646_500), "a1", SET),

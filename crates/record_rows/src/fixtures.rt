@@ -1,8 +1,10 @@
 //! Edits of the rows as plain values, and the edits for which these stand.
 
 use curves::Curve;
-use edits::{By, Edit, EditFault, Name, Ref, What};
+use edits::{By, Edit, EditFault, Grade, Measurement, Name, Ref, What};
 use fixed_units::{Flag, Micro, Reading, RoundingArray, Second, Site, Text};
+use rating_tables::{SharedTable, Table};
+use ratings::Period;
 use readings::ReadingList;
 use std::alloc::Global;
 
@@ -31,7 +33,20 @@ pub enum Change {
     Shift(Put),
     /// Takes the entry at a second out of the shifts.
     NoShift(i64),
+    /// Adds the rating of a number: the stages and the discharges of its rows in millionths.
+    Rating(u32, &'static [(i64, i64)]),
+    /// Puts a period: the number of its rating, its start and its end.
+    Period(u32, i64, Option<i64>),
+    /// Takes out the period that begins at a second.
+    NoPeriod(i64),
+    /// Puts a measurement.
+    Measurement(Measured),
+    /// Takes out the measurement of a number.
+    NoMeasurement(u32),
 }
+
+/// A measurement: its number, its second, its gage height and its discharge in millionths, and its grade.
+pub type Measured = (u32, i64, i64, i64, Grade);
 
 /// An entry: its second, the stages and the amounts of its points in millionths of a foot, and whether it prorates.
 pub type Put = (i64, &'static [(i64, i64)], bool);
@@ -111,6 +126,39 @@ fn shift(put: Put) -> Option<What> {
     })
 }
 
+/// The table of these rows in millionths.
+fn table(alloc: Global, rows: &[(i64, i64)]) -> Option<SharedTable> {
+    let mut kept = Vec::new(alloc);
+    for (stage, discharge) in rows {
+        let row = (Micro::new(*stage)?, Micro::new(*discharge)?);
+        kept.push(row).ok()?;
+    }
+    SharedTable::new(alloc, Table::new(alloc, &kept).ok()?).ok()
+}
+
+fn period(rating: u32, from: i64, until: Option<i64>) -> Option<What> {
+    let until = match until {
+        Some(until) => Some(Second::new(until)?),
+        None => None,
+    };
+    Some(What::PutPeriod {
+        period: Period::new(Second::new(from)?, until, rating)?,
+    })
+}
+
+fn measurement(measured: Measured) -> Option<What> {
+    let (number, at, gage, discharge, grade) = measured;
+    Some(What::PutMeasurement {
+        measurement: Measurement {
+            number,
+            at: Second::new(at)?,
+            gage: Micro::new(gage)?,
+            discharge: Micro::new(discharge)?,
+            grade,
+        },
+    })
+}
+
 fn what(alloc: Global, change: Change) -> Option<What> {
     match change {
         Change::Addition(zone, gap, array) => {
@@ -130,6 +178,16 @@ fn what(alloc: Global, change: Change) -> Option<What> {
         Change::NoShift(at) => Some(What::DropShift {
             at: Second::new(at)?,
         }),
+        Change::Rating(rating, rows) => Some(What::AddRating {
+            rating,
+            table: table(alloc, rows)?,
+        }),
+        Change::Period(rating, from, until) => period(rating, from, until),
+        Change::NoPeriod(from) => Some(What::DropPeriod {
+            from: Second::new(from)?,
+        }),
+        Change::Measurement(measured) => measurement(measured),
+        Change::NoMeasurement(number) => Some(What::DropMeasurement { number }),
     }
 }
 

@@ -10,4 +10,6 @@ mod fixtures;
 #[cfg(test)]
 mod payloads;
 #[cfg(test)]
+mod rating_fields;
+#[cfg(test)]
 mod refusals;

@@ -1,6 +1,7 @@
 //! The bytes of records, written out by hand.
 
 use crate::fixtures::{AB, Change, DISCHARGES, STAGES, Sent, edit};
+use edits::Grade;
 use fixed_units::Flag::Usable;
 use records::laws::{keeps_grammar, none_begins_another, payload_of_one_record, sizes};
 use records::{DecodeFault, Record, decode, encode, encode_and_close};
@@ -38,8 +39,46 @@ const SHIFT: &[u8] =
 const NO_SHIFT: &[u8] =
     b"\x18\0\0\0\x09\x02AB\x02s2\x08\xa4\x1f\x19\0\0\0\0\0\x80\x24\x58\x7c\xff\xff\xff\xff";
 
+/// POTOMAC with an array of discharges of its own.
+const POTOMAC: &[u8] =
+    b"\x37\0\0\0\x01\x02AB\x02a1\x08\xa4\x1f\x19\0\0\0\0\0\x07POTOMAC\x06-05:00\xd0\x02\0\099999999920222233332";
+
+/// Its first rating goes from 10 cubic feet per second at 1.00 feet to 30 at 2.00 feet.
+const RATING: &[u8] =
+    b"\x38\0\0\0\x0a\x02AB\x02a2\x08\xa4\x1f\x19\0\0\0\0\0\x01\0\0\0\x02\0\0\0\x40\x42\x0f\0\0\0\0\0\x80\x96\x98\0\0\0\0\0\x80\x84\x1e\0\0\0\0\0\x80\xc3\xc9\x01\0\0\0\0";
+
+/// It is in force from 2023-01-01T00:00:00Z on, without end.
+const PERIOD: &[u8] =
+    b"\x1d\0\0\0\x0b\x02AB\x02a3\x08\xa4\x1f\x19\0\0\0\0\0\x01\0\0\0\0\xcd\xb0\x63\0\0\0\0\0";
+
+/// The rating 999,999 is in force from the first stamp until the last.
+const ENDED: &[u8] =
+    b"\x25\0\0\0\x0b\x02AB\x02p2\x08\xa4\x1f\x19\0\0\0\0\0\x3f\x42\x0f\0\x80\x24\x58\x7c\xff\xff\xff\xff\x01\x7f\x62\x82\xf4\0\0\0\0";
+
+/// The period that begins with 2023 is dropped.
+const NO_PERIOD: &[u8] =
+    b"\x18\0\0\0\x0c\x02AB\x02p3\x08\xa4\x1f\x19\0\0\0\0\0\0\xcd\xb0\x63\0\0\0\0";
+
+/// The first measurement found 10 cubic feet per second at 1.00 feet, and was fair.
+const MEASUREMENT: &[u8] =
+    b"\x2d\0\0\0\x0f\x02AB\x02m1\x08\xa4\x1f\x19\0\0\0\0\0\x01\0\0\0\xd0\x8c\x97\x65\0\0\0\0\x40\x42\x0f\0\0\0\0\0\x80\x96\x98\0\0\0\0\0\x02";
+
+/// The measurement of the greatest number is dropped.
+const NO_MEASUREMENT: &[u8] =
+    b"\x14\0\0\0\x10\x02AB\x02m2\x08\xa4\x1f\x19\0\0\0\0\0\xff\xff\xff\xff";
+
+/// The rows of that rating in millionths.
+const ROWS: &[(i64, i64)] = &[(1_000_000, 10_000_000), (2_000_000, 30_000_000)];
+
+/// The edits of a new station with one rating, and how many bytes each takes in a journal, its gate counted.
+const STATION: [(&Sent, usize); 3] = [
+    (&(AB, "a1", Change::Addition("-05:00", 720, DISCHARGES)), 60),
+    (&(AB, "a2", Change::Rating(1, ROWS)), 61),
+    (&(AB, "a3", Change::Period(1, 1_672_531_200, None)), 34),
+];
+
 /// Edits, and the bytes of their records.
-const RECORDS: [(&Sent, &[u8]); 8] = [
+const RECORDS: [(&Sent, &[u8]); 15] = [
     (
         &(AB, "a1", Change::Addition("-05:00", 720, STAGES)),
         ADDITION,
@@ -93,6 +132,33 @@ const RECORDS: [(&Sent, &[u8]); 8] = [
         SHIFT,
     ),
     (&(AB, "s2", Change::NoShift(-2_208_816_000)), NO_SHIFT),
+    (
+        &(AB, "a1", Change::Addition("-05:00", 720, DISCHARGES)),
+        POTOMAC,
+    ),
+    (&(AB, "a2", Change::Rating(1, ROWS)), RATING),
+    (&(AB, "a3", Change::Period(1, 1_672_531_200, None)), PERIOD),
+    (
+        &(
+            AB,
+            "p2",
+            Change::Period(999_999, -2_208_816_000, Some(4_102_185_599)),
+        ),
+        ENDED,
+    ),
+    (&(AB, "p3", Change::NoPeriod(1_672_531_200)), NO_PERIOD),
+    (
+        &(
+            AB,
+            "m1",
+            Change::Measurement((1, 1_704_430_800, 1_000_000, 10_000_000, Grade::Fair)),
+        ),
+        MEASUREMENT,
+    ),
+    (
+        &(AB, "m2", Change::NoMeasurement(4_294_967_295)),
+        NO_MEASUREMENT,
+    ),
 ];
 
 /// The payload of a record: its bytes but for the four of the length.
@@ -149,6 +215,30 @@ fn records_are_written_and_read(rt: HostRuntime) {
     sizes();
     let otherwise = first_otherwise(rt.alloc());
     assert!(rt; otherwise.is_none(), "{otherwise:?}");
+}
+
+/// How many bytes the record of an edit takes, with the gate behind it for the one before it.
+fn taken(alloc: Global, sent: &Sent) -> Option<usize> {
+    let piece = Record {
+        edit: edit(alloc, sent)?,
+    };
+    Some(encode_and_close(alloc, &piece).ok()?.as_slice().len())
+}
+
+/// The reference of the first edit whose record takes another number of bytes.
+fn first_of_other_length(alloc: Global) -> Option<&'static str> {
+    for (sent, len) in &STATION {
+        if taken(alloc, sent) != Some(*len) {
+            return Some(sent.1);
+        }
+    }
+    None
+}
+
+#[test]
+fn a_station_with_a_rating_takes_so_many_bytes(rt: HostRuntime) {
+    let other = first_of_other_length(rt.alloc());
+    assert!(rt; other.is_none(), "{other:?}");
 }
 
 fn is_refused(alloc: Global, bytes: &[u8]) -> bool {

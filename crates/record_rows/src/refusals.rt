@@ -1,6 +1,7 @@
 //! Payloads that are no record's, each by one part, and the nearest that are.
 
 use crate::entry_fields::{DROPPED_FROM, ENTRIES, INSTANTS, PUT_INTO};
+use crate::rating_fields::{MEASUREMENTS, NUMBERS, PERIODS, RATINGS};
 use records::{DecodeFault, decode};
 use std::alloc::Global;
 
@@ -249,18 +250,23 @@ const READINGS: [Row; 9] = [
 ];
 
 /// Payloads with a byte behind the last field, and of kinds that there are not.
-const OTHERS: [Row; 7] = [
+const OTHERS: [Row; 9] = [
     (&[ADD, BY, REF, SITE, NAME, ZONE, GAP, ARRAYS, b"\0"], true),
     (&[SET, BY, REF, SITE, NAME, GAP, ARRAYS, b"\0"], true),
     (&[PUT, BY, REF, SITE, READING, b"\0"], true),
     (&[b"\0", BY, REF, SITE, READING], true),
     (&[b"\x04", BY, REF, SITE, READING], true),
     (&[b"\x05", BY, REF, SITE, READING], true),
-    (&[b"\x0a", BY, REF, SITE, READING], true),
+    (&[b"\x0d", BY, REF, SITE, READING], true),
+    (&[b"\x0e", BY, REF, SITE, READING], true),
+    (&[b"\x11", BY, REF, SITE, READING], true),
 ];
 
-/// Each table with the front of its payloads.
-const TABLES: [(&str, &[&[u8]], &[Row]); 11] = [
+/// The name of a table, the front of its payloads, and its rows.
+type Table = (&'static str, &'static [&'static [u8]], &'static [Row]);
+
+/// The tables of stations, readings and entries.
+const TABLES: [Table; 11] = [
     ("senders", &[], &SENDERS),
     ("stations", &[], &STATIONS),
     ("zones", &[], &ZONES),
@@ -278,9 +284,18 @@ const TABLES: [(&str, &[&[u8]], &[Row]); 11] = [
     ("sets of drops", &[b"\x07", BY, REF, SITE], &DROPPED_FROM),
 ];
 
+/// Those of ratings, periods and measurements.
+const RATED_TABLES: [Table; 5] = [
+    ("ratings", &[b"\x0a", BY, REF, SITE], &RATINGS),
+    ("periods", &[b"\x0b", BY, REF, SITE], &PERIODS),
+    ("dropped periods", &[b"\x0c", BY, REF, SITE], &INSTANTS),
+    ("measurements", &[b"\x0f", BY, REF, SITE], &MEASUREMENTS),
+    ("dropped measurements", &[b"\x10", BY, REF, SITE], &NUMBERS),
+];
+
 /// The first table with such a row, and the number of the row.
-fn first_wrong_of_all(alloc: Global) -> Option<(&'static str, usize)> {
-    for (table, front, rows) in &TABLES {
+fn first_wrong_of_all(alloc: Global, tables: &[Table]) -> Option<(&'static str, usize)> {
+    for (table, front, rows) in tables {
         if let Some(row) = first_wrong(alloc, front, rows) {
             return Some((table, row));
         }
@@ -290,6 +305,40 @@ fn first_wrong_of_all(alloc: Global) -> Option<(&'static str, usize)> {
 
 #[test]
 fn each_field_keeps_to_its_range(rt: HostRuntime) {
-    let wrong = first_wrong_of_all(rt.alloc());
+    let wrong = first_wrong_of_all(rt.alloc(), &TABLES);
     assert!(rt; wrong.is_none(), "{wrong:?}");
+}
+
+#[test]
+fn each_field_of_a_rating_keeps_to_its_range(rt: HostRuntime) {
+    let wrong = first_wrong_of_all(rt.alloc(), &RATED_TABLES);
+    assert!(rt; wrong.is_none(), "{wrong:?}");
+}
+
+/// A front, and so many rows behind it, each a millionth of a foot above the one before and of a discharge of 0.
+fn rated(alloc: Global, front: &[&[u8]], rows: u32) -> Option<Vec<u8>> {
+    let mut payload = joined(alloc, front, &[&rows.to_le_bytes()])?;
+    for stage in 0..rows {
+        payload
+            .extend_from_slice(&i64::from(stage).to_le_bytes())
+            .ok()?;
+        payload.extend_from_slice(&[0; 8]).ok()?;
+    }
+    Some(payload)
+}
+
+/// Whether a rating of so many rows is refused; `None` where memory is short.
+fn is_rating_refused(alloc: Global, rows: u32) -> Option<bool> {
+    let front: [&[u8]; 5] = [b"\x0a", BY, REF, SITE, b"\x01\0\0\0"];
+    is_refused(alloc, &[], &[&rated(alloc, &front, rows)?])
+}
+
+#[test]
+fn ratings_have_at_most_10_000_rows(rt: HostRuntime) {
+    let most = is_rating_refused(rt.alloc(), 10_000);
+    let more = is_rating_refused(rt.alloc(), 10_001);
+    assert!(rt;
+        [most, more] == [Some(false), Some(true)],
+        "{most:?} {more:?}"
+    );
 }

@@ -20,25 +20,25 @@ which false x y z e = inr (refl, e)
 
 -- ---- points
 
-abbrev FitsPoint : ℤ × ℤ → Type 0
+abbrev pub FitsPoint : ℤ × ℤ → Type 0
 FitsPoint p = FitsSigned w64 p.0 × FitsSigned w64 p.1
 
 point_reads : Reads (ℤ × ℤ) point_at point_bytes FitsPoint
 unfolding point_at
 point_reads = both_reads ℤ ℤ signed_number_at signed_number (FitsSigned w64) signed_number_at signed_number (FitsSigned w64) signed_reads signed_reads
 
-no_points : (bytes : List ℕ) → points_at 0 bytes ≡ Some ([], bytes)
+pub no_points : (bytes : List ℕ) → points_at 0 bytes ≡ Some ([], bytes)
 unfolding points_at
 no_points bytes = refl
 
-abbrev behind : ℤ × ℤ → Option (List (ℤ × ℤ) × List ℕ) → Option (List (ℤ × ℤ) × List ℕ)
+abbrev pub behind : ℤ × ℤ → Option (List (ℤ × ℤ) × List ℕ) → Option (List (ℤ × ℤ) × List ℕ)
 behind point read = read >>= λ points. Some (point ∷ points.0, points.1)
 
-next_points : (count : ℕ) (bytes : List ℕ) → points_at (suc count) bytes ≡ (point_at bytes >>= λ point. behind point.0 (points_at count point.1))
+pub next_points : (count : ℕ) (bytes : List ℕ) → points_at (suc count) bytes ≡ (point_at bytes >>= λ point. behind point.0 (points_at count point.1))
 unfolding points_at
 next_points count bytes = refl
 
-points_take : (count : ℕ) (bytes : List ℕ) (points : List (ℤ × ℤ)) (rest : List ℕ) → IsBytes bytes → points_at count bytes ≡ Some (points, rest) → Takes bytes (flat_map point_bytes points) rest × (length points ≡ count)
+pub points_take : (count : ℕ) (bytes : List ℕ) (points : List (ℤ × ℤ)) (rest : List ℕ) → IsBytes bytes → points_at count bytes ≡ Some (points, rest) → Takes bytes (flat_map point_bytes points) rest × (length points ≡ count)
 points_take zero bytes points rest fits e =
     let same = some_is ([], bytes) (points, rest) (sym (no_points bytes) ∙ e) in
     subst (λ (x : List (ℤ × ℤ) × List ℕ). Takes bytes (flat_map point_bytes x.0) x.1 × (length x.0 ≡ 0)) same
@@ -53,7 +53,7 @@ points_take (suc count) bytes points rest fits e =
     subst (λ (x : List (ℤ × ℤ) × List ℕ). Takes bytes (flat_map point_bytes x.0) x.1 × (length x.0 ≡ suc count)) (some_is made (points, rest) b.2)
     (subst (λ (t : List ℕ). Takes bytes t b.0.1) (sym (flat_map-cons point_bytes a.0.0 b.0.0)) both, ap suc others.1)
 
-points_again : (points : List (ℤ × ℤ)) (rest : List ℕ) → All FitsPoint points → points_at (length points) (flat_map point_bytes points ++ rest) ≡ Some (points, rest)
+pub points_again : (points : List (ℤ × ℤ)) (rest : List ℕ) → All FitsPoint points → points_at (length points) (flat_map point_bytes points ++ rest) ≡ Some (points, rest)
 points_again [] rest fits = no_points rest
 points_again (p ∷ points) rest fits =
     let first = point_reads.again p (flat_map point_bytes points ++ rest) (All-head FitsPoint p points fits) in
@@ -114,12 +114,12 @@ mark_takes bytes mark rest fits e =
       ]
     ]
 
-mark_again : (mark : Bool) (rest : List ℕ) → mark_at (mark_number mark ∷ rest) ≡ Some (mark, rest)
+pub mark_again : (mark : Bool) (rest : List ℕ) → mark_at (mark_number mark ∷ rest) ≡ Some (mark, rest)
 unfolding mark_at
 mark_again false rest = rw (byte_again 0 rest) refl
 mark_again true rest = rw (byte_again 1 rest) refl
 
-mark_reads : Reads Bool mark_at (λ mark. mark_number mark ∷ []) IsAny
+pub mark_reads : Reads Bool mark_at (λ mark. mark_number mark ∷ []) IsAny
 mark_reads = record { takes = mark_takes; again = λ mark rest fits. mark_again mark rest }
 
 -- ---- entries

@@ -6,13 +6,15 @@ use Rattle.std.proofs.lemmas.Bool.{eqb-true}
 use Rattle.std.proofs.lemmas.Int.{ints}
 use Rattle.edits.specs.Lawful.{IsLawful, ArePutReadings}
 use Rattle.edits.specs.declared.content.What.{What}
-use Rattle.edits.specs.declared.content.What.TheVariants.{AddStation, SetStation, PutReadings, PutCorrection, DropCorrection, PutShift, DropShift}
-use Rattle.fixed_units.specs.Quantities.{IsStamp, SiteNumber}
+use Rattle.edits.specs.declared.content.What.TheVariants.{AddStation, SetStation, PutReadings, PutCorrection, DropCorrection, PutShift, DropShift, AddRating, PutPeriod, DropPeriod, PutMeasurement, DropMeasurement}
+use Rattle.fixed_units.specs.Quantities.{IsStamp, IsStage, IsDischarge, SiteNumber}
 use Rattle.fixed_units.specs.declared.readings.Reading.{Reading}
 use Rattle.records.specs.Payloads.{short_text, signed_number, site_number, kind, fields}
-use Rattle.records.specs.Reading.{both_at, byte_at, number_at, front_at, short_text_at, signed_number_at, site_number_at, sender_at, arrays_at, addition, addition_at, setting, setting_at, put_one, put_at, reading_at, entry_at, correction, correction_at, dropped_correction, dropped_correction_at, shift, shift_at, dropped_shift, dropped_shift_at, fields_at}
+use Rattle.records.specs.Reading.{both_at, byte_at, number_at, front_at, short_text_at, signed_number_at, site_number_at, sender_at, arrays_at, addition, addition_at, setting, setting_at, put_one, put_at, reading_at, entry_at, correction, correction_at, dropped_correction, dropped_correction_at, shift, shift_at, dropped_shift, dropped_shift_at, added_rating, rating_at, period, period_at, dropped_period, dropped_period_at, measurement, measurement_at, dropped_measurement, dropped_measurement_at, fields_at}
 use Rattle.records.proofs.Fields.{IsBytes, Takes, Reads, IsAny, both_reads, made_takes, made_again, byte_reads, number_reads, signed_reads, wide32, front_reads, short_reads, site_reads}
 use Rattle.records.proofs.CurveLemmas.{which, Parts, entry_parts, FitsEntry, entry_reads, entry_spelling, put_fits}
+use Rattle.records.proofs.MeasurementLemmas.{Measured, measured_parts, measured_bytes, FitsMeasured, measured_reads}
+use Rattle.records.proofs.RatingLemmas.{Rating, rating_parts, rating_bytes, FitsRating, rating_reads, rating_fits, Period, period_parts, period_spelled, FitsPeriod, period_reads, end_fits}
 use Rattle.records.proofs.PutLemmas.{one_reading, FitsReading, reading_reads, one_is, one_fits, one_spelling}
 
 -- ---- who makes an edit
@@ -130,6 +132,9 @@ FitsDropped f = IsAny f.0 × FitsSigned w64 f.1
 dropped_reads : Reads Dropped dropped_parts dropped_bytes FitsDropped
 dropped_reads = both_reads ℕ ℤ byte_at (λ b. b ∷ []) IsAny signed_number_at signed_number (FitsSigned w64) byte_reads signed_reads
 
+number32_reads : Reads ℕ (number_at w32) (to_le_bytes w32) (λ n. n < 2 ^ 32)
+number32_reads = number_reads w32 (2 ^ 32) wide32
+
 -- ---- each kind is read
 
 -- what a reader of one kind took
@@ -182,6 +187,36 @@ dropped_shift_takes bytes what rest fits e =
     let m = made_takes ℤ What dropped_shift signed_number_at signed_number (FitsSigned w64) signed_reads bytes what rest fits e in
     took 9 bytes (signed_number m.0) rest (dropped_shift m.0) what m.1 refl refl m.2
 
+rating_takes : (bytes : List ℕ) (what : What) (rest : List ℕ) → IsBytes bytes → rating_at bytes ≡ Some (what, rest) → TakesKind 10 bytes what rest
+unfolding rating_at
+rating_takes bytes what rest fits e =
+    let m = made_takes Rating What added_rating rating_parts rating_bytes FitsRating rating_reads bytes what rest fits e in
+    took 10 bytes (rating_bytes m.0) rest (added_rating m.0) what m.1 refl refl m.2
+
+period_takes : (bytes : List ℕ) (what : What) (rest : List ℕ) → IsBytes bytes → period_at bytes ≡ Some (what, rest) → TakesKind 11 bytes what rest
+unfolding period_at
+period_takes bytes what rest fits e =
+    let m = made_takes Period What period period_parts period_spelled FitsPeriod period_reads bytes what rest fits e in
+    took 11 bytes (period_spelled m.0) rest (period m.0) what m.1 refl refl m.2
+
+dropped_period_takes : (bytes : List ℕ) (what : What) (rest : List ℕ) → IsBytes bytes → dropped_period_at bytes ≡ Some (what, rest) → TakesKind 12 bytes what rest
+unfolding dropped_period_at
+dropped_period_takes bytes what rest fits e =
+    let m = made_takes ℤ What dropped_period signed_number_at signed_number (FitsSigned w64) signed_reads bytes what rest fits e in
+    took 12 bytes (signed_number m.0) rest (dropped_period m.0) what m.1 refl refl m.2
+
+measurement_takes : (bytes : List ℕ) (what : What) (rest : List ℕ) → IsBytes bytes → measurement_at bytes ≡ Some (what, rest) → TakesKind 15 bytes what rest
+unfolding measurement_at
+measurement_takes bytes what rest fits e =
+    let m = made_takes Measured What measurement measured_parts measured_bytes FitsMeasured measured_reads bytes what rest fits e in
+    took 15 bytes (measured_bytes m.0) rest (measurement m.0) what m.1 refl refl m.2
+
+dropped_measurement_takes : (bytes : List ℕ) (what : What) (rest : List ℕ) → IsBytes bytes → dropped_measurement_at bytes ≡ Some (what, rest) → TakesKind 16 bytes what rest
+unfolding dropped_measurement_at
+dropped_measurement_takes bytes what rest fits e =
+    let m = made_takes ℕ What dropped_measurement (number_at w32) (to_le_bytes w32) (λ n. n < 2 ^ 32) number32_reads bytes what rest fits e in
+    took 16 bytes (to_le_bytes w32 m.0) rest (dropped_measurement m.0) what m.1 refl refl m.2
+
 along : (m n : ℕ) (bytes : List ℕ) (what : What) (rest : List ℕ) → m ≡ n → TakesKind n bytes what rest → TakesKind m bytes what rest
 along m n bytes what rest e t = subst (λ (k : ℕ). TakesKind k bytes what rest) (sym e) t
 
@@ -204,7 +239,12 @@ fields_take number bytes what rest fits e =
     (picked number 7 bytes what rest _ _ (dropped_correction_takes bytes what rest fits)
     (picked number 8 bytes what rest _ _ (shift_takes bytes what rest fits)
     (picked number 9 bytes what rest _ _ (dropped_shift_takes bytes what rest fits)
-    (λ no. absurd (let none : None ≡ Some (what, rest) = no in cc)))))))) e
+    (picked number 10 bytes what rest _ _ (rating_takes bytes what rest fits)
+    (picked number 11 bytes what rest _ _ (period_takes bytes what rest fits)
+    (picked number 12 bytes what rest _ _ (dropped_period_takes bytes what rest fits)
+    (picked number 15 bytes what rest _ _ (measurement_takes bytes what rest fits)
+    (picked number 16 bytes what rest _ _ (dropped_measurement_takes bytes what rest fits)
+    (λ no. absurd (let none : None ≡ Some (what, rest) = no in cc))))))))))))) e
 
 addition_again : (f : Addition) (rest : List ℕ) → FitsAddition f → addition_at (addition_bytes f ++ rest) ≡ Some (addition f, rest)
 unfolding addition_at
@@ -239,62 +279,90 @@ unfolding dropped_shift_at
 dropped_shift_again at rest fits =
     made_again ℤ What dropped_shift signed_number_at signed_number (FitsSigned w64) signed_reads at rest fits
 
-first_kind : (bytes : List ℕ) → fields_at 1 bytes ≡ addition_at bytes
-unfolding fields_at
-first_kind bytes = refl
+rating_again : (f : Rating) (rest : List ℕ) → FitsRating f → rating_at (rating_bytes f ++ rest) ≡ Some (added_rating f, rest)
+unfolding rating_at
+rating_again f rest fits = made_again Rating What added_rating rating_parts rating_bytes FitsRating rating_reads f rest fits
 
-second_kind : (bytes : List ℕ) → fields_at 2 bytes ≡ setting_at bytes
-unfolding fields_at
-second_kind bytes = refl
+period_again : (f : Period) (rest : List ℕ) → FitsPeriod f → period_at (period_spelled f ++ rest) ≡ Some (period f, rest)
+unfolding period_at
+period_again f rest fits = made_again Period What period period_parts period_spelled FitsPeriod period_reads f rest fits
 
-third_kind : (bytes : List ℕ) → fields_at 3 bytes ≡ put_at bytes
-unfolding fields_at
-third_kind bytes = refl
+dropped_period_again : (at : ℤ) (rest : List ℕ) → FitsSigned w64 at → dropped_period_at (signed_number at ++ rest) ≡ Some (dropped_period at, rest)
+unfolding dropped_period_at
+dropped_period_again at rest fits =
+    made_again ℤ What dropped_period signed_number_at signed_number (FitsSigned w64) signed_reads at rest fits
 
-sixth_kind : (bytes : List ℕ) → fields_at 6 bytes ≡ correction_at bytes
-unfolding fields_at
-sixth_kind bytes = refl
+measurement_again : (f : Measured) (rest : List ℕ) → FitsMeasured f → measurement_at (measured_bytes f ++ rest) ≡ Some (measurement f, rest)
+unfolding measurement_at
+measurement_again f rest fits =
+    made_again Measured What measurement measured_parts measured_bytes FitsMeasured measured_reads f rest fits
 
-seventh_kind : (bytes : List ℕ) → fields_at 7 bytes ≡ dropped_correction_at bytes
-unfolding fields_at
-seventh_kind bytes = refl
-
-eighth_kind : (bytes : List ℕ) → fields_at 8 bytes ≡ shift_at bytes
-unfolding fields_at
-eighth_kind bytes = refl
-
-ninth_kind : (bytes : List ℕ) → fields_at 9 bytes ≡ dropped_shift_at bytes
-unfolding fields_at
-ninth_kind bytes = refl
+dropped_measurement_again : (n : ℕ) (rest : List ℕ) → n < 2 ^ 32 → dropped_measurement_at (to_le_bytes w32 n ++ rest) ≡ Some (dropped_measurement n, rest)
+unfolding dropped_measurement_at
+dropped_measurement_again n rest fits =
+    made_again ℕ What dropped_measurement (number_at w32) (to_le_bytes w32) (λ n. n < 2 ^ 32) number32_reads n rest fits
 
 addition_back : (f : Addition) (rest : List ℕ) → FitsAddition f → fields_at 1 (fields (addition f) ++ rest) ≡ Some (addition f, rest)
+unfolding fields_at
 addition_back f rest fits =
-    first_kind (fields (addition f) ++ rest) ∙ ap (λ (t : List ℕ). addition_at (t ++ rest)) (addition_spelling f) ∙ addition_again f rest fits
+    ap (λ (t : List ℕ). addition_at (t ++ rest)) (addition_spelling f) ∙ addition_again f rest fits
 
 setting_back : (f : Setting) (rest : List ℕ) → FitsSetting f → fields_at 2 (fields (setting f) ++ rest) ≡ Some (setting f, rest)
+unfolding fields_at
 setting_back f rest fits =
-    second_kind (fields (setting f) ++ rest) ∙ ap (λ (t : List ℕ). setting_at (t ++ rest)) (setting_spelling f) ∙ setting_again f rest fits
+    ap (λ (t : List ℕ). setting_at (t ++ rest)) (setting_spelling f) ∙ setting_again f rest fits
 
 put_back : (p : ℤ × ℤ) (rest : List ℕ) → FitsReading p → fields_at 3 (fields (put_one p) ++ rest) ≡ Some (put_one p, rest)
+unfolding fields_at
 put_back p rest fits =
-    third_kind (fields (put_one p) ++ rest) ∙ ap (λ (t : List ℕ). put_at (t ++ rest)) (one_spelling p.0 p.1) ∙ put_again p rest fits
+    ap (λ (t : List ℕ). put_at (t ++ rest)) (one_spelling p.0 p.1) ∙ put_again p rest fits
 
 correction_back : (f : Correction) (rest : List ℕ) → FitsCorrection f → fields_at 6 (fields (correction f) ++ rest) ≡ Some (correction f, rest)
+unfolding fields_at
 correction_back f rest fits =
-    sixth_kind (fields (correction f) ++ rest) ∙ ap (λ (t : List ℕ). correction_at (t ++ rest)) (correction_spelling f) ∙ correction_again f rest fits
+    ap (λ (t : List ℕ). correction_at (t ++ rest)) (correction_spelling f) ∙ correction_again f rest fits
 
 dropped_correction_back : (f : Dropped) (rest : List ℕ) → FitsDropped f → fields_at 7 (fields (dropped_correction f) ++ rest) ≡ Some (dropped_correction f, rest)
-dropped_correction_back f rest fits = seventh_kind (dropped_bytes f ++ rest) ∙ dropped_correction_again f rest fits
+unfolding fields_at
+dropped_correction_back f rest fits = dropped_correction_again f rest fits
 
 shift_back : (f : Parts) (rest : List ℕ) → FitsEntry f → fields_at 8 (fields (shift f) ++ rest) ≡ Some (shift f, rest)
+unfolding fields_at
 shift_back f rest fits =
-    eighth_kind (fields (shift f) ++ rest) ∙ ap (λ (t : List ℕ). shift_at (t ++ rest)) (entry_spelling f) ∙ shift_again f rest fits
+    ap (λ (t : List ℕ). shift_at (t ++ rest)) (entry_spelling f) ∙ shift_again f rest fits
 
 dropped_shift_back : (at : ℤ) (rest : List ℕ) → FitsSigned w64 at → fields_at 9 (fields (dropped_shift at) ++ rest) ≡ Some (dropped_shift at, rest)
-dropped_shift_back at rest fits = ninth_kind (signed_number at ++ rest) ∙ dropped_shift_again at rest fits
+unfolding fields_at
+dropped_shift_back at rest fits = dropped_shift_again at rest fits
+
+rating_back : (f : Rating) (rest : List ℕ) → FitsRating f → fields_at 10 (fields (added_rating f) ++ rest) ≡ Some (added_rating f, rest)
+unfolding fields_at
+rating_back f rest fits = rating_again f rest fits
+
+period_back : (f : Period) (rest : List ℕ) → FitsPeriod f → fields_at 11 (fields (period f) ++ rest) ≡ Some (period f, rest)
+unfolding fields_at
+period_back f rest fits = period_again f rest fits
+
+dropped_period_back : (at : ℤ) (rest : List ℕ) → FitsSigned w64 at → fields_at 12 (fields (dropped_period at) ++ rest) ≡ Some (dropped_period at, rest)
+unfolding fields_at
+dropped_period_back at rest fits = dropped_period_again at rest fits
+
+measurement_back : (f : Measured) (rest : List ℕ) → FitsMeasured f → fields_at 15 (fields (measurement f) ++ rest) ≡ Some (measurement f, rest)
+unfolding fields_at
+measurement_back f rest fits = measurement_again f rest fits
+
+dropped_measurement_back : (n : ℕ) (rest : List ℕ) → n < 2 ^ 32 → fields_at 16 (fields (dropped_measurement n) ++ rest) ≡ Some (dropped_measurement n, rest)
+unfolding fields_at
+dropped_measurement_back n rest fits = dropped_measurement_again n rest fits
 
 stamp_fits : (at : ℤ) → IsStamp at → FitsSigned w64 at
 stamp_fits at stamp = omega (arith, ints)
+
+stage_fits : (stage : ℤ) → IsStage stage → FitsSigned w64 stage
+stage_fits stage is = omega (arith, ints)
+
+discharge_fits : (discharge : ℤ) → IsDischarge discharge → FitsSigned w64 discharge
+discharge_fits discharge is = omega (arith, ints)
 
 pub fields_again : (what : What) (rest : List ℕ) → IsLawful what → fields_at (kind what) (fields what ++ rest) ≡ Some (what, rest)
 fields_again (AddStation name zone gap stages discharges) rest law =
@@ -312,3 +380,12 @@ fields_again (DropCorrection set at) rest law = dropped_correction_back (set, at
 fields_again (PutShift at curve prorate) rest law =
     shift_back (at, (curve, prorate)) rest (stamp_fits at law.0, (put_fits curve law.1, tt))
 fields_again (DropShift at) rest law = dropped_shift_back at rest (stamp_fits at law)
+fields_again (AddRating rating table) rest law =
+    rating_back (rating, table) rest (omega (arith, law.0.greatest), rating_fits table law.1)
+fields_again (PutPeriod p) rest put =
+    period_back (p.rating, (p.from, p.until)) rest (omega (arith, put.rating.greatest), (stamp_fits p.from put.begins, end_fits p.until put.ends))
+fields_again (DropPeriod from) rest law = dropped_period_back from rest (stamp_fits from law)
+fields_again (PutMeasurement m) rest put =
+    measurement_back (m.number, (m.at, (m.gage, (m.discharge, m.grade)))) rest
+    (omega (arith, put.numbered.greatest), (stamp_fits m.at put.stamp, (stage_fits m.gage put.gage, (discharge_fits m.discharge put.discharge, tt))))
+fields_again (DropMeasurement number) rest law = dropped_measurement_back number rest (omega (arith, law.greatest))

@@ -1,5 +1,5 @@
 -- The laws of the spelling: lengths, bytes, and that no record begins another.
-use Rattle.std.proofs.Common.{◌≡◌, ℕ, ◌^◌, ◌<◌, ◌≤◌, ◌%◌, ◌/◌, List, true, ◌||◌, get_or, [], ◌∷◌, ◌++◌, length, take, drop, Option, Some, refl, sym, ap, subst, ◌∙◌, length-append, arith, w64}
+use Rattle.std.proofs.Common.{◌≡◌, ℕ, ◌^◌, ◌<◌, ◌≤◌, ◌%◌, ◌/◌, List, true, ◌||◌, get_or, [], ◌∷◌, ◌++◌, length, take, drop, Option, Some, None, refl, sym, ap, subst, ◌∙◌, length-append, arith, w64}
 use Rattle.std.specs.Prelude.{ℤ, Bool, false, All, ◌==◌, flat_map}
 use Rattle.std.specs.Int.{w32, to_le_bytes, cast_unsigned}
 use Rattle.std.specs.List.{list_all}
@@ -9,26 +9,30 @@ use Rattle.std.proofs.lemmas.List.{take_at, drop_at}
 use Rattle.std.proofs.lemmas.List.Concat.{flat_map-cons}
 use Rattle.std.proofs.lemmas.List.Sums.{AllPass-from_list_all}
 use Rattle.std.proofs.lemmas.List.Elements.{All-nil, All-cons, All-append}
+use Rattle.edits.specs.Grades.{grade_number}
 use Rattle.edits.specs.Lawful.{IsLawful}
 use Rattle.edits.specs.Texts.{is_letter, is_digit, is_printed, AreInitials, IsReference, IsName}
 use Rattle.edits.specs.declared.content.What.{What}
-use Rattle.edits.specs.declared.content.What.TheVariants.{AddStation, SetStation, PutReadings, PutCorrection, DropCorrection, PutShift, DropShift}
+use Rattle.edits.specs.declared.content.What.TheVariants.{AddStation, SetStation, PutReadings, PutCorrection, DropCorrection, PutShift, DropShift, AddRating, PutPeriod, DropPeriod, PutMeasurement, DropMeasurement}
+use Rattle.edits.specs.declared.measurements.Measurement.{Measurement}
 use Rattle.fixed_units.specs.Quantities.{SiteNumber, IsSite}
 use Rattle.fixed_units.specs.RoundingArray.{IsRoundingArray}
 use Rattle.fixed_units.specs.declared.readings.Flag.{Flag}
 use Rattle.fixed_units.specs.declared.readings.Flag.TheVariants.{Usable, Erroneous, Affected}
 use Rattle.fixed_units.specs.declared.readings.Reading.{Reading}
-use Rattle.records.specs.Payloads.{short_text, signed_number, site_number, flag_number, reading_bytes, point_bytes, curve_bytes, mark_number, entry_bytes, kind, fields, payload, encoded, IsInGrammar}
+use Rattle.records.specs.Payloads.{short_text, signed_number, site_number, flag_number, reading_bytes, point_bytes, curve_bytes, mark_number, entry_bytes, table_bytes, end_bytes, measurement_bytes, kind, fields, longest_fields, longest_payload, payload, encoded, IsInGrammar}
 use Rattle.records.specs.Reading.{number_at}
 use Rattle.records.specs.declared.payloads.Record.{Record}
 use Rattle.records.proofs.Fields.{some_is, wide32, number_again}
 use Rattle.records.proofs.CurveLemmas.{length-entry}
+use Rattle.records.proofs.MeasurementLemmas.{grade_byte, length-measurement}
 use Rattle.records.proofs.PutLemmas.{length-readings}
+use Rattle.records.proofs.RatingLemmas.{length-table, period_within}
 use Rattle.records.proofs.Records.{one_record}
 
 -- ---- lengths
 
-few_fields : (what : What) → IsLawful what → length (fields what) ≤ 146
+few_fields : (what : What) → IsLawful what → length (fields what) ≤ longest_fields
 few_fields (AddStation name zone gap stages discharges) law =
     let set = law.0 in
     let a = length-append (short_text name) (short_text zone) in
@@ -48,8 +52,14 @@ few_fields (PutCorrection set at curve prorate) law = omega (arith, length-entry
 few_fields (DropCorrection set at) law = omega arith
 few_fields (PutShift at curve prorate) law = omega (arith, length-entry at curve prorate, law.1.most)
 few_fields (DropShift at) law = omega arith
+few_fields (AddRating rating table) law =
+    omega (arith, length-table table, length-append (to_le_bytes w32 rating) (table_bytes table), law.1.table.most)
+few_fields (PutPeriod period) law = omega (arith, period_within period)
+few_fields (DropPeriod from) law = omega arith
+few_fields (PutMeasurement m) law = omega (arith, length-measurement m)
+few_fields (DropMeasurement number) law = omega arith
 
-pub few_bytes : (piece : Record) → IsInGrammar piece.edit → length (payload piece) ≤ 206
+pub few_bytes : (piece : Record) → IsInGrammar piece.edit → length (payload piece) ≤ longest_payload
 few_bytes piece g =
     let e = piece.edit in
     let a = length-append (short_text e.by) (short_text e.reference) in
@@ -143,6 +153,17 @@ entry_is_bytes at curve prorate few =
     (All-cons is_byte (length curve) (flat_map point_bytes curve) (omega (arith, few)) (points_are_bytes curve)))
     (All-cons is_byte (mark_number prorate) [] (mark_byte prorate) (All-nil is_byte))
 
+end_is_bytes : (until : Option ℤ) → All is_byte (end_bytes until)
+end_is_bytes None = All-cons is_byte 0 [] (omega arith) (All-nil is_byte)
+end_is_bytes (Some until) = All-cons is_byte 1 (signed_number until) (omega arith) (bytes_64 (cast_unsigned w64 until))
+
+measurement_is_bytes : (m : Measurement) → All is_byte (measurement_bytes m)
+measurement_is_bytes m =
+    let graded = All-append is_byte (signed_number m.discharge) (grade_number m.grade ∷ []) (bytes_64 (cast_unsigned w64 m.discharge)) (All-cons is_byte (grade_number m.grade) [] (grade_byte m.grade) (All-nil is_byte)) in
+    let gaged = All-append is_byte (signed_number m.gage) (signed_number m.discharge ++ grade_number m.grade ∷ []) (bytes_64 (cast_unsigned w64 m.gage)) graded in
+    let made = All-append is_byte (signed_number m.at) (signed_number m.gage ++ (signed_number m.discharge ++ grade_number m.grade ∷ [])) (bytes_64 (cast_unsigned w64 m.at)) gaged in
+    All-append is_byte (to_le_bytes w32 m.number) (signed_number m.at ++ (signed_number m.gage ++ (signed_number m.discharge ++ grade_number m.grade ∷ []))) (bytes_32 m.number) made
+
 fields_are_bytes : (what : What) → IsLawful what → All is_byte (fields what)
 fields_are_bytes (AddStation name zone gap stages discharges) law =
     let set = law.0 in
@@ -162,6 +183,15 @@ fields_are_bytes (DropCorrection set at) law =
     All-cons is_byte set (signed_number at) (omega (arith, law.0.greatest)) (bytes_64 (cast_unsigned w64 at))
 fields_are_bytes (PutShift at curve prorate) law = entry_is_bytes at curve prorate law.1.most
 fields_are_bytes (DropShift at) law = bytes_64 (cast_unsigned w64 at)
+fields_are_bytes (AddRating rating table) law =
+    All-append is_byte (to_le_bytes w32 rating) (table_bytes table) (bytes_32 rating)
+    (All-append is_byte (to_le_bytes w32 (length table)) (flat_map point_bytes table) (bytes_32 (length table)) (points_are_bytes table))
+fields_are_bytes (PutPeriod p) law =
+    All-append is_byte (to_le_bytes w32 p.rating) (signed_number p.from ++ end_bytes p.until) (bytes_32 p.rating)
+    (All-append is_byte (signed_number p.from) (end_bytes p.until) (bytes_64 (cast_unsigned w64 p.from)) (end_is_bytes p.until))
+fields_are_bytes (DropPeriod from) law = bytes_64 (cast_unsigned w64 from)
+fields_are_bytes (PutMeasurement m) law = measurement_is_bytes m
+fields_are_bytes (DropMeasurement number) law = bytes_32 number
 
 kind_byte : (what : What) → kind what < 256
 kind_byte (AddStation name zone gap stages discharges) = omega arith
@@ -171,6 +201,11 @@ kind_byte (PutCorrection set at curve prorate) = omega arith
 kind_byte (DropCorrection set at) = omega arith
 kind_byte (PutShift at curve prorate) = omega arith
 kind_byte (DropShift at) = omega arith
+kind_byte (AddRating rating table) = omega arith
+kind_byte (PutPeriod period) = omega arith
+kind_byte (DropPeriod from) = omega arith
+kind_byte (PutMeasurement measurement) = omega arith
+kind_byte (DropMeasurement number) = omega arith
 
 payload_bytes : (piece : Record) → IsInGrammar piece.edit → All is_byte (payload piece)
 payload_bytes piece g =

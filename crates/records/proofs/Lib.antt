@@ -2,5 +2,8 @@ pub mod CurveLemmas
 pub mod Fields
 pub mod KindLemmas
 pub mod LawLemmas
+pub mod MeasurementLemmas
 pub mod PutLemmas
+pub mod RatingLemmas
 pub mod Records
+pub mod RowLemmas

@@ -3,13 +3,26 @@ use Rattle.std.specs.Prelude.{◌≡◌}
 use Rattle.edits.specs.Lawful.{IsLawful}
 use Rattle.edits.specs.Texts.{AreInitials, IsReference}
 use Rattle.edits.specs.declared.content.What.{What}
-use Rattle.edits.specs.declared.content.What.TheVariants.{AddStation, SetStation, PutCorrection, DropCorrection, PutShift, DropShift}
+use Rattle.edits.specs.declared.content.What.TheVariants.{AddStation, SetStation, PutCorrection, DropCorrection, PutShift, DropShift, AddRating, PutPeriod, DropPeriod, PutMeasurement, DropMeasurement}
+use Rattle.edits.specs.declared.measurements.Measurement.{Measurement}
 use Rattle.fixed_units.specs.Quantities.{IsSite}
-use Rattle.records.specs.Reading.{Parts, put_one}
+use Rattle.ratings.specs.Spans.{Span}
+use Rattle.records.specs.Reading.{Parts, put_one, rows_in}
 use Rattle.records.specs.declared.drafts.Draft.{Draft}
 use Rattle.records.specs.declared.drafts.Fields.{Fields}
-use Rattle.records.specs.declared.drafts.Fields.TheVariants.{Addition, Setting, Put, Correction, DroppedCorrection, Shift, DroppedShift}
+use Rattle.records.specs.declared.drafts.Fields.TheVariants.{Addition, Setting, Put, Correction, DroppedCorrection, Shift, DroppedShift, Rating, Period, DroppedPeriod, DroppedMeasurement}
+use Rattle.records.specs.declared.drafts.Fields.TheVariants as fields
+use Rattle.records.specs.declared.measurement_drafts.MeasurementDraft.{MeasurementDraft}
+use Rattle.records.specs.declared.period_drafts.PeriodDraft.{PeriodDraft}
 use Rattle.records.specs.declared.payloads.Record.{Record}
+
+-- the period that a draft is
+abbrev pub span_of : PeriodDraft → Span
+span_of d = record { from = d.from; until = d.until; rating = d.rating }
+
+-- the measurement that a draft is
+abbrev pub measured : MeasurementDraft → Measurement
+measured d = record { number = d.number; at = d.at; gage = d.gage; discharge = d.discharge; grade = d.grade }
 
 -- what an edit of these fields changes
 abbrev pub what_of : Fields → What
@@ -21,6 +34,11 @@ what_of (Correction set entry) = PutCorrection set entry.at entry.points.items e
 what_of (DroppedCorrection set at) = DropCorrection set at
 what_of (Shift entry) = PutShift entry.at entry.points.items entry.prorate
 what_of (DroppedShift at) = DropShift at
+what_of (Rating number rows) = AddRating number (rows_in rows.now)
+what_of (Period draft) = PutPeriod (span_of draft)
+what_of (DroppedPeriod from) = DropPeriod from
+what_of (fields.Measurement draft) = PutMeasurement (measured draft)
+what_of (DroppedMeasurement number) = DropMeasurement number
 
 -- the parts that a draft lends
 abbrev pub parts : Draft → Parts

@@ -1,14 +1,18 @@
 -- The bytes of a record, one spelling for each. Numbers stand with their lowest byte first.
-use Rattle.std.specs.Prelude.{ℕ, Bool, true, false, List, [], ◌∷◌, ◌++◌, length, flat_map, ℤ}
+use Rattle.std.specs.Prelude.{ℕ, Bool, true, false, List, [], ◌∷◌, ◌++◌, length, flat_map, Option, Some, None, ℤ}
 use Rattle.std.specs.Int.{w32, w64, to_le_bytes, cast_unsigned}
+use Rattle.edits.specs.Grades.{grade_number}
 use Rattle.edits.specs.Texts.{AreInitials, IsReference}
 use Rattle.edits.specs.declared.content.Edit.{Edit}
 use Rattle.edits.specs.declared.content.What.{What}
-use Rattle.edits.specs.declared.content.What.TheVariants.{AddStation, SetStation, PutReadings, PutCorrection, DropCorrection, PutShift, DropShift}
+use Rattle.edits.specs.declared.content.What.TheVariants.{AddStation, SetStation, PutReadings, PutCorrection, DropCorrection, PutShift, DropShift, AddRating, PutPeriod, DropPeriod, PutMeasurement, DropMeasurement}
+use Rattle.edits.specs.declared.measurements.Measurement.{Measurement}
 use Rattle.fixed_units.specs.Quantities.{SiteNumber, IsSite}
 use Rattle.fixed_units.specs.declared.readings.Flag.{Flag}
 use Rattle.fixed_units.specs.declared.readings.Flag.TheVariants.{Usable, Erroneous, Affected}
 use Rattle.fixed_units.specs.declared.readings.Reading.{Reading}
+use Rattle.rating_tables.specs.Table.{Row}
+use Rattle.ratings.specs.Spans.{Span}
 use Rattle.records.specs.declared.payloads.Record.{Record}
 
 -- a byte of length, and that many bytes
@@ -46,6 +50,23 @@ mark_number true = 1
 abbrev pub entry_bytes : ℤ → List (ℤ × ℤ) → Bool → List ℕ
 entry_bytes at curve prorate = signed_number at ++ curve_bytes curve ++ mark_number prorate ∷ []
 
+-- a rating table: how many rows it has, and each, as a point of a curve, with its stage and its discharge
+abbrev pub table_bytes : List Row → List ℕ
+table_bytes rows = to_le_bytes w32 (length rows) ++ flat_map point_bytes rows
+
+-- a period: the number of its rating, its start, whether it ends, and its end where it does
+abbrev pub end_bytes : Option ℤ → List ℕ
+end_bytes None = mark_number false ∷ []
+end_bytes (Some until) = mark_number true ∷ signed_number until
+
+abbrev pub period_bytes : Span → List ℕ
+period_bytes p = to_le_bytes w32 p.rating ++ (signed_number p.from ++ end_bytes p.until)
+
+-- a measurement: its number, its instant, its gage height, its discharge and its grade
+abbrev pub measurement_bytes : Measurement → List ℕ
+measurement_bytes m =
+    to_le_bytes w32 m.number ++ (signed_number m.at ++ (signed_number m.gage ++ (signed_number m.discharge ++ grade_number m.grade ∷ [])))
+
 -- the kind of an edit
 abbrev pub kind : What → ℕ
 kind (AddStation name zone gap stage_array discharge_array) = 1
@@ -55,6 +76,11 @@ kind (PutCorrection set at curve prorate) = 6
 kind (DropCorrection set at) = 7
 kind (PutShift at curve prorate) = 8
 kind (DropShift at) = 9
+kind (AddRating rating table) = 10
+kind (PutPeriod period) = 11
+kind (DropPeriod from) = 12
+kind (PutMeasurement measurement) = 15
+kind (DropMeasurement number) = 16
 
 -- the fields of each kind
 abbrev pub fields : What → List ℕ
@@ -67,6 +93,11 @@ fields (PutCorrection set at curve prorate) = set ∷ entry_bytes at curve prora
 fields (DropCorrection set at) = set ∷ signed_number at
 fields (PutShift at curve prorate) = entry_bytes at curve prorate
 fields (DropShift at) = signed_number at
+fields (AddRating rating table) = to_le_bytes w32 rating ++ table_bytes table
+fields (PutPeriod period) = period_bytes period
+fields (DropPeriod from) = signed_number from
+fields (PutMeasurement measurement) = measurement_bytes measurement
+fields (DropMeasurement number) = to_le_bytes w32 number
 
 -- an edit: its kind, who makes it, under which reference, of which station, and the fields of its kind
 abbrev pub edit_bytes : Edit → List ℕ
@@ -78,6 +109,13 @@ payload piece = edit_bytes piece.edit
 -- a payload has at most so many bytes
 abbrev pub most_payload : ℕ
 most_payload = 8_388_608
+
+-- the most that the fields and a whole payload have: those of a rating of 10,000 rows
+abbrev pub longest_fields : ℕ
+longest_fields = 160_008
+
+abbrev pub longest_payload : ℕ
+longest_payload = 160_068
 
 -- the length of the payload in four bytes, and the payload
 abbrev pub encoded : Record → List ℕ

@@ -1,11 +1,14 @@
 -- Reading a payload from left to right: each reader gives a value and the bytes after it, or nothing.
-use Rattle.std.specs.Prelude.{ℕ, zero, suc, Bool, true, false, List, [], ◌∷◌, length, take, drop, Option, Some, None, nat_lt, nat_le, ◌==◌, ◌&&◌, if◌then◌else◌, ℤ}
+use Rattle.std.specs.Prelude.{ℕ, zero, suc, Bool, true, false, List, [], ◌∷◌, length, take, drop, map, Option, Some, None, nat_lt, nat_le, ◌==◌, ◌&&◌, if◌then◌else◌, ℤ, int_lt, int_le}
 use Rattle.std.specs.Int.{Width, w32, w64, byte_len, from_le_bytes, cast_signed}
 use Rattle.edits.specs.declared.content.What.{What}
-use Rattle.edits.specs.declared.content.What.TheVariants.{AddStation, SetStation, PutReadings, PutCorrection, DropCorrection, PutShift, DropShift}
+use Rattle.edits.specs.declared.content.What.TheVariants.{AddStation, SetStation, PutReadings, PutCorrection, DropCorrection, PutShift, DropShift, AddRating, PutPeriod, DropPeriod, PutMeasurement, DropMeasurement}
+use Rattle.edits.specs.Grades.{grade_of}
+use Rattle.edits.specs.declared.measurements.Grade.{Grade}
 use Rattle.fixed_units.specs.Quantities.{SiteNumber}
 use Rattle.fixed_units.specs.declared.readings.Flag.TheVariants.{Usable}
 use Rattle.fixed_units.specs.declared.readings.Reading.{Reading}
+use Rattle.rating_tables.specs.Table.{Row}
 
 -- the parts of a payload as they stand, whatever their ranges
 pub record Parts : Type 0 where
@@ -138,6 +141,67 @@ dropped_shift at = DropShift at
 unfoldable pub dropped_shift_at : List ℕ → Option (What × List ℕ)
 dropped_shift_at bytes = made_at dropped_shift signed_number_at bytes
 
+-- a rating table: how many rows there are, and the rows
+unfoldable pub table_at : List ℕ → Option (List Row × List ℕ)
+table_at bytes = number_at w32 bytes >>= λ count. points_at count.0 count.1
+
+-- the row that sixteen bytes are, and the rows that pieces of sixteen bytes are
+unfoldable pub row_in : List ℕ → Row
+row_in piece = (cast_signed w64 (from_le_bytes w64 (take 8 piece)), cast_signed w64 (from_le_bytes w64 (take 8 (drop 8 piece))))
+
+abbrev pub rows_in : List (List ℕ) → List Row
+rows_in pieces = map row_in pieces
+
+-- whether the stage rises from a row to the next, and the discharge does not fall
+abbrev pub is_behind : Row → Row → Bool
+is_behind row next = int_lt row.0 next.0 && int_le row.1 next.1
+
+-- the fields of a rating that is added
+abbrev pub added_rating : ℕ × List Row → What
+added_rating f = AddRating f.0 f.1
+
+unfoldable pub rating_at : List ℕ → Option (What × List ℕ)
+rating_at bytes = made_at added_rating (both_at (number_at w32) table_at) bytes
+
+-- the end of a period, where it has one
+unfoldable pub end_at : List ℕ → Option (Option ℤ × List ℕ)
+end_at bytes = mark_at bytes >>= λ ends. if ends.0 then made_at Some signed_number_at ends.1 else Some (None, ends.1)
+
+-- the fields of a period that is put, and of one that is dropped
+abbrev pub period : ℕ × (ℤ × Option ℤ) → What
+period f = PutPeriod (record { from = f.1.0; until = f.1.1; rating = f.0 })
+
+unfoldable pub period_at : List ℕ → Option (What × List ℕ)
+period_at bytes = made_at period (both_at (number_at w32) (both_at signed_number_at end_at)) bytes
+
+abbrev pub dropped_period : ℤ → What
+dropped_period from = DropPeriod from
+
+unfoldable pub dropped_period_at : List ℕ → Option (What × List ℕ)
+dropped_period_at bytes = made_at dropped_period signed_number_at bytes
+
+-- how good a measurement is
+unfoldable pub grade_at : List ℕ → Option (Grade × List ℕ)
+grade_at bytes = do
+  number ← byte_at bytes
+  grade ← grade_of number.0
+  Some (grade, number.1)
+
+-- the fields of a measurement that is put, and of one that is dropped
+abbrev pub measurement : ℕ × (ℤ × (ℤ × (ℤ × Grade))) → What
+measurement f =
+    PutMeasurement (record { number = f.0; at = f.1.0; gage = f.1.1.0; discharge = f.1.1.1.0; grade = f.1.1.1.1 })
+
+unfoldable pub measurement_at : List ℕ → Option (What × List ℕ)
+measurement_at bytes =
+    made_at measurement (both_at (number_at w32) (both_at signed_number_at (both_at signed_number_at (both_at signed_number_at grade_at)))) bytes
+
+abbrev pub dropped_measurement : ℕ → What
+dropped_measurement number = DropMeasurement number
+
+unfoldable pub dropped_measurement_at : List ℕ → Option (What × List ℕ)
+dropped_measurement_at bytes = made_at dropped_measurement (number_at w32) bytes
+
 -- the fields of a kind
 unfoldable pub fields_at : ℕ → List ℕ → Option (What × List ℕ)
 fields_at kind bytes =
@@ -147,7 +211,12 @@ fields_at kind bytes =
     else (if kind == 6 then correction_at bytes
     else (if kind == 7 then dropped_correction_at bytes
     else (if kind == 8 then shift_at bytes
-    else (if kind == 9 then dropped_shift_at bytes else None))))))
+    else (if kind == 9 then dropped_shift_at bytes
+    else (if kind == 10 then rating_at bytes
+    else (if kind == 11 then period_at bytes
+    else (if kind == 12 then dropped_period_at bytes
+    else (if kind == 15 then measurement_at bytes
+    else (if kind == 16 then dropped_measurement_at bytes else None)))))))))))
 
 -- the parts of a whole payload, with nothing behind the last
 unfoldable pub parts_at : List ℕ → Option Parts

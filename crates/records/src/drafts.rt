@@ -10,8 +10,14 @@ ghost use Rattle.records.specs.Drafts.{parts, what_of, AreLawful, HasParts};
 ghost use Rattle.records.specs.Reading.{usable};
 
 use crate::entry_drafts::{EntryDraft, correction_from, is_entry, shift_from};
+use crate::measurement_drafts::{MeasurementDraft, is_measurement, measurement_from};
 use crate::payloads::Record;
-use edits::{By, Edit, Name, Ref, What, are_put_readings, are_settings, is_set_number, is_zone};
+use crate::period_drafts::{PeriodDraft, is_period, period_from};
+use crate::rating_drafts::{are_rating_rows, rating_from};
+use edits::{
+    By, Edit, Name, Ref, What, are_put_readings, are_settings, is_measurement_number,
+    is_rating_number, is_set_number, is_zone,
+};
 use fixed_units::{
     Flag, Micro, NoMemory, Reading, RoundingArray, Second, Site, Text, is_stage, is_stamp,
 };
@@ -63,6 +69,23 @@ pub(crate) enum Fields<'a> {
     /// An entry that is dropped from the shifts.
     DroppedShift {
         at: i64,
+    },
+    /// A rating that is added: its number, and sixteen bytes for each row of its table.
+    Rating {
+        number: u32,
+        rows: &'a [[u8; 16]],
+    },
+    /// A period that is put.
+    Period(PeriodDraft),
+    /// A period that is dropped.
+    DroppedPeriod {
+        from: i64,
+    },
+    /// A measurement that is put.
+    Measurement(MeasurementDraft),
+    /// A measurement that is dropped.
+    DroppedMeasurement {
+        number: u32,
     },
 }
 
@@ -122,6 +145,11 @@ fn are_lawful(alloc: Global, fields: &Fields<'_>) -> Result<bool, NoMemory>
         Fields::DroppedCorrection { set, at } => Ok(is_set_number(*set) && is_stamp(*at)),
         Fields::Shift(entry) => Ok(is_entry(entry)),
         Fields::DroppedShift { at } => Ok(is_stamp(*at)),
+        Fields::Rating { number, rows } => Ok(is_rating_number(*number) && are_rating_rows(rows)),
+        Fields::Period(period) => Ok(is_period(period)),
+        Fields::DroppedPeriod { from } => Ok(is_stamp(*from)),
+        Fields::Measurement(measurement) => Ok(is_measurement(measurement)),
+        Fields::DroppedMeasurement { number } => Ok(is_measurement_number(*number)),
     }
 }
 
@@ -203,6 +231,17 @@ fn what_from(alloc: Global, fields: &Fields<'_>) -> Result<What, NoMemory>
         Fields::DroppedShift { at } => Ok(What::DropShift {
             at: Second::new(*at).unwrap(),
         }),
+        Fields::Rating { number, rows } => rating_from(alloc, *number, rows),
+        Fields::Period(period) => Ok(What::PutPeriod {
+            period: period_from(period).unwrap(),
+        }),
+        Fields::DroppedPeriod { from } => Ok(What::DropPeriod {
+            from: Second::new(*from).unwrap(),
+        }),
+        Fields::Measurement(measurement) => Ok(What::PutMeasurement {
+            measurement: measurement_from(measurement).unwrap(),
+        }),
+        Fields::DroppedMeasurement { number } => Ok(What::DropMeasurement { number: *number }),
     }
 }
 

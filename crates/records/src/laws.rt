@@ -1,7 +1,7 @@
 //! What the spelling of records says as a whole, as laws. An edit's types promise that it is in the grammar.
 
 ghost use Rattle.std.specs.Prelude.{◌≡◌, ◌≤◌, ◌<◌, ◌+◌, ◌++◌, ℕ, List, length, All};
-ghost use Rattle.records.specs.Payloads.{IsInGrammar, payload, most_payload, encoded};
+ghost use Rattle.records.specs.Payloads.{IsInGrammar, payload, longest_payload, most_payload, encoded};
 ghost use Rattle.records.specs.declared.payloads.Record.{Record};
 
 use crate::payloads::Record;
@@ -28,7 +28,7 @@ pub fn keeps_grammar(piece: &Record)
 /// How long a record's bytes are, and that they are bytes. No payload passes what the format allows.
 pub fn sizes()
     ensures length { (piece : Record) → length (encoded piece) ≡ 4 + length (payload piece) }
-    ensures few { (piece : Record) → IsInGrammar piece.edit → length (payload piece) ≤ 206 }
+    ensures longest { (piece : Record) → IsInGrammar piece.edit → length (payload piece) ≤ longest_payload }
     ensures most { (piece : Record) → IsInGrammar piece.edit → length (payload piece) ≤ most_payload }
     ensures bytes { (piece : Record) → IsInGrammar piece.edit → All (λ byte. byte < 256) (encoded piece) }
 {}

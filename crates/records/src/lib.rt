@@ -4,7 +4,12 @@
 mod drafts;
 mod entry_drafts;
 pub mod laws;
+mod measurement_drafts;
+mod measurement_reading;
 pub mod payloads;
+mod period_drafts;
+mod rating_drafts;
+mod rating_reading;
 mod reading;
 pub mod writing;
 

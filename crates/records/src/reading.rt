@@ -7,6 +7,8 @@ ghost use Rattle.records.specs.Reading.{byte_at, number_at, front_at, short_text
 
 use crate::drafts::{Draft, Fields, ReadingDraft};
 use crate::entry_drafts::EntryDraft;
+use crate::measurement_reading::{dropped_measurement_of, measurement_of};
+use crate::rating_reading::{dropped_period_of, period_of, rating_of};
 use arrayvec::ArrayVec;
 
 /// The parts of a whole payload, with nothing behind the last.
@@ -54,6 +56,11 @@ fn fields_of(kind: u8, bytes: &[u8]) -> Option<(Fields<'_>, &[u8])>
         7 => dropped_correction_of(bytes),
         8 => shift_of(bytes),
         9 => dropped_shift_of(bytes),
+        10 => rating_of(bytes),
+        11 => period_of(bytes),
+        12 => dropped_period_of(bytes),
+        15 => measurement_of(bytes),
+        16 => dropped_measurement_of(bytes),
         _ => None,
     }
 }
@@ -185,7 +192,7 @@ fn points_of(bytes: &[u8], count: u8) -> Option<(ArrayVec<(i64, i64), 3>, &[u8])
 
 /// The stage and the amount of a point.
 #[tactic(auto, unfolding(crate::specs::Reading::point_at))]
-fn point_of(bytes: &[u8]) -> Option<((i64, i64), &[u8])>
+pub(crate) fn point_of(bytes: &[u8]) -> Option<((i64, i64), &[u8])>
     ensures { option_map (λ x. (x.0, x.1.now)) result ≡ point_at bytes.now }
 {
     let (stage, rest) = i64_of(bytes)?;
@@ -195,7 +202,7 @@ fn point_of(bytes: &[u8]) -> Option<((i64, i64), &[u8])>
 
 /// Whether an entry prorates.
 #[tactic(auto, unfolding(crate::specs::Reading::mark_at))]
-fn mark_of(bytes: &[u8]) -> Option<(bool, &[u8])>
+pub(crate) fn mark_of(bytes: &[u8]) -> Option<(bool, &[u8])>
     ensures { option_map (λ x. (x.0, x.1.now)) result ≡ mark_at bytes.now }
 {
     let (mark, rest) = byte_of(bytes)?;
@@ -260,7 +267,7 @@ fn front_of(bytes: &[u8], count: usize) -> Option<(&[u8], &[u8])>
 }
 
 #[tactic(auto, unfolding(crate::specs::Reading::signed_number_at))]
-fn i64_of(bytes: &[u8]) -> Option<(i64, &[u8])>
+pub(crate) fn i64_of(bytes: &[u8]) -> Option<(i64, &[u8])>
     ensures { option_map (λ x. (x.0, x.1.now)) result ≡ signed_number_at bytes.now }
 {
     let (bits, rest) = u64_of(bytes)?;
@@ -274,7 +281,7 @@ fn u64_of(bytes: &[u8]) -> Option<(u64, &[u8])>
     Some((u64::from_le_bytes(*front), rest))
 }
 
-fn u32_of(bytes: &[u8]) -> Option<(u32, &[u8])>
+pub(crate) fn u32_of(bytes: &[u8]) -> Option<(u32, &[u8])>
     ensures { option_map (λ x. (x.0, x.1.now)) result ≡ number_at w32 bytes.now }
 {
     let (front, rest) = bytes.split_first_chunk::<4>()?;
@@ -282,7 +289,7 @@ fn u32_of(bytes: &[u8]) -> Option<(u32, &[u8])>
 }
 
 #[tactic(auto, unfolding(crate::specs::Reading::byte_at))]
-fn byte_of(bytes: &[u8]) -> Option<(u8, &[u8])>
+pub(crate) fn byte_of(bytes: &[u8]) -> Option<(u8, &[u8])>
     ensures { option_map (λ x. (x.0, x.1.now)) result ≡ byte_at bytes.now }
 {
     match bytes {

@@ -3,19 +3,20 @@
 ghost use Rattle.std.specs.Prelude.{◌≡◌, ◌≤◌, ◌<◌, ◌++◌, ◌∷◌, [], length, flat_map, OnOk, ℤ, Bool};
 ghost use Rattle.std.specs.Int.{w32, w64, to_le_bytes};
 ghost use Rattle.edits.specs.Lawful.{IsLawful};
-ghost use Rattle.records.specs.Payloads.{short_text, signed_number, site_number, flag_number, reading_bytes, mark_number, point_bytes, curve_bytes, entry_bytes, kind, fields, edit_bytes};
+ghost use Rattle.records.specs.Payloads.{short_text, signed_number, site_number, flag_number, reading_bytes, mark_number, point_bytes, curve_bytes, entry_bytes, table_bytes, end_bytes, period_bytes, measurement_bytes, kind, fields, edit_bytes, longest_fields, longest_payload};
 
 use curves::Curve;
-use edits::{Edit, What};
+use edits::{Edit, Measurement, What};
 use fixed_units::{Flag, Micro, NoMemory, Reading, RoundingArray, Second, Site};
+use ratings::Period;
 
 /// How many bytes the kind, the site and the lengths of the texts take.
 const FRAME: usize = 12;
 
-/// How many bytes an edit takes in a record's payload, at most 206.
+/// How many bytes an edit takes in a record's payload: at most 160,068, which a rating of 10,000 rows may take.
 pub fn edit_len(edit: &Edit) -> usize
     ensures value { result ≡ length (edit_bytes edit.now) }
-    ensures few { result ≤ 206 }
+    ensures longest { result ≤ longest_payload }
 {
     FRAME + edit.by.as_slice().len() + edit.reference.as_slice().len() + fields_len(&edit.what)
 }
@@ -24,7 +25,7 @@ pub fn edit_len(edit: &Edit) -> usize
 fn fields_len(what: &What) -> usize
     requires { IsLawful what.now }
     ensures value { result ≡ length (fields what.now) }
-    ensures few { result ≤ 146 }
+    ensures longest { result ≤ longest_fields }
 {
     match what {
         What::AddStation { name, zone, .. } => 26 + name.as_slice().len() + zone.as_slice().len(),
@@ -34,6 +35,11 @@ fn fields_len(what: &What) -> usize
         What::DropCorrection { .. } => 9,
         What::PutShift { curve, .. } => entry_len(curve),
         What::DropShift { .. } => 8,
+        What::AddRating { table, .. } => 8 + 16 * table.table().rows().len(),
+        What::PutPeriod { period } => period_len(period),
+        What::DropPeriod { .. } => 8,
+        What::PutMeasurement { .. } => 29,
+        What::DropMeasurement { .. } => 4,
     }
 }
 
@@ -43,6 +49,16 @@ fn entry_len(curve: &Curve) -> usize
     ensures few { result ≤ 58 }
 {
     10 + 16 * curve.points().len()
+}
+
+/// How many bytes a period takes.
+fn period_len(period: &Period) -> usize
+    ensures { result ≡ length (period_bytes period.now) }
+{
+    match period.until {
+        Some(_) => 21,
+        None => 13,
+    }
 }
 
 /// Adds the bytes of an edit.
@@ -68,6 +84,11 @@ fn kind_of(what: &What) -> u8
         What::DropCorrection { .. } => 7,
         What::PutShift { .. } => 8,
         What::DropShift { .. } => 9,
+        What::AddRating { .. } => 10,
+        What::PutPeriod { .. } => 11,
+        What::DropPeriod { .. } => 12,
+        What::PutMeasurement { .. } => 15,
+        What::DropMeasurement { .. } => 16,
     }
 }
 
@@ -132,6 +153,14 @@ fn put_fields(out: &mut Vec<u8>, what: &What) -> Result<(), NoMemory>
         }
         What::PutShift { at, curve, prorate } => put_entry(out, *at, curve, *prorate),
         What::DropShift { at } => put_second(out, *at),
+        What::AddRating { rating, table } => {
+            put_u32(out, *rating)?;
+            put_rows(out, table.table().rows())
+        }
+        What::PutPeriod { period } => put_period(out, period),
+        What::DropPeriod { from } => put_second(out, *from),
+        What::PutMeasurement { measurement } => put_measurement(out, measurement),
+        What::DropMeasurement { number } => put_u32(out, *number),
     }
 }
 
@@ -144,7 +173,7 @@ fn put_arrays(
 ) -> Result<(), NoMemory>
     ensures { OnOk result (out.new.items ≡ out.old.items ++ to_le_bytes w32 gap ++ stage_array ++ discharge_array) }
 {
-    out.extend_from_slice(&gap.to_le_bytes())?;
+    put_u32(out, gap)?;
     out.extend_from_slice(&stage_array.digits())?;
     out.extend_from_slice(&discharge_array.digits())?;
     Ok(())
@@ -155,7 +184,7 @@ fn put_readings(out: &mut Vec<u8>, readings: &[Reading]) -> Result<(), NoMemory>
     requires { length readings.now < 4_294_967_296 }
     ensures { OnOk result (out.new.items ≡ out.old.items ++ to_le_bytes w32 (length readings.now) ++ flat_map reading_bytes readings.now) }
 {
-    out.extend_from_slice(&(readings.len() as u32).to_le_bytes())?;
+    put_u32(out, readings.len() as u32)?;
     for reading in readings {
         put_reading(out, *reading)?;
     }
@@ -194,12 +223,64 @@ fn put_points(out: &mut Vec<u8>, points: &[(Micro, Micro)]) -> Result<(), NoMemo
     Ok(())
 }
 
-/// Adds the stage and the amount of a point.
+/// Adds how many rows a table has, and the rows.
+fn put_rows(out: &mut Vec<u8>, rows: &[(Micro, Micro)]) -> Result<(), NoMemory>
+    requires { length rows.now < 4_294_967_296 }
+    ensures { OnOk result (out.new.items ≡ out.old.items ++ table_bytes rows.now) }
+{
+    put_u32(out, rows.len() as u32)?;
+    for row in rows {
+        put_point(out, *row)?;
+    }
+    Ok(())
+}
+
+/// Adds the number of the rating that is in force in a period, and its start and end.
+fn put_period(out: &mut Vec<u8>, period: &Period) -> Result<(), NoMemory>
+    ensures { OnOk result (out.new.items ≡ out.old.items ++ period_bytes period.now) }
+{
+    put_u32(out, period.rating)?;
+    put_second(out, period.from)?;
+    put_end(out, period.until)
+}
+
+/// Adds whether a period ends, and its end where it does.
+fn put_end(out: &mut Vec<u8>, until: Option<Second>) -> Result<(), NoMemory>
+    ensures { OnOk result (out.new.items ≡ out.old.items ++ end_bytes until) }
+{
+    out.push(u8::from(until.is_some()))?;
+    match until {
+        Some(until) => put_second(out, until),
+        None => Ok(()),
+    }
+}
+
+/// Adds the number of a measurement, its instant, its gage height, its discharge and its grade.
+fn put_measurement(out: &mut Vec<u8>, measurement: &Measurement) -> Result<(), NoMemory>
+    ensures { OnOk result (out.new.items ≡ out.old.items ++ measurement_bytes measurement.now) }
+{
+    put_u32(out, measurement.number)?;
+    put_second(out, measurement.at)?;
+    put_micro(out, measurement.gage)?;
+    put_micro(out, measurement.discharge)?;
+    out.push(measurement.grade.number())?;
+    Ok(())
+}
+
+/// Adds the stage of a point, and its amount or discharge.
 fn put_point(out: &mut Vec<u8>, point: (Micro, Micro)) -> Result<(), NoMemory>
     ensures { OnOk result (out.new.items ≡ out.old.items ++ point_bytes point) }
 {
     put_micro(out, point.0)?;
     put_micro(out, point.1)
+}
+
+/// Adds a number of 32 bits.
+fn put_u32(out: &mut Vec<u8>, number: u32) -> Result<(), NoMemory>
+    ensures { OnOk result (out.new.items ≡ out.old.items ++ to_le_bytes w32 number) }
+{
+    out.extend_from_slice(&number.to_le_bytes())?;
+    Ok(())
 }
 
 /// Adds an instant.

@@ -5,8 +5,8 @@ use Rattle.records.proofs.laws.sizes.Goals as goal
 pub returns-clause-bytes : goal.returns-clause-bytes
 returns-clause-bytes c piece g = encoded_bytes piece g
 
-pub returns-clause-few : goal.returns-clause-few
-returns-clause-few c piece g = few_bytes piece g
+pub returns-clause-longest : goal.returns-clause-longest
+returns-clause-longest c piece g = few_bytes piece g
 
 pub returns-clause-most : goal.returns-clause-most
 returns-clause-most c piece g = let few = few_bytes piece g in omega (arith, few)

@@ -1,8 +1,9 @@
 use Rattle.std.proofs.Common.{arith, length-append}
 use Rattle.std.specs.Prelude.{flat_map, length}
 use Rattle.std.specs.Int.{w32, to_le_bytes}
-use Rattle.records.specs.Payloads.{reading_bytes}
+use Rattle.records.specs.Payloads.{reading_bytes, table_bytes}
 use Rattle.records.proofs.PutLemmas.{length-readings}
+use Rattle.records.proofs.RatingLemmas.{length-table}
 use Rattle.records.proofs.writing.fields_len.Goals as goal
 
 pub returns-in-PutReadings-clause-value : goal.returns-in-PutReadings-clause-value
@@ -20,3 +21,10 @@ pub returns-in-PutShift-clause-value : goal.returns-in-PutShift-clause-value
 returns-in-PutShift-clause-value c =
     let put = c.in-PutShift in
     rw put.is (c.entry_len-in-PutShift.ensures.value put.at put.prorate)
+
+pub returns-in-AddRating-clause-value : goal.returns-in-AddRating-clause-value
+returns-in-AddRating-clause-value c =
+    let rating = c.in-AddRating.rating in
+    let table = c.in-AddRating.table in
+    rw (c.in-AddRating.is, c.rows.ensures.rows, c.table.ensures)
+    (omega (arith, length-table table, length-append (to_le_bytes w32 rating) (table_bytes table)))

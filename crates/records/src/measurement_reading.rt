@@ -1,0 +1,49 @@
+//! The measurements of a payload, read from left to right.
+
+ghost use Rattle.std.specs.Prelude.{◌≡◌, option_map};
+ghost use Rattle.records.specs.Drafts.{what_of};
+ghost use Rattle.records.specs.Reading.{grade_at, measurement_at, dropped_measurement_at};
+
+use crate::drafts::Fields;
+use crate::measurement_drafts::MeasurementDraft;
+use crate::reading::{byte_of, i64_of, u32_of};
+use edits::Grade;
+
+/// The fields of a measurement that is put.
+#[tactic(auto, unfolding(crate::specs::Reading::measurement_at))]
+pub(crate) fn measurement_of(bytes: &[u8]) -> Option<(Fields<'_>, &[u8])>
+    ensures { option_map (λ x. (what_of x.0, x.1.now)) result ≡ measurement_at bytes.now }
+{
+    let (number, rest) = u32_of(bytes)?;
+    let (at, rest) = i64_of(rest)?;
+    let (gage, rest) = i64_of(rest)?;
+    let (discharge, rest) = i64_of(rest)?;
+    let (grade, rest) = grade_of(rest)?;
+    let measurement = MeasurementDraft {
+        number,
+        at,
+        gage,
+        discharge,
+        grade,
+    };
+    Some((Fields::Measurement(measurement), rest))
+}
+
+/// How good a measurement is.
+#[tactic(auto, unfolding(crate::specs::Reading::grade_at))]
+fn grade_of(bytes: &[u8]) -> Option<(Grade, &[u8])>
+    ensures { option_map (λ x. (x.0, x.1.now)) result ≡ grade_at bytes.now }
+{
+    let (number, rest) = byte_of(bytes)?;
+    let grade = Grade::of_number(number)?;
+    Some((grade, rest))
+}
+
+/// The fields of a measurement that is dropped.
+#[tactic(auto, unfolding(crate::specs::Reading::dropped_measurement_at))]
+pub(crate) fn dropped_measurement_of(bytes: &[u8]) -> Option<(Fields<'_>, &[u8])>
+    ensures { option_map (λ x. (what_of x.0, x.1.now)) result ≡ dropped_measurement_at bytes.now }
+{
+    let (number, rest) = u32_of(bytes)?;
+    Some((Fields::DroppedMeasurement { number }, rest))
+}

@@ -1,29 +1,36 @@
 -- The days that are compared cover the interval of what is touched.
-use Rattle.std.specs.Prelude.{◌≡◌, ℕ, Bool, true, false, ◌&&◌, List, All, ◌⊎◌, Option, Some, None, ℤ, pos, ◌+ℤ◌, ◌-ℤ◌, ◌≤ℤ◌, ◌<ℤ◌, int_le, int_lt}
+use Rattle.std.specs.Prelude.{◌≡◌, ℕ, Bool, true, false, cond, ◌&&◌, List, [], ◌∷◌, All, IfSome, ◌⊎◌, Option, Some, None, ℤ, pos, ◌+ℤ◌, ◌-ℤ◌, ◌≤ℤ◌, ◌<ℤ◌, int_le, int_lt}
 use Rattle.std.specs.Int.{int_max, int_min}
 use Rattle.std.specs.List.{list_any}
+use Rattle.std.specs.Ordering.{int_eq}
 use Rattle.std.proofs.Common.{arith, refl, ap, sym, subst, ◌∙◌, inl, inr}
 use Rattle.std.proofs.lemmas.Int.{ints, by_lt_z}
 use Rattle.std.proofs.lemmas.Bool.Decides.{Decides-int_eq}
-use Rattle.std.proofs.lemmas.List.Elements.{All-weaker}
+use Rattle.std.proofs.lemmas.List.Elements.{All-head, All-tail, All-weaker}
 use Rattle.fixed_units.specs.Quantities.{IsDay, IsStamp, SiteNumber, first_day, last_day}
 use Rattle.fixed_units.specs.declared.readings.Reading.{Reading}
 use Rattle.fixed_units.specs.Calendar.{calendar}
 use Rattle.fixed_units.proofs.CalendarLemmas.{calendar_any, calendar_any_none}
 use Rattle.rising.specs.Ends.{first, last}
+use Rattle.rising.specs.Lists.{at}
 use Rattle.rising.proofs.Ends.{first-kept, last-kept}
 use Rattle.curves.specs.declared.entries.Entry.{Entry}
 use Rattle.civil_days.specs.Starts.{IsZone, IsIn, day_start_of, calendar_end}
 use Rattle.civil_days.proofs.RiseLemmas.{rise, zone_steps, zone_lengths}
-use Rattle.edits.specs.Lawful.{IsLawful, IsPutReading}
+use Rattle.edits.specs.Lawful.{IsLawful, IsPutPeriod, IsPutReading}
 use Rattle.edits.specs.declared.content.What.{What}
-use Rattle.edits.specs.declared.content.What.TheVariants.{AddStation, SetStation, PutReadings, PutCorrection, DropCorrection, PutShift, DropShift}
-use Rattle.office_inputs.specs.KeptStation.{IsStation}
-use Rattle.office_inputs.specs.Stations.{StationRecord, series_of, station_of}
-use Rattle.office_inputs.specs.declared.series.StationSeries.{StationSeries}
-use Rattle.office_inputs.specs.declared.series.StationSeries.TheVariants.{Correction, Shift}
-use Rattle.office_inputs.specs.Touched.{about_entry, about_entry_of, is_filled, is_between_filled, in_reach, touched_by, between_readings, meets, most_gap_seconds, IsUsedSpan}
-use Rattle.office_inputs.specs.declared.touched.Touched.TheVariants.{One, Between}
+use Rattle.edits.specs.declared.content.What.TheVariants.{PutReadings, PutCorrection, DropCorrection, PutShift, DropShift, PutPeriod, DropPeriod}
+use Rattle.ratings.specs.Numbered.{period_from}
+use Rattle.ratings.specs.Periods.{begin}
+use Rattle.ratings.specs.Spans.{Span}
+use Rattle.station_inputs.specs.KeptStation.{IsStation}
+use Rattle.office_inputs.specs.Stations.{station_of}
+use Rattle.station_inputs.specs.Stations.{StationRecord, series_of}
+use Rattle.station_inputs.specs.declared.series.StationSeries.{StationSeries}
+use Rattle.station_inputs.specs.declared.series.StationSeries.TheVariants.{Correction, Shift}
+use Rattle.office_inputs.specs.Touched.{is_filled, is_between_filled, in_reach, touched_by, meets, most_gap_seconds, IsUsedSpan}
+use Rattle.station_inputs.specs.Touched.{about_dropped_period, about_entry, about_period, between_readings, end_or_last, later_end, period_end, touched_at}
+use Rattle.station_inputs.specs.declared.touched.Touched.TheVariants.{One, Between}
 use Rattle.depend.specs.Compared.{IsCover, AreCompared}
 use Rattle.depend.proofs.EntryLemmas.{entry_stamps, from_of, series_has, until_of}
 
@@ -194,7 +201,7 @@ about_cover stations site s text from until true a b n e z h = absurd (cc)
 about_cover stations site s text from until false a b n e z h =
     cover_same (meets_in text from until) (in_reach stations site (Between from until false)) a b (λ d. rw (e, sym z) (and_true (meets_in text from until d))) h
 
-greater : (x y : ℤ) → (x ≤ℤ int_max x y) × ((y ≤ℤ int_max x y) × ((int_max x y ≡ x) ⊎ (int_max x y ≡ y)))
+pub greater : (x y : ℤ) → (x ≤ℤ int_max x y) × ((y ≤ℤ int_max x y) × ((int_max x y ≡ x) ⊎ (int_max x y ≡ y)))
 greater x y = by_lt_z y x (λ l. let e : int_lt y x ≡ true = grind (arith, ints) in rw e (omega (arith, ints), (omega (arith, ints), inl refl)))
     (λ l. let e : int_lt y x ≡ false = grind (arith, ints) in rw e (omega (arith, ints), (omega (arith, ints), inr refl)))
 
@@ -323,6 +330,15 @@ one_cover stations site own k = record {
   only = λ d l m n. absurd (omega (arith, ints));
 }
 
+-- what holds of each element holds of the one that is found
+at_step : {X : Type 0} (P : X → Type 0) (x y : X) (o : Option X) (b : Bool) → P x → (o ≡ Some y → P y) → cond b (Some x) o ≡ Some y → P y
+at_step P x y o true h k e = let same : x ≡ y = cc in subst P same h
+at_step P x y o false h k e = k e
+
+at_kept : {X : Type 0} (place : X → ℤ) (P : X → Type 0) (n : ℤ) (xs : List X) → All P xs → (y : X) → at place n xs ≡ Some y → P y
+at_kept place P n [] h y e = absurd (cc)
+at_kept place P n (x ∷ xs) h y e = at_step P x y (at place n xs) (int_eq (place x) n) (All-head P x xs h) (at_kept place P n xs (All-tail P x xs h) y) e
+
 -- what an edit touches is between stamps
 between_stamps : (o p : Option Reading) (from until : ℤ) (cells : Bool) → ((r : Reading) → o ≡ Some r → IsStamp r.at) → ((r : Reading) → p ≡ Some r → IsStamp r.at)
     → between_readings o p ≡ Between from until cells → IsStamp from × IsStamp until
@@ -341,23 +357,54 @@ entry_between at es from until cells h k e =
     let g : until_of at es ≡ until = cc in
     (subst IsStamp f stamps.0, subst IsStamp g stamps.1)
 
-about_stamps : (o : Option StationRecord) (which : StationSeries) (at from until : ℤ) (cells : Bool) → ((s : StationRecord) → o ≡ Some s → IsStation s) → IsStamp at
-    → about_entry_of o which at ≡ Between from until cells → IsStamp from × IsStamp until
-about_stamps None which at from until cells k h e = absurd (cc)
-about_stamps (Some s) which at from until cells k h e =
-    let kept = (k s refl).entries_at_stamps in
+series_between : (s : StationRecord) (which : StationSeries) (at from until : ℤ) (cells : Bool) → IsStation s → IsStamp at
+    → about_entry at (series_of which s) ≡ Between from until cells → IsStamp from × IsStamp until
+series_between s which at from until cells k h e =
+    let kept = k.entries_at_stamps in
     entry_between at (series_of which s) from until cells h
     (series_has (λ (es : List Entry). All (λ (x : Entry). IsStamp x.at) es) which s kept.first kept.second kept.third kept.shifts) e
 
-pub stamps : (o : Option StationRecord) (what : What) (from until : ℤ) (cells : Bool) → ((s : StationRecord) → o ≡ Some s → IsStation s) → IsLawful what
-    → touched_by o what ≡ Between from until cells → IsStamp from × IsStamp until
-stamps o (AddStation name zone gap stages discharges) from until cells k l e = absurd (cc)
-stamps o (SetStation name gap stages discharges) from until cells k l e = absurd (cc)
-stamps o (PutReadings readings) from until cells k l e =
+-- a period begins at a stamp, and ends at one or at the last
+end_stamp : (until : Option ℤ) → IfSome until IsStamp → IsStamp (end_or_last until)
+end_stamp None h = record { low = omega (arith, ints); high = omega (arith, ints) }
+end_stamp (Some until) h = h
+
+max_stamp : (x y : ℤ) → IsStamp x → IsStamp y → IsStamp (int_max x y)
+max_stamp x y k l = elim ((greater x y).1.1) [ inl e ↦ subst IsStamp (sym e) k | inr e ↦ subst IsStamp (sym e) l ]
+
+later_stamp : (p : Span) (o : Option Span) → IsPutPeriod p → ((q : Span) → o ≡ Some q → IsPutPeriod q) → IsStamp (later_end p o)
+later_stamp p None h k = end_stamp p.until h.ends
+later_stamp p (Some q) h k = max_stamp (period_end p) (period_end q) (end_stamp p.until h.ends) (end_stamp q.until (k q refl).ends)
+
+period_between : (first last from until : ℤ) (cells : Bool) → IsStamp first → IsStamp last → about_period first last ≡ Between from until cells → IsStamp from × IsStamp until
+period_between first last from until cells h k e =
+    let f : first ≡ from = cc in
+    let g : last ≡ until = cc in
+    (subst IsStamp f h, subst IsStamp g k)
+
+dropped_between : (o : Option Span) (from until : ℤ) (cells : Bool) → ((q : Span) → o ≡ Some q → IsPutPeriod q) → about_dropped_period o ≡ Between from until cells
+    → IsStamp from × IsStamp until
+dropped_between None from until cells k e = absurd (cc)
+dropped_between (Some q) from until cells k e = let h = k q refl in period_between q.from (period_end q) from until cells h.begins (end_stamp q.until h.ends) e
+
+stamps_at : (s : StationRecord) (what : What) (from until : ℤ) (cells : Bool) → IsStation s → IsLawful what → touched_at s what ≡ Between from until cells
+    → IsStamp from × IsStamp until
+stamps_at s (PutReadings readings) from until cells k l e =
     let all = All-weaker IsPutReading (λ (r : Reading). IsStamp r.at) (λ r k. k.stamp) readings l.each in
     between_stamps (first readings) (last readings) from until cells
     (λ r f. first-kept (λ (r : Reading). IsStamp r.at) readings r all f) (λ r f. last-kept (λ (r : Reading). IsStamp r.at) readings r all f) e
-stamps o (PutCorrection set at curve prorate) from until cells k l e = about_stamps o (Correction set) at from until cells k l.1 e
-stamps o (DropCorrection set at) from until cells k l e = about_stamps o (Correction set) at from until cells k l.1 e
-stamps o (PutShift at curve prorate) from until cells k l e = about_stamps o Shift at from until cells k l.0 e
-stamps o (DropShift at) from until cells k l e = about_stamps o Shift at from until cells k l e
+stamps_at s (PutCorrection set at curve prorate) from until cells k l e = series_between s (Correction set) at from until cells k l.1 e
+stamps_at s (DropCorrection set at) from until cells k l e = series_between s (Correction set) at from until cells k l.1 e
+stamps_at s (PutShift at curve prorate) from until cells k l e = series_between s Shift at from until cells k l.0 e
+stamps_at s (DropShift at) from until cells k l e = series_between s Shift at from until cells k l e
+stamps_at s (PutPeriod p) from until cells k l e =
+    period_between p.from (later_end p (period_from p.from s.ratings.periods)) from until cells l.begins
+    (later_stamp p (period_from p.from s.ratings.periods) l (at_kept begin IsPutPeriod p.from s.ratings.periods k.periods_are)) e
+stamps_at s (DropPeriod start) from until cells k l e =
+    dropped_between (period_from start s.ratings.periods) from until cells (at_kept begin IsPutPeriod start s.ratings.periods k.periods_are) e
+stamps_at s _ from until cells k l e = absurd (cc)
+
+pub stamps : (o : Option StationRecord) (what : What) (from until : ℤ) (cells : Bool) → ((s : StationRecord) → o ≡ Some s → IsStation s) → IsLawful what
+    → touched_by o what ≡ Between from until cells → IsStamp from × IsStamp until
+stamps None what from until cells k l e = absurd (cc)
+stamps (Some s) what from until cells k l e = stamps_at s what from until cells (k s refl) l e

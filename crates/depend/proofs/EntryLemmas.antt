@@ -25,14 +25,15 @@ use Rattle.civil_days.proofs.RiseLemmas.{zone_steps}
 use Rattle.day_inputs.specs.DayInputs.{with_window, last_at, most_gap}
 use Rattle.day_inputs.specs.Equality.{same_inputs}
 use Rattle.day_inputs.proofs.EqualityLemmas.{Decides-same_inputs}
-use Rattle.office_inputs.specs.KeptStation.{IsStation}
+use Rattle.station_inputs.specs.KeptStation.{IsStation}
 use Rattle.ratings.specs.Numbered.{StationRatings}
-use Rattle.office_inputs.specs.Series.{corrections_with, entries_in, shifts_with}
-use Rattle.office_inputs.specs.Stations.{StationRecord, series_of, station_day, with_series, day_start}
-use Rattle.office_inputs.specs.Touched as touched
-use Rattle.office_inputs.specs.Touched.{about_entry, has_inputs, meets, most_gap_seconds, says_from}
-use Rattle.office_inputs.specs.declared.series.StationSeries.{StationSeries}
-use Rattle.office_inputs.specs.declared.series.StationSeries.TheVariants.{Correction, Shift}
+use Rattle.station_inputs.specs.Series.{corrections_with, entries_in, shifts_with}
+use Rattle.station_inputs.specs.Stations.{StationRecord, series_of, station_day, with_series, day_start}
+use Rattle.station_inputs.specs.Touched as touched
+use Rattle.office_inputs.specs.Touched.{meets, most_gap_seconds}
+use Rattle.station_inputs.specs.Touched.{about_entry, has_inputs, says_from}
+use Rattle.station_inputs.specs.declared.series.StationSeries.{StationSeries}
+use Rattle.station_inputs.specs.declared.series.StationSeries.TheVariants.{Correction, Shift}
 
 -- where a test fails, what follows from it is not so
 pub by_test : (b : Bool) {P : Type 0} → (b ≡ true → P) → (b ≡ false → P) → P
@@ -43,7 +44,7 @@ pub gap_seconds : (gap : ℕ) → gap ≤ most_gap → pos (60 * gap) ≤ℤ mos
 gap_seconds gap h = omega (arith, ints)
 
 -- each reading of a window stands at most the gap before the day, and at most the gap after it
-abbrev IsNear : ℤ → ℤ → ℤ → Reading → Type 0
+abbrev pub IsNear : ℤ → ℤ → ℤ → Reading → Type 0
 IsNear a b gap r = ((a -ℤ gap) ≤ℤ r.at) × (r.at ≤ℤ (b +ℤ gap))
 
 lead_step : (a b gap : ℤ) (r : Reading) (c : Bool) → int_le (a -ℤ r.at) gap ≡ c → a ≤ℤ b → pos 0 ≤ℤ gap → r.at <ℤ a
@@ -71,7 +72,7 @@ follow_near a b gap (Some r) o g h =
 inner_near : (a b gap : ℤ) (r : Reading) → pos 0 ≤ℤ gap → is_of_day a b r ≡ true → IsNear a b gap r
 inner_near a b gap r g h = (grind (arith, ints), grind (arith, ints))
 
-window_near : (a b gap : ℤ) (rs : List Reading) → a ≤ℤ b → pos 0 ≤ℤ gap → All (IsNear a b gap) (window a b gap rs)
+pub window_near : (a b gap : ℤ) (rs : List Reading) → a ≤ℤ b → pos 0 ≤ℤ gap → All (IsNear a b gap) (window a b gap rs)
 window_near a b gap rs o g =
     with_neighbours_keeps (IsNear a b gap) (neighbour_before a gap rs) (inner a b rs) (neighbour_after b gap rs)
     (lead_near a b gap (find (is_early a) (reverse rs)) o g (find_passes (is_early a) (reverse rs)))
@@ -79,7 +80,7 @@ window_near a b gap rs o g =
     (follow_near a b gap (find (is_late b) rs) o g (find_passes (is_late b) rs))
 
 -- what holds of each reading's instant holds of the last one's, which is no earlier than the first one's
-last_has : (P : ℤ → Type 0) (r : Reading) (rs : List Reading) → All (λ (x : Reading). P x.at) (r ∷ rs) → P (last_at r rs)
+pub last_has : (P : ℤ → Type 0) (r : Reading) (rs : List Reading) → All (λ (x : Reading). P x.at) (r ∷ rs) → P (last_at r rs)
 last_has P r [] h = All-head (λ (x : Reading). P x.at) r [] h
 last_has P r (s ∷ rs) h = last_has P s rs (All-tail (λ (x : Reading). P x.at) r (s ∷ rs) h)
 

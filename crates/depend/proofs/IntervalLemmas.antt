@@ -1,12 +1,11 @@
 -- No day outside the interval of an edit changes, kind by kind.
-use Rattle.std.specs.Prelude.{◌≡◌, ◌*◌, ℕ, Bool, true, false, cond, ◌&&◌, List, [], ◌∷◌, All, ◌⊎◌, Option, Some, None, ℤ, pos, ◌+ℤ◌, ◌-ℤ◌, ◌≤ℤ◌, ◌<ℤ◌, int_le}
+use Rattle.std.specs.Prelude.{◌≡◌, ◌*◌, ℕ, Bool, true, false, cond, List, [], ◌∷◌, All, ◌⊎◌, Option, Some, None, ℤ, pos, ◌+ℤ◌, ◌-ℤ◌, ◌≤ℤ◌, ◌<ℤ◌}
 use Rattle.std.proofs.Common.{arith, refl, ap, sym, subst, ◌∙◌, inl, inr}
 use Rattle.std.proofs.lemmas.Int.{ints, by_lt_z}
 use Rattle.std.proofs.lemmas.List.Elements.{All-head, All-tail, All-cons, All-weaker}
 use Rattle.std.specs.Ordering.{int_eq}
 use Rattle.fixed_units.specs.Quantities.{IsDay, SiteNumber, site_place}
 use Rattle.fixed_units.specs.declared.readings.Reading.{Reading}
-use Rattle.fixed_units.proofs.CalendarLemmas.{calendar_any}
 use Rattle.rising.specs.Ends.{last}
 use Rattle.rising.specs.Lists as lists
 use Rattle.rising.proofs.Ends.{last-cons}
@@ -26,21 +25,27 @@ use Rattle.day_inputs.specs.declared.day_inputs.DayInputs.{DayInputs}
 use Rattle.day_inputs.specs.declared.day_inputs.DayInputs.TheVariants.{Empty, Day}
 use Rattle.edits.specs.Lawful.{IsLawful}
 use Rattle.edits.specs.declared.content.What.{What}
-use Rattle.edits.specs.declared.content.What.TheVariants.{AddStation, SetStation, PutReadings, PutCorrection, DropCorrection, PutShift, DropShift}
+use Rattle.edits.specs.declared.content.What.TheVariants.{AddStation, SetStation, PutReadings, PutCorrection, DropCorrection, PutShift, DropShift, AddRating, PutPeriod, DropPeriod, PutMeasurement, DropMeasurement}
 use Rattle.edits.specs.declared.content.Edit.{Edit}
 use Rattle.office_inputs.specs.Changes.{keeps_day}
 use Rattle.office_inputs.specs.Kept.{AreStations, records_of}
-use Rattle.office_inputs.specs.KeptStation.{KeptStation, IsStation}
-use Rattle.office_inputs.specs.Refusals.{refusal_of, adds_station}
-use Rattle.office_inputs.specs.Stations.{StationRecord, station_of, station_day, day_of_station, inputs_of_day, after_what, changed_at, place_of, described, series_of, with_readings, with_series, day_start}
-use Rattle.office_inputs.specs.declared.series.StationSeries.{StationSeries}
-use Rattle.office_inputs.specs.declared.series.StationSeries.TheVariants.{Correction, Shift}
-use Rattle.office_inputs.specs.declared.touched.Touched.TheVariants.{Between}
-use Rattle.office_inputs.specs.Touched.{about_entry_of, has_inputs, is_filled, is_between_filled, in_reach, touched_by, touched_of, between_readings, meets, meets_day, most_gap_seconds}
+use Rattle.station_inputs.specs.KeptStation.{KeptStation, IsStation}
+use Rattle.office_inputs.specs.Refusals.{refusal_of}
+use Rattle.office_inputs.specs.Stations.{place_of, station_of}
+use Rattle.station_inputs.specs.Changes.{keeps_station_day}
+use Rattle.station_inputs.specs.Stations.{StationRecord, station_day, described, series_of, with_readings, with_series, day_start}
+use Rattle.station_inputs.specs.declared.series.StationSeries.{StationSeries}
+use Rattle.station_inputs.specs.declared.series.StationSeries.TheVariants.{Correction, Shift}
+use Rattle.station_inputs.specs.declared.touched.Touched.TheVariants.{Between}
+use Rattle.office_inputs.specs.Touched.{in_reach, touched_by, touched_of, meets, most_gap_seconds}
+use Rattle.station_inputs.specs.Touched.{about_entry, between_readings, has_inputs, touched_at}
 use Rattle.office_inputs.specs.declared.limits.Limits.{Limits}
 use Rattle.office_inputs.proofs.KeepLemmas.{adds_none, add_told, change_told}
-use Rattle.office_inputs.proofs.StationLemmas.{day_any}
-use Rattle.depend.proofs.EntryLemmas.{by_test, gap_seconds, Keeps, from_of, until_of, entry_meets}
+use Rattle.station_inputs.proofs.PeriodDays.{rating_told}
+use Rattle.station_inputs.proofs.StationLemmas.{day_any}
+use Rattle.depend.proofs.EntryLemmas.{by_test, gap_seconds, Keeps, entry_meets}
+use Rattle.depend.proofs.PeriodLemmas.{dropped_period_day, put_period_day}
+use Rattle.depend.proofs.TouchedDays.{IsTouchedDay, meets_at, of_interval}
 
 -- a station that is found keeps to its ranges
 station_step : (s t : StationRecord) (o : Option StationRecord) (b : Bool) → IsStation s → cond b (Some s) o ≡ Some t → (o ≡ Some t → IsStation t) → IsStation t
@@ -54,23 +59,6 @@ station_is (k ∷ kept) site s h e =
     station_step k.station s (station_of (records_of kept) site) (int_eq (place_of k.station) (site_place site))
     (All-head (λ (k : KeptStation). IsStation k.station) k kept h) e
     (station_is kept site s (All-tail (λ (k : KeptStation). IsStation k.station) k kept h))
-
--- what is told of a day that is kept and not kept
-kept_not : (b : Bool) → true ≡ b → b ≡ false → ⊥
-kept_not b e f = let k = e ∙ f in absurd (cc)
-
--- a day that has inputs lies between two that have
-self_le : (b : Bool) (day : ℤ) → b ≡ true → (int_le day day && b) ≡ true
-self_le b day h = rw h (grind (arith, ints))
-
-both_true : (b c : Bool) → b ≡ true → c ≡ true → (b && c) ≡ true
-both_true b c e f = rw (e, f) refl
-
-pub filled_between : (stations : List StationRecord) (site : SiteNumber) (day : ℤ) → IsDay day → is_filled stations site day ≡ true → is_between_filled stations site day ≡ true
-filled_between stations site day d h =
-    both_true _ _
-    (calendar_any (λ earlier. int_le earlier day && is_filled stations site earlier) day d (self_le (is_filled stations site day) day h))
-    (calendar_any (λ later. int_le day later && is_filled stations site later) day d (self_le (is_filled stations site day) day h))
 
 -- a day without inputs stays without them where its station is described anew
 is_empty : (inputs : DayInputs) → has_inputs inputs ≡ false → inputs ≡ Empty
@@ -149,73 +137,26 @@ far_day s day r rs k d h m =
     sym ((Decides-same_inputs (station_day s day) (station_day (with_readings (r ∷ rs) s) day)).1
     (ap (λ (w : List Reading). with_window s.gap s.stage_array s.discharge_array a b s.corrections s.shifts s.ratings w) (sym same)))
 
--- an edit of a site that is not kept and that adds no station keeps each day
-none_changed : (stations : List StationRecord) (site : SiteNumber) (change : StationRecord → StationRecord) (day : ℤ) → station_of stations site ≡ None
-    → true ≡ same_inputs (inputs_of_day stations site day) (inputs_of_day (changed_at site change stations) site day)
-none_changed stations site change day e = rw e (rw e refl)
+-- equal inputs do not differ
+same_not : (inputs : DayInputs) → same_inputs inputs inputs ≡ false → ⊥
+same_not inputs n = let k : true ≡ false = sym ((Decides-same_inputs inputs inputs).1 refl) ∙ n in absurd (cc)
 
--- a station that is added was not kept
-not_kept : (limits : Limits) (stations : List StationRecord) (edit : Edit) (o : Option StationRecord) → adds_station edit.what ≡ true
-    → refusal_of limits stations edit ≡ None → station_of stations edit.site ≡ o → station_of stations edit.site ≡ None
-not_kept limits stations edit None a r e = e
-not_kept limits stations edit (Some s) a r e = absurd (kept_not (adds_station edit.what) (sym a) (adds_none limits stations edit s r e))
+told_not : (b : Bool) → true ≡ b → b ≡ false → ⊥
+told_not b e n = let k : true ≡ false = e ∙ n in absurd (cc)
 
--- whether a day outside the interval may differ
-abbrev Reaches : List StationRecord → SiteNumber → ℤ → What → Type 0
-Reaches stations site day what =
-    same_inputs (inputs_of_day stations site day) (inputs_of_day (after_what site what stations) site day) ≡ false
-    → in_reach stations site (touched_by (station_of stations site) what) day ≡ true
+-- a day that readings change meets the time from the first of them to the last
+put_day : (s : StationRecord) (day : ℤ) (r : Reading) (rs : List Reading) → IsStation s → IsDay day → IsRising (r ∷ rs)
+    → keeps_station_day s (PutReadings (r ∷ rs)) day ≡ false → IsTouchedDay s (Between r.at (last_of r rs).at false) day
+put_day s day r rs k d h n = (
+  by_test (meets_at s r.at (last_of r rs).at day) (λ t. t) (λ f. absurd (told_not _ (far_day s day r rs k d h f) n)),
+  λ t. absurd (cc),
+)
 
-set_reaches : (stations : List StationRecord) (site : SiteNumber) (day : ℤ) (name : List ℕ) (gap : ℕ) (stages discharges : List ℕ) (o : Option StationRecord)
-    → IsDay day → station_of stations site ≡ o → Reaches stations site day (SetStation name gap stages discharges)
-set_reaches stations site day name gap stages discharges None d e n = absurd (kept_not _ (none_changed stations site (described name gap stages discharges) day e) n)
-set_reaches stations site day name gap stages discharges (Some s) d e n =
-    by_test (has_inputs (station_day s day))
-    (λ t. filled_between stations site day d (rw e t))
-    (λ f. absurd (kept_not _
-    (change_told stations site (SetStation name gap stages discharges) day s (described name gap stages discharges) true refl refl e (empty_kept s day name gap stages discharges f)) n))
-
-put_met : (stations : List StationRecord) (site : SiteNumber) (day : ℤ) (r : Reading) (rs : List Reading) (s : StationRecord) → station_of stations site ≡ Some s
-    → meets r.at (last_of r rs).at (day_start s day) (day_start s (day +ℤ pos 1)) ≡ true → in_reach stations site (touched_by (station_of stations site) (PutReadings (r ∷ rs))) day ≡ true
-put_met stations site day r rs s e t =
-    ap (λ (o : Option Reading). in_reach stations site (between_readings (Some r) o) day) (last_is r rs) ∙ rw e (rw t refl)
-
-put_reaches : (kept : List KeptStation) (site : SiteNumber) (day : ℤ) (r : Reading) (rs : List Reading) (o : Option StationRecord)
-    → AreStations kept → IsDay day → IsRising (r ∷ rs) → station_of (records_of kept) site ≡ o → Reaches (records_of kept) site day (PutReadings (r ∷ rs))
-put_reaches kept site day r rs None k d h e n = absurd (kept_not _ (none_changed (records_of kept) site (with_readings (r ∷ rs)) day e) n)
-put_reaches kept site day r rs (Some s) k d h e n =
-    by_test (meets r.at (last_of r rs).at (day_start s day) (day_start s (day +ℤ pos 1)))
-    (λ t. put_met (records_of kept) site day r rs s e t)
-    (λ f. absurd (kept_not _
-    (change_told (records_of kept) site (PutReadings (r ∷ rs)) day s (with_readings (r ∷ rs)) true refl refl e
-    (far_day s day r rs (station_is kept site s k.each e) d h f)) n))
-
--- a day that has inputs and meets the time in which an entry has a say
-in_reach_about : (stations : List StationRecord) (site : SiteNumber) (from until day : ℤ) (s : StationRecord) → station_of stations site ≡ Some s
-    → meets from until (day_start s day) (day_start s (day +ℤ pos 1)) ≡ true → is_between_filled stations site day ≡ true
-    → in_reach stations site (Between from until true) day ≡ true
-in_reach_about stations site from until day s e m f =
-    both_true (meets_day from until (station_of stations site) day) (is_between_filled stations site day)
-    (ap (λ (o : Option StationRecord). meets_day from until o day) e ∙ m) f
-
-entry_reaches : (kept : List KeptStation) (site : SiteNumber) (day : ℤ) (what : What) (which : StationSeries) (at : ℤ) (change : List Entry → List Entry) (o : Option StationRecord)
-    → AreStations kept → IsDay day → after_what site what (records_of kept) ≡ changed_at site (with_series which change) (records_of kept)
-    → station_of (records_of kept) site ≡ o → ((es : List Entry) → series.IsRising es → Keeps at change es)
-    → same_inputs (inputs_of_day (records_of kept) site day) (inputs_of_day (after_what site what (records_of kept)) site day) ≡ false
-    → in_reach (records_of kept) site (about_entry_of (station_of (records_of kept) site) which at) day ≡ true
-entry_reaches kept site day what which at change None k d w e keeps n =
-    absurd (kept_not _
-    (none_changed (records_of kept) site (with_series which change) day e)
-    (ap (λ (after : List StationRecord). same_inputs (inputs_of_day (records_of kept) site day) (inputs_of_day after site day)) (sym w) ∙ n))
-entry_reaches kept site day what which at change (Some s) k d w e keeps n =
-    let stations = records_of kept in
-    let own : inputs_of_day stations site day ≡ station_day s day = ap (λ (o : Option StationRecord). day_of_station o day) e in
-    let told : same_inputs (station_day s day) (station_day (with_series which change s) day) ≡ same_inputs (inputs_of_day stations site day) (inputs_of_day (after_what site what stations) site day) =
-    change_told stations site what day s (with_series which change) (same_inputs (station_day s day) (station_day (with_series which change s) day)) w refl e refl in
-    let found = entry_meets s day which at change (station_is kept site s k.each e) d keeps (told ∙ n) in
-    ap (λ (o : Option StationRecord). in_reach stations site (about_entry_of o which at) day) e
-    ∙ in_reach_about stations site (from_of at (series_of which s)) (until_of at (series_of which s)) day s e found.1
-    (filled_between stations site day d (ap has_inputs own ∙ found.0))
+-- one that an entry changes has inputs, and meets the time in which the entry has a say
+entry_day : (s : StationRecord) (day : ℤ) (which : StationSeries) (at : ℤ) (change : List Entry → List Entry) → IsStation s → IsDay day
+    → ((es : List Entry) → series.IsRising es → Keeps at change es) → same_inputs (station_day s day) (station_day (with_series which change s) day) ≡ false
+    → IsTouchedDay s (about_entry at (series_of which s)) day
+entry_day s day which at change k d keeps n = let found = entry_meets s day which at change k d keeps n in (found.1, λ t. found.0)
 
 -- an entry that is put, and one that is taken out
 put_entry : (at : ℤ) (curve : List (ℤ × ℤ)) (prorate : Bool) (es : List Entry) → series.IsRising es → Keeps at (series.put (entry_of at curve prorate)) es
@@ -224,26 +165,35 @@ put_entry at curve prorate es h lo hi o t = put_unchanged lo hi (entry_of at cur
 drop_entry : (at : ℤ) (es : List Entry) → series.IsRising es → Keeps at (series.without at) es
 drop_entry at es h lo hi o t = without_unchanged lo hi at es (lists.at instant_of at es) h o refl t
 
-by_kind : (limits : Limits) (kept : List KeptStation) (edit : Edit) (what : What) (day : ℤ) → edit.what ≡ what → IsLawful what → AreStations kept
-    → refusal_of limits (records_of kept) edit ≡ None → IsDay day → Reaches (records_of kept) edit.site day what
-by_kind limits kept edit (AddStation name zone gap stages discharges) day w l k r d n =
-    absurd (kept_not _
-    (add_told limits (records_of kept) edit (AddStation name zone gap stages discharges) day w r
-    (not_kept limits (records_of kept) edit (station_of (records_of kept) edit.site) (ap adds_station w) r refl)) n)
-by_kind limits kept edit (SetStation name gap stages discharges) day w l k r d n =
-    set_reaches (records_of kept) edit.site day name gap stages discharges (station_of (records_of kept) edit.site) d refl n
-by_kind limits kept edit (PutReadings []) day w l k r d n = absurd (let f = l.fewest in omega arith)
-by_kind limits kept edit (PutReadings (x ∷ xs)) day w l k r d n =
-    put_reaches kept edit.site day x xs (station_of (records_of kept) edit.site) k d l.rising refl n
-by_kind limits kept edit (PutCorrection set at curve prorate) day w l k r d n =
-    entry_reaches kept edit.site day (PutCorrection set at curve prorate) (Correction set) at (series.put (entry_of at curve prorate)) (station_of (records_of kept) edit.site) k d refl refl (put_entry at curve prorate) n
-by_kind limits kept edit (DropCorrection set at) day w l k r d n =
-    entry_reaches kept edit.site day (DropCorrection set at) (Correction set) at (series.without at) (station_of (records_of kept) edit.site) k d refl refl (drop_entry at) n
-by_kind limits kept edit (PutShift at curve prorate) day w l k r d n =
-    entry_reaches kept edit.site day (PutShift at curve prorate) Shift at (series.put (entry_of at curve prorate)) (station_of (records_of kept) edit.site) k d refl refl (put_entry at curve prorate) n
-by_kind limits kept edit (DropShift at) day w l k r d n =
-    entry_reaches kept edit.site day (DropShift at) Shift at (series.without at) (station_of (records_of kept) edit.site) k d refl refl (drop_entry at) n
+-- a day that an edit of a station changes is one that what it touches can change
+changed_day : (s : StationRecord) (what : What) (day : ℤ) → IsStation s → IsLawful what → IsDay day → keeps_station_day s what day ≡ false
+    → IsTouchedDay s (touched_at s what) day
+changed_day s (AddStation name zone gap stages discharges) day k l d n = absurd (same_not (station_day s day) n)
+changed_day s (SetStation name gap stages discharges) day k l d n =
+    by_test (has_inputs (station_day s day)) (λ t. t) (λ f. absurd (told_not _ (empty_kept s day name gap stages discharges f) n))
+changed_day s (PutReadings []) day k l d n = absurd (let f = l.fewest in omega arith)
+changed_day s (PutReadings (r ∷ rs)) day k l d n =
+    subst (λ (o : Option Reading). IsTouchedDay s (between_readings (Some r) o) day) (sym (last_is r rs)) (put_day s day r rs k d l.rising n)
+changed_day s (PutCorrection set at curve prorate) day k l d n = entry_day s day (Correction set) at (series.put (entry_of at curve prorate)) k d (put_entry at curve prorate) n
+changed_day s (DropCorrection set at) day k l d n = entry_day s day (Correction set) at (series.without at) k d (drop_entry at) n
+changed_day s (PutShift at curve prorate) day k l d n = entry_day s day Shift at (series.put (entry_of at curve prorate)) k d (put_entry at curve prorate) n
+changed_day s (DropShift at) day k l d n = entry_day s day Shift at (series.without at) k d (drop_entry at) n
+changed_day s (AddRating rating table) day k l d n = told_not _ (rating_told s day (record { number = rating; rows = table }) k) n
+changed_day s (PutPeriod period) day k l d n = put_period_day s day period k d n
+changed_day s (DropPeriod from) day k l d n = dropped_period_day s day from k d n
+changed_day s (PutMeasurement measurement) day k l d n = same_not (station_day s day) n
+changed_day s (DropMeasurement number) day k l d n = same_not (station_day s day) n
+
+-- and so it is of the edit's interval
+by_station : (limits : Limits) (kept : List KeptStation) (edit : Edit) (day : ℤ) (o : Option StationRecord) → station_of (records_of kept) edit.site ≡ o
+    → AreStations kept → refusal_of limits (records_of kept) edit ≡ None → IsDay day → keeps_day (records_of kept) edit day ≡ false
+    → in_reach (records_of kept) edit.site (touched_by o edit.what) day ≡ true
+by_station limits kept edit day None e k r d n = absurd (told_not _ (sym (add_told limits (records_of kept) edit day r e)) n)
+by_station limits kept edit day (Some s) e k r d n =
+    of_interval (records_of kept) edit.site s (touched_at s edit.what) day e d
+    (changed_day s edit.what day (station_is kept edit.site s k.each e) edit.lawful d
+    (change_told (records_of kept) edit s day (adds_none limits (records_of kept) edit s r e) e ∙ n))
 
 pub no_day_outside : (limits : Limits) (kept : List KeptStation) (edit : Edit) (day : ℤ) → AreStations kept → refusal_of limits (records_of kept) edit ≡ None
     → IsDay day → keeps_day (records_of kept) edit day ≡ false → in_reach (records_of kept) edit.site (touched_of (records_of kept) edit) day ≡ true
-no_day_outside limits kept edit day k r d n = by_kind limits kept edit edit.what day refl edit.lawful k r d n
+no_day_outside limits kept edit day k r d n = by_station limits kept edit day (station_of (records_of kept) edit.site) refl k r d n

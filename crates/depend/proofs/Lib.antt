@@ -1,5 +1,7 @@
 pub mod CalendarLemmas
-pub mod IntervalLemmas
-pub mod CoverLemmas
+pub mod TouchedDays
 pub mod EntryLemmas
+pub mod CoverLemmas
+pub mod PeriodLemmas
+pub mod IntervalLemmas
 pub mod ReachLemmas

@@ -1,9 +1,9 @@
 -- The days that are found by comparing those that cover the interval.
-use Rattle.std.specs.Prelude.{◌≡◌, ◌≤◌, ◌+◌, ℕ, Bool, true, false, not, List, [], ◌∷◌, ◌++◌, filter, length, AllPairs, None, ℤ, pos, ◌+ℤ◌, ◌≤ℤ◌, ◌<ℤ◌}
+use Rattle.std.specs.Prelude.{◌≡◌, ◌≤◌, ◌+◌, ℕ, Bool, true, false, not, List, [], ◌∷◌, ◌++◌, filter, length, AllPairs, None, Some, ℤ, pos, ◌+ℤ◌, ◌≤ℤ◌, ◌<ℤ◌}
 use Rattle.std.proofs.Common.{arith, refl, ap, sym, subst, ◌∙◌, append_assoc}
 use Rattle.std.proofs.lemmas.Int.{ints}
 use Rattle.std.proofs.lemmas.List.{append-nil}
-use Rattle.std.proofs.lemmas.List.Elements.{filter-append}
+use Rattle.std.proofs.lemmas.List.Elements.{filter-append, filter_agree}
 use Rattle.fixed_units.specs.Quantities.{IsDay, SiteNumber, first_day, last_day}
 use Rattle.fixed_units.specs.Calendar.{calendar}
 use Rattle.fixed_units.proofs.CalendarLemmas.{calendar_none}
@@ -11,13 +11,15 @@ use Rattle.day_inputs.specs.Equality.{same_inputs}
 use Rattle.edits.specs.declared.content.Edit.{Edit}
 use Rattle.office_inputs.specs.Changes.{changed_days, keeps_day}
 use Rattle.office_inputs.specs.Kept.{AreStations, records_of}
-use Rattle.office_inputs.specs.KeptStation.{KeptStation}
+use Rattle.station_inputs.specs.Changes.{keeps_station_day}
+use Rattle.station_inputs.specs.KeptStation.{KeptStation}
 use Rattle.office_inputs.specs.Refusals.{refusal_of}
-use Rattle.office_inputs.specs.Stations.{StationRecord, station_of, inputs_of_day, stations_after}
+use Rattle.office_inputs.specs.Stations.{station_of, inputs_of_day, stations_after}
+use Rattle.station_inputs.specs.Stations.{StationRecord}
 use Rattle.office_inputs.specs.Touched.{in_reach, touched_of, interval}
 use Rattle.office_inputs.specs.declared.limits.Limits.{Limits}
 use Rattle.depend.specs.Compared.{days_within, IsCover, AreCompared}
-use Rattle.office_inputs.proofs.KeepLemmas.{add_told}
+use Rattle.office_inputs.proofs.KeepLemmas.{add_told, adds_none, change_told}
 use Rattle.depend.proofs.CalendarLemmas.{within_cons, within_none, calendar_span, calendar_rises, span_length}
 use Rattle.depend.proofs.IntervalLemmas.{no_day_outside}
 
@@ -75,11 +77,14 @@ not_kept_none : (b c : Bool) → (b ≡ false → c ≡ true) → c ≡ false �
 not_kept_none true c h e = refl
 not_kept_none false c h e = absurd (let k = h refl in cc)
 
-pub found_days : (limits : Limits) (kept : List KeptStation) (edit : Edit) (first last : ℤ) → AreStations kept → refusal_of limits (records_of kept) edit ≡ None
+pub found_days : (limits : Limits) (kept : List KeptStation) (edit : Edit) (s : StationRecord) (first last : ℤ) → AreStations kept
+    → refusal_of limits (records_of kept) edit ≡ None → station_of (records_of kept) edit.site ≡ Some s
     → IsCover (in_reach (records_of kept) edit.site (touched_of (records_of kept) edit)) first last
-    → filter (λ day. not (keeps_day (records_of kept) edit day)) (days_within first last) ≡ changed_days (records_of kept) edit
-found_days limits kept edit first last k r c =
-    sym (calendar_span (λ day. not (keeps_day (records_of kept) edit day)) first last c.begins c.ends
+    → filter (λ day. not (keeps_station_day s edit.what day)) (days_within first last) ≡ changed_days (records_of kept) edit
+found_days limits kept edit s first last k r e c =
+    filter_agree (λ day. not (keeps_station_day s edit.what day)) (λ day. not (keeps_day (records_of kept) edit day))
+    (λ d. ap not (change_told (records_of kept) edit s d (adds_none limits (records_of kept) edit s r e) e)) (days_within first last)
+    ∙ sym (calendar_span (λ day. not (keeps_day (records_of kept) edit day)) first last c.begins c.ends
     (λ d l t. c.all d l (no_day_outside limits kept edit d k r l (not_false (keeps_day (records_of kept) edit d) t))))
 
 pub no_days : (limits : Limits) (kept : List KeptStation) (edit : Edit) → AreStations kept → refusal_of limits (records_of kept) edit ≡ None
@@ -93,7 +98,7 @@ no_days limits kept edit k r c =
 pub unkept_days : (limits : Limits) (stations : List StationRecord) (edit : Edit) → refusal_of limits stations edit ≡ None → station_of stations edit.site ≡ None
     → [] ≡ changed_days stations edit
 unkept_days limits stations edit r e =
-    sym (calendar_none (λ day. not (keeps_day stations edit day)) (λ d l. ap not (sym (add_told limits stations edit edit.what d refl r e))))
+    sym (calendar_none (λ day. not (keeps_day stations edit day)) (λ d l. ap not (add_told limits stations edit d r e)))
 
 -- they rise
 pub changed_rise : (stations : List StationRecord) (edit : Edit) (days : List ℤ) → days ≡ changed_days stations edit → AllPairs (λ (a b : ℤ). a <ℤ b) days

@@ -1,18 +1,19 @@
 //! The days that an edit changes.
 
-ghost use Rattle.std.specs.Prelude.{◌≡◌, ◌≤◌, ◌+◌, ◌++◌, [], ◌∷◌, ◌<ℤ◌, not, false, None, Some, List, AllPairs, filter, length, IfOk, OnOk, ℤ};
+ghost use Rattle.std.specs.Prelude.{◌≡◌, ◌≤◌, ◌+◌, ◌++◌, [], ◌∷◌, ◌<ℤ◌, not, None, AllPairs, filter, length, IfOk, OnOk};
 ghost use Rattle.depend.specs.Compared.{days_within};
+ghost use Rattle.edits.specs.Lawful.{IsLawful};
 ghost use Rattle.fixed_units.specs.Quantities.{IsDay};
-ghost use Rattle.office_inputs.specs.Changes.{changed_days, keeps_day};
+ghost use Rattle.office_inputs.specs.Changes.{changed_days};
 ghost use Rattle.office_inputs.specs.Kept.{in_force};
 ghost use Rattle.office_inputs.specs.Places.{IsPlaceOf};
-ghost use Rattle.office_inputs.specs.Refusals.{adds_station, refusal_of};
-ghost use Rattle.office_inputs.specs.Stations.{StationRecord, station_of};
+ghost use Rattle.office_inputs.specs.Refusals.{refusal_of};
 ghost use Rattle.office_inputs.specs.Touched.{interval};
+ghost use Rattle.station_inputs.specs.Changes.{keeps_station_day};
 
 use crate::days::DayList;
 use crate::spans::compared_days_at;
-use edits::Edit;
+use edits::{Edit, What};
 use fixed_units::{Day, NoMemory};
 use office_inputs::{Inputs, Place, Station, stations_keep_to_their_ranges};
 use std::alloc::Global;
@@ -39,7 +40,7 @@ pub fn reach<L: Ledger>(
     reach_at(alloc, inputs, inputs.place(edit.site), edit, steps)
 }
 
-/// The same at the place of the edit's site. Nothing is looked up but where an entry stands in its series.
+/// The same at the place of the edit's site. Nothing is looked up but where an entry or a period stands.
 ///
 /// # Errors
 ///
@@ -62,7 +63,7 @@ pub fn reach_at<L: Ledger>(
         return Ok(DayList::new(alloc));
     };
     match compared_days_at(inputs, place, edit) {
-        Some(span) => changed_between(alloc, station, edit, span, steps),
+        Some(span) => changed_between(alloc, station, &edit.what, span, steps),
         None => Ok(DayList::new(alloc)),
     }
 }
@@ -71,17 +72,17 @@ pub fn reach_at<L: Ledger>(
 fn changed_between<L: Ledger>(
     alloc: Global,
     station: &Station,
-    edit: &Edit,
+    what: &What,
     span: (Day, Day),
     steps: &mut Steps<L>,
 ) -> Result<DayList, NoMemory>
-    requires { adds_station edit.now.what ≡ false }
-    ensures days { IfOk result (λ days. (stations : List StationRecord) → station_of stations edit.now.site ≡ Some station.now.station → days ≡ filter (λ day. not (keeps_day stations edit.now day)) (days_within span.0 span.1)) }
+    requires { IsLawful what.now }
+    ensures days { IfOk result (λ days. days ≡ filter (λ day. not (keeps_station_day station.now.station what.now day)) (days_within span.0 span.1)) }
     ensures steps { steps.new ≤ steps.old + length (days_within span.0 span.1) }
 {
     let mut days = Vec::new(alloc);
     for number in span.0.get()..span.1.get() + 1 {
-        add_changed(&mut days, station, edit, number, steps)?;
+        add_changed(&mut days, station, what, number, steps)?;
     }
     Ok(DayList::from_vec(days))
 }
@@ -90,19 +91,19 @@ fn changed_between<L: Ledger>(
 fn add_changed<L: Ledger>(
     days: &mut Vec<Day>,
     station: &Station,
-    edit: &Edit,
+    what: &What,
     number: i32,
     steps: &mut Steps<L>,
 ) -> Result<(), NoMemory>
-    requires kept { adds_station edit.now.what ≡ false }
+    requires lawful { IsLawful what.now }
     requires day { IsDay number }
-    ensures days { OnOk result ((stations : List StationRecord) → station_of stations edit.now.site ≡ Some station.now.station → days.new.items ≡ days.old.items ++ filter (λ day. not (keeps_day stations edit.now day)) (number ∷ [])) }
+    ensures days { OnOk result (days.new.items ≡ days.old.items ++ filter (λ day. not (keeps_station_day station.now.station what.now day)) (number ∷ [])) }
     ensures step { steps.new ≡ steps.old + 1 }
 {
     let Some(day) = Day::new(number) else {
         unreachable!();
     };
-    if !station.same_day_inputs(edit, day, steps) {
+    if !station.same_day_inputs(what, day, steps) {
         days.push(day)?;
     }
     Ok(())

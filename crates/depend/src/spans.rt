@@ -8,7 +8,7 @@ ghost use Rattle.fixed_units.specs.Quantities.{IsDay, IsStamp, first_day, last_d
 ghost use Rattle.office_inputs.specs.Kept.{in_force};
 ghost use Rattle.office_inputs.specs.Places.{IsPlace, IsPlaceOf};
 ghost use Rattle.office_inputs.specs.Touched.{in_reach, is_between_filled, meets, touched_of};
-ghost use Rattle.office_inputs.specs.declared.touched.Touched.TheVariants.{Between};
+ghost use Rattle.station_inputs.specs.declared.touched.Touched.TheVariants.{Between};
 
 use civil_days::StationZone;
 use edits::Edit;
@@ -23,7 +23,7 @@ pub fn compared_days(inputs: &Inputs, edit: &Edit) -> Option<(Day, Day)>
     compared_days_at(inputs, inputs.place(edit.site), edit)
 }
 
-/// The same at the place of the edit's site. Nothing is looked up but where an entry stands in its series.
+/// The same at the place of the edit's site. Nothing is looked up but where an entry or a period stands.
 pub fn compared_days_at(inputs: &Inputs, place: Place, edit: &Edit) -> Option<(Day, Day)>
     requires { IsPlaceOf (in_force inputs.now) edit.now.site place }
     ensures { AreCompared (in_reach (in_force inputs.now) edit.now.site (touched_of (in_force inputs.now) edit.now)) result }

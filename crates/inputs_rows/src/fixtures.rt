@@ -9,9 +9,10 @@ ghost use Rattle.office_inputs.specs.Stations.{stations_after};
 use civil_days::{read_day, read_instant};
 use curves::Curve;
 use depend::{DayList, reach};
-use edits::{By, Edit, Name, Ref, What};
+use edits::{By, Edit, Grade, Measurement, Name, Ref, What};
 use fixed_units::{Day, Flag, Micro, NoMemory, Reading, RoundingArray, Second, Site, Text};
 use office_inputs::{Inputs, Limits, Refusal};
+use ratings::{Period, SharedTable, Table};
 use readings::ReadingList;
 use std::alloc::Global;
 use std::marker::Brand;
@@ -26,6 +27,22 @@ pub type Stage = (&'static str, i64);
 
 /// The instant of an entry, its amount at every stage in millionths of a foot, and whether it prorates.
 pub type Amount = (&'static str, i64, bool);
+
+/// When a rating begins to be in force, when it ends to be so, if at all, and its number.
+pub type Rated = (&'static str, Option<&'static str>, u32);
+
+/// What a station has only so many of.
+#[derive(Clone, Copy)]
+pub enum Limited {
+    /// A shift of a tenth of a foot, at a second.
+    Shift,
+    /// A rating of this number and one.
+    Rating,
+    /// A period of rating 1, from a second until the next.
+    Period,
+    /// A measurement of this number and one.
+    Measurement,
+}
 
 /// What a row sends.
 #[derive(Clone, Copy)]
@@ -44,8 +61,18 @@ pub enum Sent {
     Shift(Amount),
     /// Takes the entry at an instant out of the shifts.
     NoShift(&'static str),
-    /// Puts a shift of a tenth of a foot at this second.
-    ShiftAt(i64),
+    /// Adds a rating of a number: 10 cubic feet per second at 1 foot, 30 at 2 feet.
+    Rating(u32),
+    /// Puts a period.
+    Period(Rated),
+    /// Takes out the period that begins at an instant.
+    NoPeriod(&'static str),
+    /// Puts a measurement of a number.
+    Measurement(u32),
+    /// Takes out the measurement of a number.
+    NoMeasurement(u32),
+    /// Puts one of many, by where it stands among them, from 0 on.
+    Nth(Limited, u32),
 }
 
 /// Adds the station.
@@ -132,12 +159,67 @@ fn shift(entry: Amount) -> Option<What> {
     })
 }
 
-fn shift_at(second: i64) -> Option<What> {
+fn shift_at(second: u32) -> Option<What> {
     Some(What::PutShift {
-        at: Second::new(second)?,
+        at: Second::new(i64::from(second))?,
         curve: curve(100_000)?,
         prorate: false,
     })
+}
+
+fn rating(alloc: Global, rating: u32) -> Option<What> {
+    let low = (Micro::new(1_000_000)?, Micro::new(10_000_000)?);
+    let high = (Micro::new(2_000_000)?, Micro::new(30_000_000)?);
+    let table = Table::new(alloc, &[low, high]).ok()?;
+    Some(What::AddRating {
+        rating,
+        table: SharedTable::new(alloc, table).ok()?,
+    })
+}
+
+/// The instant of a text, if there is a text.
+fn end(until: Option<&str>) -> Option<Second> {
+    read_instant(until?.as_bytes())
+}
+
+fn period(rated: Rated) -> Option<What> {
+    let from = read_instant(rated.0.as_bytes())?;
+    Some(What::PutPeriod {
+        period: Period::new(from, end(rated.1), rated.2)?,
+    })
+}
+
+fn period_at(second: u32) -> Option<What> {
+    let from = i64::from(second);
+    Some(What::PutPeriod {
+        period: Period::new(Second::new(from)?, Second::new(from + 1), 1)?,
+    })
+}
+
+fn no_period(from: &str) -> Option<What> {
+    let from = read_instant(from.as_bytes())?;
+    Some(What::DropPeriod { from })
+}
+
+fn measurement(number: u32) -> Option<What> {
+    Some(What::PutMeasurement {
+        measurement: Measurement {
+            number,
+            at: read_instant(b"2024-01-05T12:00:00Z")?,
+            gage: Micro::new(1_500_000)?,
+            discharge: Micro::new(20_000_000)?,
+            grade: Grade::Good,
+        },
+    })
+}
+
+fn nth(alloc: Global, limited: Limited, place: u32) -> Option<What> {
+    match limited {
+        Limited::Shift => shift_at(place),
+        Limited::Rating => rating(alloc, place.checked_add(1)?),
+        Limited::Period => period_at(place),
+        Limited::Measurement => measurement(place.checked_add(1)?),
+    }
 }
 
 fn no_correction(set: u8, at: &str) -> Option<What> {
@@ -169,7 +251,12 @@ fn change(alloc: Global, sent: &Sent) -> Option<What> {
         Sent::NoCorrection(set, at) => no_correction(set, at),
         Sent::Shift(entry) => shift(entry),
         Sent::NoShift(at) => no_shift(at),
-        Sent::ShiftAt(second) => shift_at(second),
+        Sent::Rating(number) => rating(alloc, number),
+        Sent::Period(rated) => period(rated),
+        Sent::NoPeriod(from) => no_period(from),
+        Sent::Measurement(number) => measurement(number),
+        Sent::NoMeasurement(number) => Some(What::DropMeasurement { number }),
+        Sent::Nth(limited, place) => nth(alloc, limited, place),
     }
 }
 

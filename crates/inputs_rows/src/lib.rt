@@ -6,6 +6,8 @@ mod entry_rows;
 #[cfg(test)]
 mod fixtures;
 #[cfg(test)]
+mod full_rows;
+#[cfg(test)]
 mod kept_rows;
 #[cfg(test)]
 mod reach_rows;

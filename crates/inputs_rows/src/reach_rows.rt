@@ -29,6 +29,20 @@ const BETWEEN_DAYS: &Sent = &Sent::Shift(("2024-01-06T18:00:00Z", 100_000, true)
 
 const LAST_SHIFT: &Sent = &Sent::Shift(("2024-01-20T00:00:00Z", 0, false));
 
+/// Adds rating 1, and puts a period of it from 2023 on without end.
+const RATING: &Sent = &Sent::Rating(1);
+
+const RATED: &Sent = &Sent::Period((BEGINNING, None, 1));
+
+const BEGINNING: &str = "2023-01-01T00:00:00Z";
+
+/// The same until the instant of the second reading, until a second later, and until the next day.
+const UNTIL_SECOND: &Sent = &Sent::Period((BEGINNING, Some("2024-01-05T17:00:00Z"), 1));
+
+const UNTIL_A_SECOND_LATER: &Sent = &Sent::Period((BEGINNING, Some("2024-01-05T17:00:01Z"), 1));
+
+const UNTIL_NEXT_DAY: &Sent = &Sent::Period((BEGINNING, Some("2024-01-06T05:00:00Z"), 1));
+
 /// What was sent, what is sent then, and the days that it changes.
 type Change = (
     &'static str,
@@ -37,7 +51,7 @@ type Change = (
     &'static [&'static str],
 );
 
-static CHANGES: [Change; 12] = [
+static CHANGES: [Change; 21] = [
     ("a station", &[], ADDITION, &[]),
     ("the first reading", &[ADDITION], FIRST, &["2024-01-05"]),
     (
@@ -100,6 +114,60 @@ static CHANGES: [Change; 12] = [
         LAST_SHIFT,
         &["2024-01-07"],
     ),
+    (
+        "a rating that no period is of",
+        &[ADDITION, FIRST, LATE, RATING, RATED],
+        &Sent::Rating(2),
+        &[],
+    ),
+    (
+        "the first period",
+        &[ADDITION, FIRST, LATE, RATING],
+        RATED,
+        &["2024-01-05", "2024-01-07"],
+    ),
+    (
+        "the same period",
+        &[ADDITION, FIRST, LATE, RATING, RATED],
+        RATED,
+        &[],
+    ),
+    (
+        "an end from the last reading to behind it",
+        &[ADDITION, FIRST, SECOND, RATING, UNTIL_SECOND],
+        UNTIL_A_SECOND_LATER,
+        &["2024-01-05"],
+    ),
+    (
+        "an end farther behind the last reading",
+        &[ADDITION, FIRST, SECOND, RATING, UNTIL_A_SECOND_LATER],
+        UNTIL_NEXT_DAY,
+        &[],
+    ),
+    (
+        "an end no longer before a later day",
+        &[ADDITION, FIRST, LATE, RATING, UNTIL_NEXT_DAY],
+        RATED,
+        &["2024-01-07"],
+    ),
+    (
+        "a period taken out",
+        &[ADDITION, FIRST, LATE, RATING, UNTIL_NEXT_DAY],
+        &Sent::NoPeriod(BEGINNING),
+        &["2024-01-05"],
+    ),
+    (
+        "a measurement",
+        &[ADDITION, FIRST, RATING, RATED],
+        &Sent::Measurement(1),
+        &[],
+    ),
+    (
+        "a measurement taken out",
+        &[ADDITION, FIRST, RATING, RATED, &Sent::Measurement(1)],
+        &Sent::NoMeasurement(1),
+        &[],
+    ),
 ];
 
 /// Whether days are those of these texts.
@@ -146,7 +214,7 @@ fn an_edit_changes_the_days_near_it(rt: HostRuntime) -> Result<(), &'static str>
 /// What was sent, what is sent then, and the first and the last of the days that are compared for it.
 type Compared = (&'static str, &'static [&'static Sent], &'static Sent, Span);
 
-static COMPARED: [Compared; 5] = [
+static COMPARED: [Compared; 7] = [
     ("a station", &[], ADDITION, None),
     (
         "the first reading",
@@ -171,6 +239,18 @@ static COMPARED: [Compared; 5] = [
         &[ADDITION, FIRST, LATE],
         &Sent::Shift(("2024-01-07T18:00:00Z", 100_000, true)),
         Some(("2024-01-06", "2024-01-07")),
+    ),
+    (
+        "a period that ends earlier than the one in whose place it is put",
+        &[ADDITION, FIRST, LATE, RATING, RATED],
+        UNTIL_SECOND,
+        Some(("2024-01-05", "2024-01-07")),
+    ),
+    (
+        "a rating",
+        &[ADDITION, FIRST, LATE, RATING],
+        &Sent::Rating(2),
+        None,
     ),
 ];
 

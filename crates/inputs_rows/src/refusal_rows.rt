@@ -2,24 +2,56 @@
 //! allowed.
 
 use crate::fixtures::{
-    ADDITION, FIRST, LAST, LATE, NEXT, POTOMAC, SECOND, Sent, Stage, no_inputs, send,
+    ADDITION, FIRST, LAST, NEXT, SECOND, Sent, Stage, inputs_after, no_inputs, send,
 };
+use civil_days::read_instant;
+use fixed_units::Second;
 use office_inputs::{Inputs, Limits, Refusal, Which};
 use std::alloc::Global;
 
+/// Why an edit is refused, as a table can hold it.
+#[derive(Clone, Copy, PartialEq, Eq)]
+pub enum Cause {
+    NoStation,
+    StationExists,
+    Limit(Which),
+    NoRating,
+    RatingExists,
+    Overlap,
+    NoEntry,
+    Other,
+}
+
+fn cause_of(refusal: Refusal) -> Cause {
+    match refusal {
+        Refusal::NoStation => Cause::NoStation,
+        Refusal::StationExists => Cause::StationExists,
+        Refusal::Limit(which) => Cause::Limit(which),
+        Refusal::NoRating => Cause::NoRating,
+        Refusal::RatingExists => Cause::RatingExists,
+        Refusal::PeriodOverlap(_) => Cause::Overlap,
+        Refusal::NoEntry => Cause::NoEntry,
+        _ => Cause::Other,
+    }
+}
+
+fn told_cause(refusal: Option<Refusal>) -> Option<Cause> {
+    Some(cause_of(refusal?))
+}
+
 /// What is sent, and why it is refused. What is not refused is accepted.
-type Row = (&'static Sent, Option<Refusal>);
+pub type Row = (&'static Sent, Option<Cause>);
 
-const NO_STATION: Option<Refusal> = Some(Refusal::NoStation);
+const NO_STATION: Option<Cause> = Some(Cause::NoStation);
 
-const STATION_EXISTS: Option<Refusal> = Some(Refusal::StationExists);
+const STATION_EXISTS: Option<Cause> = Some(Cause::StationExists);
 
 /// A count that would pass its limit.
-const STATIONS: Option<Refusal> = Some(Refusal::Limit(Which::Stations));
+const STATIONS: Option<Cause> = Some(Cause::Limit(Which::Stations));
 
-const READINGS: Option<Refusal> = Some(Refusal::Limit(Which::Readings));
+const READINGS: Option<Cause> = Some(Cause::Limit(Which::Readings));
 
-const DAY_READINGS: Option<Refusal> = Some(Refusal::Limit(Which::DayReadings));
+const DAY_READINGS: Option<Cause> = Some(Cause::Limit(Which::DayReadings));
 
 const STATIONS_FIRST: [Row; 6] = [
     (FIRST, NO_STATION),
@@ -65,10 +97,10 @@ const TWO_READINGS_OF_A_DAY: [Row; 7] = [
     (LAST, None),
 ];
 
-const NO_ENTRY: Option<Refusal> = Some(Refusal::NoEntry);
+const NO_ENTRY: Option<Cause> = Some(Cause::NoEntry);
 
 /// A correction and a shift at one instant, and the instant a second later.
-const CORRECTION: &Sent = &Sent::Correction(1, (AT, 100_000, false));
+pub const CORRECTION: &Sent = &Sent::Correction(1, (AT, 100_000, false));
 
 const SHIFT: &Sent = &Sent::Shift((AT, 100_000, true));
 
@@ -94,10 +126,51 @@ const DROPS: [Row; 15] = [
     (&Sent::NoShift(AT), None),
 ];
 
+const NO_RATING: Option<Cause> = Some(Cause::NoRating);
+
+pub const RATING_EXISTS: Option<Cause> = Some(Cause::RatingExists);
+
+/// A period of rating 1 from 2023 on without end, and from there until June.
+const RATED: &Sent = &Sent::Period(("2023-01-01T00:00:00Z", None, 1));
+
+const UNTIL_JUNE: &Sent = &Sent::Period(("2023-01-01T00:00:00Z", Some("2023-06-01T00:00:00Z"), 1));
+
+/// A period of rating 1 from June on.
+const FROM_JUNE: &Sent = &Sent::Period(("2023-06-01T00:00:00Z", None, 1));
+
+const OVERLAP: Option<Cause> = Some(Cause::Overlap);
+
+const RATINGS: [Row; 14] = [
+    (&Sent::Rating(1), NO_STATION),
+    (RATED, NO_STATION),
+    (ADDITION, None),
+    (RATED, NO_RATING),
+    (&Sent::Rating(1), None),
+    (&Sent::Rating(1), RATING_EXISTS),
+    (&Sent::NoPeriod("2023-01-01T00:00:00Z"), NO_ENTRY),
+    (UNTIL_JUNE, None),
+    (FROM_JUNE, None),
+    (RATED, OVERLAP),
+    (&Sent::Period(("2023-01-01T00:00:00Z", None, 9)), NO_RATING),
+    (&Sent::NoPeriod("2023-06-01T00:00:01Z"), NO_ENTRY),
+    (&Sent::NoPeriod("2023-06-01T00:00:00Z"), None),
+    (RATED, None),
+];
+
+const MEASUREMENTS: [Row; 7] = [
+    (&Sent::Measurement(1), NO_STATION),
+    (&Sent::NoMeasurement(1), NO_STATION),
+    (ADDITION, None),
+    (&Sent::Measurement(1), None),
+    (&Sent::NoMeasurement(2), NO_ENTRY),
+    (&Sent::NoMeasurement(1), None),
+    (&Sent::NoMeasurement(1), NO_ENTRY),
+];
+
 /// The limits of the stations, of all readings and of the readings of a local day, and what is sent under them.
 type History = (&'static str, u32, u64, u32, &'static [Row]);
 
-static HISTORIES: [History; 5] = [
+static HISTORIES: [History; 7] = [
     (
         "stations are asked for before limits",
         1,
@@ -133,6 +206,20 @@ static HISTORIES: [History; 5] = [
         0,
         &DROPS,
     ),
+    (
+        "a period is of a rating that stands, and periods may touch",
+        1,
+        0,
+        0,
+        &RATINGS,
+    ),
+    (
+        "a measurement is taken out by its number",
+        1,
+        0,
+        0,
+        &MEASUREMENTS,
+    ),
 ];
 
 fn limits(stations: u32, readings: u64, day_readings: u32) -> Limits {
@@ -144,9 +231,9 @@ fn limits(stations: u32, readings: u64, day_readings: u32) -> Limits {
 }
 
 /// How many are sent before the first to which something else is said than in its row.
-fn count_right(alloc: Global, inputs: &mut Inputs, rows: &[Row]) -> usize {
+pub fn count_right(alloc: Global, inputs: &mut Inputs, rows: &[Row]) -> usize {
     for (row, (sent, refusal)) in rows.iter().enumerate() {
-        if send(alloc, inputs, sent) != *refusal {
+        if told_cause(send(alloc, inputs, sent)) != *refusal {
             return row;
         }
     }
@@ -173,33 +260,66 @@ fn edits_are_refused_for_the_first_cause(rt: HostRuntime) -> Result<(), (&'stati
     Ok(())
 }
 
-/// An entry more than a series has at most.
-const ENTRIES: Option<Refusal> = Some(Refusal::Limit(Which::Entries));
+/// What stands already, what is sent then, and the start of the period that it overlaps, if there is one.
+type Overlap = (
+    &'static str,
+    &'static [&'static Sent],
+    &'static Sent,
+    Option<&'static str>,
+);
 
-/// What is sent once the shifts have an entry at each of the seconds from 0 to 9,999.
-const ONCE_FULL: [Row; 5] = [
-    (&Sent::ShiftAt(10_000), ENTRIES),
-    (&Sent::ShiftAt(9_999), None),
-    (CORRECTION, None),
-    (&Sent::NoShift("1970-01-01T00:00:00Z"), None),
-    (&Sent::ShiftAt(10_000), None),
+static OVERLAPS: [Overlap; 4] = [
+    (
+        "a period within one without end",
+        &[ADDITION, &Sent::Rating(1), RATED],
+        FROM_JUNE,
+        Some("2023-01-01T00:00:00Z"),
+    ),
+    (
+        "a rating that does not stand is told first",
+        &[ADDITION, &Sent::Rating(1), RATED],
+        &Sent::Period(("2023-06-01T00:00:00Z", None, 9)),
+        None,
+    ),
+    (
+        "the earlier of two",
+        &[ADDITION, &Sent::Rating(1), UNTIL_JUNE, FROM_JUNE],
+        &Sent::Period(("2022-01-01T00:00:00Z", None, 1)),
+        Some("2023-01-01T00:00:00Z"),
+    ),
+    (
+        "its own start is none",
+        &[ADDITION, &Sent::Rating(1), UNTIL_JUNE, FROM_JUNE],
+        RATED,
+        Some("2023-06-01T00:00:00Z"),
+    ),
 ];
 
-/// Adds a station with that many shifts.
-fn add_station_with_shifts(alloc: Global, inputs: &mut Inputs, count: i64) {
-    let _refusal = send(alloc, inputs, ADDITION);
-    for second in 0..count {
-        let _refusal = send(alloc, inputs, &Sent::ShiftAt(second));
+/// The start of the period that is told to be overlapped.
+fn overlapped(refusal: Option<Refusal>) -> Option<Second> {
+    match refusal? {
+        Refusal::PeriodOverlap(from) => Some(from),
+        _ => None,
     }
 }
 
-fn count_right_once_full(alloc: Global) -> Option<usize> {
-    let mut inputs = no_inputs(alloc, Limits::usual())?;
-    add_station_with_shifts(alloc, &mut inputs, 10_000);
-    Some(count_right(alloc, &mut inputs, &ONCE_FULL))
+fn overlap(alloc: Global, before: &[&Sent], sent: &Sent) -> Option<Second> {
+    let mut inputs = inputs_after(alloc, before)?;
+    overlapped(send(alloc, &mut inputs, sent))
 }
 
+/// The instant of a text, if there is a text.
+fn instant(text: Option<&str>) -> Option<Second> {
+    read_instant(text?.as_bytes())
+}
+
+/// The first row in which another period is told.
 #[test]
-fn a_full_series_takes_an_entry_in_place_of_another_alone(rt: HostRuntime) {
-    assert!(rt; count_right_once_full(rt.alloc()) == Some(ONCE_FULL.len()));
+fn a_period_shares_no_instant_with_another(rt: HostRuntime) -> Result<(), &'static str> {
+    for (row, before, sent, from) in &OVERLAPS {
+        if overlap(rt.alloc(), before, sent) != instant(*from) {
+            return Err(row);
+        }
+    }
+    Ok(())
 }

@@ -1,8 +1,7 @@
 -- What an edit makes of the stations that are kept, of their records and of how many readings they have.
-use Rattle.std.specs.Prelude.{◌≡◌, ℕ, zero, suc, ◌+◌, ◌<◌, ◌≤◌, Bool, true, false, cond, List, [], ◌∷◌, ◌++◌, filter, length, slice_set, slice_index_or, option_to_list, option_map, Option, Some, None, ℤ, ◌<ℤ◌, int_lt, All}
+use Rattle.std.specs.Prelude.{◌≡◌, ℕ, zero, suc, ◌+◌, ◌<◌, Bool, true, false, cond, List, [], ◌∷◌, ◌++◌, filter, length, slice_set, slice_index_or, option_to_list, option_map, Option, Some, None, ℤ, ◌<ℤ◌, int_lt, All}
 use Rattle.std.proofs.Common.{arith, refl, ap, sym, subst, ◌∙◌}
 use Rattle.std.proofs.lemmas.List.Sums.{sum_by-append, sum_by-cons}
-use Rattle.std.proofs.lemmas.List.{length-append}
 use Rattle.std.proofs.lemmas.List.Elements.{All-head, All-tail, All-cons, All-nil, All-append, All-filter}
 use Rattle.std.proofs.lemmas.List.Kept.{AllPairs-cons}
 use Rattle.rising.proofs.Selecting.{AllPairs-head, AllPairs-tail}
@@ -11,11 +10,12 @@ use Rattle.fixed_units.specs.declared.readings.Reading.{Reading}
 use Rattle.rising.specs.Lists as lists
 use Rattle.rising.proofs.Splitting.{whole}
 use Rattle.rising.proofs.Placing.{put_rises as put_rises_by}
-use Rattle.readings.specs.Readings.{IsRising, put, put_all, instant_of}
-use Rattle.readings.proofs.WindowLemmas.{put_rises}
-use Rattle.office_inputs.specs.KeptStation.{KeptStation, IsStation}
-use Rattle.office_inputs.specs.Stations.{StationRecord, station_of, place_of, with_changed, changed_at}
-use Rattle.office_inputs.specs.Refusals.{reading_count}
+use Rattle.station_inputs.specs.KeptStation.{KeptStation, IsStation}
+use Rattle.office_inputs.specs.Stations.{station_of, place_of, with_changed, changed_at}
+use Rattle.station_inputs.specs.Stations.{StationRecord}
+use Rattle.edits.specs.declared.content.What.{What}
+use Rattle.station_inputs.specs.Obstacles.{obstacle}
+use Rattle.office_inputs.specs.Refusals.{obstacle_of, reading_count}
 use Rattle.office_inputs.specs.Kept.{records_of, kept_at, place_of_kept, AreStations}
 use Rattle.office_inputs.proofs.InputsLemmas.{record_at}
 use Rattle.office_inputs.proofs.KeepLemmas.{at_place}
@@ -105,36 +105,18 @@ records_set kept site i x y change h e f p =
     ap records_of (h.written y n) ∙ records_put y kept ∙ ap (λ (s : StationRecord). lists.put place_of s (records_of kept)) f
     ∙ ap (λ (o : Option StationRecord). with_changed change o (records_of kept)) (sym found)
 
+-- in whose way nothing stands of the station of the site
+pub free_here : (kept : List KeptStation) (site : SiteNumber) (i : ℕ) (x : KeptStation) (what : What) → StandsAt site i kept → x ≡ slice_index_or kept i x
+    → obstacle_of (station_of (records_of kept) site) what ≡ None → obstacle x.station what ≡ None
+free_here kept site i x what h e free =
+    let found : station_of (records_of kept) site ≡ Some x.station =
+    record_at kept site ∙ ap (λ (o : Option KeptStation). option_map (λ (k : KeptStation). k.station) o) (stands_at kept site i x h.within e h.found) in
+    ap (λ (o : Option StationRecord). obstacle_of o what) (sym found) ∙ free
+
 -- a site that is not kept has no station to change
 pub records_none : (stations : List StationRecord) (site : SiteNumber) (change : StationRecord → StationRecord) → station_of stations site ≡ None
     → stations ≡ changed_at site change stations
 records_none stations site change e = ap (λ (o : Option StationRecord). with_changed change o stations) (sym e)
-
--- puts never take readings away
-at_most : (xs ys : List Reading) (o : Option Reading) (r : Reading) → length (xs ++ (option_to_list o ++ ys)) ≤ length (xs ++ r ∷ ys)
-at_most xs ys None r = let a = length-append xs ys in let b = length-append xs (r ∷ ys) in omega (arith, a, b)
-at_most xs ys (Some s) r = let a = length-append xs (s ∷ ys) in let b = length-append xs (r ∷ ys) in omega (arith, a, b)
-
-put_longer : (r : Reading) (rs : List Reading) → IsRising rs → length rs ≤ length (put r rs)
-put_longer r rs h =
-    let w = whole instant_of r.at rs h in
-    let m = at_most (lists.before instant_of r.at rs) (lists.after instant_of r.at rs) (lists.at instant_of r.at rs) r in
-    subst (λ (l : List Reading). length l ≤ length (put r rs)) (sym w) m
-
-pub put_all_longer : (rs xs : List Reading) → IsRising xs → length xs ≤ length (put_all rs xs)
-put_all_longer [] xs h = omega arith
-put_all_longer (r ∷ rs) xs h =
-    let one = put_longer r xs h in
-    let rest = put_all_longer rs (put r xs) (put_rises r xs h) in
-    omega (arith, one, rest)
-
--- and so the list is longer by what it has more
-pub longer_by : (rs xs old new before after : List Reading) → IsRising xs → old ≡ xs → before ≡ xs → new ≡ put_all rs xs → after ≡ new → length before ≤ length after
-longer_by rs xs old new before after h o b n a =
-    let l = put_all_longer rs xs h in
-    let p = ap (λ (r : List Reading). length r) b in
-    let q = ap (λ (r : List Reading). length r) (a ∙ n) in
-    omega (arith, l, p, q)
 
 -- a station of a site that has none, put among those that are kept
 pub count_put_kept : (k : KeptStation) (kept : List KeptStation) → lists.IsRising place_of_kept kept → kept_at kept k.station.site ≡ None → k.station.readings ≡ []

@@ -1,5 +1,5 @@
 -- How an edit raises the counts that have limits.
-use Rattle.std.specs.Prelude.{◌≡◌, ℕ, ◌+◌, Bool, true, false, ◌&&◌, ◌||◌, ◌≤◌, cond, nat_lt, List, [], ◌∷◌, ◌++◌, filter, length, option_to_list, Option, Some, None, ℤ, pos, ◌+ℤ◌, int_lt, int_le}
+use Rattle.std.specs.Prelude.{◌≡◌, ℕ, ◌+◌, Bool, true, false, ◌&&◌, cond, nat_lt, List, [], ◌∷◌, ◌++◌, filter, length, option_to_list, Option, Some, None, ℤ, pos, ◌+ℤ◌, int_lt, int_le}
 use Rattle.std.specs.List.{list_any}
 use Rattle.std.proofs.Common.{arith, refl, ap, sym, ◌∙◌}
 use Rattle.std.proofs.lemmas.Int.{ints}
@@ -16,18 +16,16 @@ use Rattle.readings.specs.Readings.{IsRising, put, at_instant, instant_of}
 use Rattle.readings.specs.Window.{is_of_day, of_day}
 use Rattle.civil_days.specs.Starts.{IsIn}
 use Rattle.civil_days.proofs.RiseLemmas.{one_day}
-use Rattle.office_inputs.specs.KeptStation.{IsStation}
-use Rattle.office_inputs.specs.Refusals.{passes, day_count, passes_a_day, passes_a_series, entry_count, most_entries, passed_limit, reading_count}
+use Rattle.station_inputs.specs.KeptStation.{IsStation}
+use Rattle.office_inputs.specs.Refusals.{day_count, passed_alone, passes_a_day, passed_limit, reading_count}
+use Rattle.station_inputs.specs.Counts.{passed_count, passes}
 use Rattle.office_inputs.specs.Counting.{reading_limit, station_limit, one_more}
-use Rattle.office_inputs.specs.Stations.{StationRecord, station_of, place_of, day_start, with_readings}
+use Rattle.office_inputs.specs.Stations.{station_of, place_of}
+use Rattle.station_inputs.specs.Stations.{StationRecord, day_start, with_readings}
 use Rattle.office_inputs.specs.declared.limits.Limits.{Limits}
-use Rattle.office_inputs.specs.declared.refusals.Which.{Which}
-use Rattle.office_inputs.specs.declared.series.StationSeries.{StationSeries}
-use Rattle.office_inputs.specs.declared.series.StationSeries.TheVariants.{Correction, Shift}
-use Rattle.office_inputs.specs.Series.{all_series, entries_in}
-use Rattle.curves.specs.declared.entries.Entry.{Entry}
-use Rattle.curves.specs.Corrections.{Corrections}
-use Rattle.office_inputs.specs.declared.refusals.Which.TheVariants as counts
+use Rattle.station_inputs.specs.declared.refusals.Which.{Which}
+use Rattle.station_inputs.specs.declared.refusals.Which.TheVariants as counts
+use Rattle.station_inputs.proofs.LengthLemmas.{length_put_new, length_put_same}
 use Rattle.office_inputs.proofs.KeepLemmas.{at_place, put_there}
 
 -- a count that is not raised passes no limit, and one raised by one passes where one more does
@@ -42,46 +40,6 @@ same_passes limit n m e = rw (e, not_below n) refl
 
 pub next_passes : (limit n m : ℕ) → m ≡ n + 1 → passes limit n m ≡ one_more limit n
 next_passes limit n m e = rw (e, below_next n) refl
-
-below_not : (n m : ℕ) → m ≤ n → nat_lt n m ≡ false
-below_not n m h = grind (arith, h)
-
-pub not_raised : (limit n m : ℕ) → m ≤ n → passes limit n m ≡ false
-not_raised limit n m h = let k = below_not n m h in rw k refl
-
--- the four series of a station are asked in turn
-pub any_series : (f : StationSeries → Bool) (a b c d : Bool) → f (Correction 1) ≡ a → f (Correction 2) ≡ b → f (Correction 3) ≡ c → f Shift ≡ d
-    → list_any f all_series ≡ (a || (b || (c || (d || false))))
-any_series f a b c d e g h i = rw (e, g, h, i) refl
-
--- a station that keeps its series raises none of their counts
-pub kept_series : (s t : StationRecord) → t.corrections ≡ s.corrections → t.shifts ≡ s.shifts → passes_a_series (Some s) (Some t) ≡ false
-kept_series s t e f =
-    let same : (which : StationSeries) → passes most_entries (entry_count (Some s) which) (entry_count (Some t) which) ≡ false =
-    λ which. same_passes most_entries (entry_count (Some s) which) (entry_count (Some t) which)
-    (ap (λ (c : Corrections). length (entries_in which c t.shifts)) e ∙ ap (λ (es : List Entry). length (entries_in which s.corrections es)) f) in
-    any_series (λ which. passes most_entries (entry_count (Some s) which) (entry_count (Some t) which)) false false false false
-    (same (Correction 1)) (same (Correction 2)) (same (Correction 3)) (same Shift)
-
--- where an element is put, the list has one more, or as many
-module _ {X : Type 0} (place : X → ℤ) where
-  pub length_put_new : (x : X) (xs : List X) → lists.IsRising place xs → lists.at place (place x) xs ≡ None → length (lists.put place x xs) ≡ length xs + 1
-  length_put_new x xs h n =
-      let bs = lists.before place (place x) xs in
-      let cs = lists.after place (place x) xs in
-      let w : length xs ≡ length (bs ++ cs) = ap length (whole place (place x) xs h ∙ ap (λ (o : Option X). bs ++ (option_to_list o ++ cs)) n) in
-      let a = length-append bs cs in
-      let b = length-append bs (x ∷ cs) in
-      omega (arith, w, a, b)
-
-  pub length_put_same : (x y : X) (xs : List X) → lists.IsRising place xs → lists.at place (place x) xs ≡ Some y → length (lists.put place x xs) ≡ length xs
-  length_put_same x y xs h n =
-      let bs = lists.before place (place x) xs in
-      let cs = lists.after place (place x) xs in
-      let w : length xs ≡ length (bs ++ y ∷ cs) = ap length (whole place (place x) xs h ∙ ap (λ (o : Option X). bs ++ (option_to_list o ++ cs)) n) in
-      let a = length-append bs (y ∷ cs) in
-      let b = length-append bs (x ∷ cs) in
-      omega (arith, w, a, b)
 
 -- how many readings there are with one station in place of another
 pub count_put_same : (s t : StationRecord) (stations : List StationRecord) → lists.IsRising place_of stations → lists.at place_of (place_of s) stations ≡ Some t
@@ -141,29 +99,29 @@ day_put_same a b r s rs h n =
     let l = ap (λ (x : List Reading). length (of_day a b x)) w in
     omega (arith, k, l, m)
 
--- the first limit that is passed, by the four tests
-abbrev in_order : Bool → Bool → Bool → Bool → Option Which
-in_order a b c d = cond a (Some counts.Stations) (cond b (Some counts.Readings) (cond c (Some counts.DayReadings) (cond d (Some counts.Entries) None)))
+-- the first limit that is passed, by the three tests and what the station alone passes
+abbrev in_order : Bool → Bool → Bool → Option Which → Option Which
+in_order a b c w = cond a (Some counts.Stations) (cond b (Some counts.Readings) (cond c (Some counts.DayReadings) w))
 
-order_same : (a b c d a' b' c' d' : Bool) → a ≡ a' → b ≡ b' → c ≡ c' → d ≡ d' → in_order a b c d ≡ in_order a' b' c' d'
-order_same a b c d a' b' c' d' e f g h = rw (e, f, g, h) refl
+order_same : (a b c a' b' c' : Bool) (w w' : Option Which) → a ≡ a' → b ≡ b' → c ≡ c' → w ≡ w' → in_order a b c w ≡ in_order a' b' c' w'
+order_same a b c a' b' c' w w' e f g h = rw (e, f, g, h) refl
 
-by_tests : (limits : Limits) (site : SiteNumber) (before after : List StationRecord) (a b c d : Bool)
+by_tests : (limits : Limits) (site : SiteNumber) (before after : List StationRecord) (a b c : Bool) (w : Option Which)
     → passes limits.stations (length before) (length after) ≡ a → passes limits.readings (reading_count before) (reading_count after) ≡ b
     → passes_a_day limits.day_readings (station_of before site) (station_of after site) ≡ c
-    → passes_a_series (station_of before site) (station_of after site) ≡ d
-    → passed_limit limits site before after ≡ in_order a b c d
-by_tests limits site before after a b c d e f g h =
+    → passed_alone (station_of before site) (station_of after site) ≡ w
+    → passed_limit limits site before after ≡ in_order a b c w
+by_tests limits site before after a b c w e f g h =
     order_same (passes limits.stations (length before) (length after)) (passes limits.readings (reading_count before) (reading_count after))
-    (passes_a_day limits.day_readings (station_of before site) (station_of after site)) (passes_a_series (station_of before site) (station_of after site))
-    a b c d e f g h
+    (passes_a_day limits.day_readings (station_of before site) (station_of after site)) a b c
+    (passed_alone (station_of before site) (station_of after site)) w e f g h
 
 -- a new station raises the number of stations alone
 pub added_limit : (limits : Limits) (site : SiteNumber) (stations : List StationRecord) (n : StationRecord) → lists.IsRising place_of stations
     → station_of stations site ≡ None → place_of n ≡ site_place site → n.readings ≡ []
-    → reading_count (lists.put place_of n stations) ≡ reading_count stations → passes_a_series None (Some n) ≡ false
+    → reading_count (lists.put place_of n stations) ≡ reading_count stations
     → passed_limit limits site stations (lists.put place_of n stations) ≡ station_limit limits (length stations)
-added_limit limits site stations n h e p r k none_more =
+added_limit limits site stations n h e p r k =
     let after = lists.put place_of n stations in
     let gone : lists.at place_of (place_of n) stations ≡ None = ap (λ (m : ℤ). lists.at place_of m stations) p ∙ e in
     let there : station_of after site ≡ Some n = put_there stations site n p in
@@ -172,11 +130,10 @@ added_limit limits site stations n h e p r k none_more =
     ap (λ (o : Option StationRecord). passes_a_day limits.day_readings o (station_of after site)) e
     ∙ ap (λ (o : Option StationRecord). passes_a_day limits.day_readings None o) there
     ∙ calendar_any_none (λ d. passes limits.day_readings (day_count None d) (day_count (Some n) d)) (λ d i. same_passes limits.day_readings 0 (day_count (Some n) d) (none d)) in
-    let series : passes_a_series (station_of stations site) (station_of after site) ≡ false =
-    ap (λ (o : Option StationRecord). passes_a_series o (station_of after site)) e ∙ ap (λ (o : Option StationRecord). passes_a_series None o) there ∙ none_more in
-    by_tests limits site stations after (one_more limits.stations (length stations)) false false false
+    by_tests limits site stations after (one_more limits.stations (length stations)) false false None
     (next_passes limits.stations (length stations) (length after) (length_put_new place_of n stations h gone))
-    (same_passes limits.readings (reading_count stations) (reading_count after) k) days series
+    (same_passes limits.readings (reading_count stations) (reading_count after) k) days
+    (ap (λ (o : Option StationRecord). passed_alone o (station_of after site)) e)
 
 -- the stations with one in place of another of its site
 abbrev pub Replaces : SiteNumber → List StationRecord → StationRecord → StationRecord → Type 0
@@ -197,31 +154,31 @@ days_of limits site stations s t c h e =
     ap (λ (o : Option StationRecord). passes_a_day limits.day_readings o (station_of (lists.put place_of t stations) site)) h.0
     ∙ ap (λ (o : Option StationRecord). passes_a_day limits.day_readings (Some s) o) (replaced_there site stations s t h) ∙ e
 
-series_of_both : (site : SiteNumber) (stations : List StationRecord) (s t : StationRecord) (d : Bool) → Replaces site stations s t → passes_a_series (Some s) (Some t) ≡ d
-    → passes_a_series (station_of stations site) (station_of (lists.put place_of t stations) site) ≡ d
-series_of_both site stations s t d h e =
-    ap (λ (o : Option StationRecord). passes_a_series o (station_of (lists.put place_of t stations) site)) h.0
-    ∙ ap (λ (o : Option StationRecord). passes_a_series (Some s) o) (replaced_there site stations s t h) ∙ e
+alone_of : (site : SiteNumber) (stations : List StationRecord) (s t : StationRecord) → Replaces site stations s t
+    → passed_alone (station_of stations site) (station_of (lists.put place_of t stations) site) ≡ passed_count s t
+alone_of site stations s t h =
+    ap (λ (o : Option StationRecord). passed_alone o (station_of (lists.put place_of t stations) site)) h.0
+    ∙ ap (λ (o : Option StationRecord). passed_alone (Some s) o) (replaced_there site stations s t h)
 
--- with as many readings, on each day too, no count is raised but that of a series
-pub same_limit : (limits : Limits) (site : SiteNumber) (stations : List StationRecord) (s t : StationRecord) (e : Bool) → lists.IsRising place_of stations
+-- with as many readings, on each day too, no count is raised but those of the station alone
+pub same_limit : (limits : Limits) (site : SiteNumber) (stations : List StationRecord) (s t : StationRecord) → lists.IsRising place_of stations
     → Replaces site stations s t → length t.readings ≡ length s.readings → ((d : ℤ) → day_count (Some t) d ≡ day_count (Some s) d)
-    → passes_a_series (Some s) (Some t) ≡ e → passed_limit limits site stations (lists.put place_of t stations) ≡ cond e (Some counts.Entries) None
-same_limit limits site stations s t e h r l d more =
+    → passed_limit limits site stations (lists.put place_of t stations) ≡ passed_count s t
+same_limit limits site stations s t h r l d =
     let at = replaced_at site stations s t r in
     let count = count_put_same t s stations h at in
-    by_tests limits site stations (lists.put place_of t stations) false false false e
+    by_tests limits site stations (lists.put place_of t stations) false false false (passed_count s t)
     (same_passes limits.stations (length stations) (length (lists.put place_of t stations)) (length_put_same place_of t s stations h at))
     (same_passes limits.readings (reading_count stations) (reading_count (lists.put place_of t stations)) (omega (arith, count, l)))
     (days_of limits site stations s t false r
     (calendar_any_none (λ day. passes limits.day_readings (day_count (Some s) day) (day_count (Some t) day))
     (λ day i. same_passes limits.day_readings (day_count (Some s) day) (day_count (Some t) day) (d day))))
-    (series_of_both site stations s t e r more)
+    (alone_of site stations s t r)
 
 -- with one reading more, of one day, these two counts are raised
 pub more_limit : (limits : Limits) (site : SiteNumber) (stations : List StationRecord) (s t : StationRecord) (own : ℤ) → lists.IsRising place_of stations
     → Replaces site stations s t → length t.readings ≡ length s.readings + 1 → IsDay own → day_count (Some t) own ≡ day_count (Some s) own + 1
-    → ((d : ℤ) → IsDay d → (d ≡ own → ⊥) → day_count (Some t) d ≡ day_count (Some s) d) → passes_a_series (Some s) (Some t) ≡ false
+    → ((d : ℤ) → IsDay d → (d ≡ own → ⊥) → day_count (Some t) d ≡ day_count (Some s) d) → passed_count s t ≡ None
     → passed_limit limits site stations (lists.put place_of t stations)
     ≡ cond (one_more limits.readings (reading_count stations)) (Some counts.Readings)
     (cond (one_more limits.day_readings (day_count (Some s) own)) (Some counts.DayReadings) None)
@@ -229,13 +186,13 @@ more_limit limits site stations s t own h r l i o d more =
     let at = replaced_at site stations s t r in
     let count = count_put_same t s stations h at in
     let test : ℤ → Bool = λ day. passes limits.day_readings (day_count (Some s) day) (day_count (Some t) day) in
-    by_tests limits site stations (lists.put place_of t stations) false (one_more limits.readings (reading_count stations)) (one_more limits.day_readings (day_count (Some s) own)) false
+    by_tests limits site stations (lists.put place_of t stations) false (one_more limits.readings (reading_count stations)) (one_more limits.day_readings (day_count (Some s) own)) None
     (same_passes limits.stations (length stations) (length (lists.put place_of t stations)) (length_put_same place_of t s stations h at))
     (next_passes limits.readings (reading_count stations) (reading_count (lists.put place_of t stations)) (omega (arith, count, l)))
     (days_of limits site stations s t (one_more limits.day_readings (day_count (Some s) own)) r
     (calendar_one test own i (λ day j n. same_passes limits.day_readings (day_count (Some s) day) (day_count (Some t) day) (d day j n))
     ∙ next_passes limits.day_readings (day_count (Some s) own) (day_count (Some t) own) o))
-    (series_of_both site stations s t false r more)
+    (alone_of site stations s t r ∙ more)
 
 -- an instant is of a day exactly where the test says so
 of_day_is_in : (s : StationRecord) (d : ℤ) (r : Reading) (b : Bool) → is_of_day (day_start s d) (day_start s (d +ℤ pos 1)) r ≡ b → b ≡ true → IsIn s.zone d r.at
@@ -254,13 +211,14 @@ plus_none n = omega arith
 
 -- the limits that one reading may pass
 put_limit_step : (limits : Limits) (site : SiteNumber) (stations : List StationRecord) (s : StationRecord) (own : ℤ) (r : Reading) (o : Option Reading)
-    → lists.IsRising place_of stations → station_of stations site ≡ Some s → IsStation s → IsDay own → IsIn s.zone own r.at → at_instant r.at s.readings ≡ o
+    → lists.IsRising place_of stations → station_of stations site ≡ Some s → IsStation s → IsDay own → IsIn s.zone own r.at
+    → passed_count s (with_readings (r ∷ []) s) ≡ None → at_instant r.at s.readings ≡ o
     → passed_limit limits site stations (lists.put place_of (with_readings (r ∷ []) s) stations) ≡ reading_limit limits (reading_count stations) s own r
-put_limit_step limits site stations s own r (Some t) h e k i m f =
+put_limit_step limits site stations s own r (Some t) h e k i m c f =
     let told : reading_limit limits (reading_count stations) s own r ≡ None = rw f refl in
-    same_limit limits site stations s (with_readings (r ∷ []) s) false h (e, refl) (length_put_same instant_of r t s.readings k.readings_are.rising f)
-    (λ d. day_put_same (day_start s d) (day_start s (d +ℤ pos 1)) r t s.readings k.readings_are.rising f) (kept_series s (with_readings (r ∷ []) s) refl refl) ∙ sym told
-put_limit_step limits site stations s own r None h e k i m f =
+    same_limit limits site stations s (with_readings (r ∷ []) s) h (e, refl) (length_put_same instant_of r t s.readings k.readings_are.rising f)
+    (λ d. day_put_same (day_start s d) (day_start s (d +ℤ pos 1)) r t s.readings k.readings_are.rising f) ∙ c ∙ sym told
+put_limit_step limits site stations s own r None h e k i m c f =
     let told : reading_limit limits (reading_count stations) s own r
     ≡ cond (one_more limits.readings (reading_count stations)) (Some counts.Readings)
     (cond (one_more limits.day_readings (day_count (Some s) own)) (Some counts.DayReadings) None) = rw f refl in
@@ -270,9 +228,10 @@ put_limit_step limits site stations s own r None h e k i m f =
     (λ d j n. day_put_new (day_start s d) (day_start s (d +ℤ pos 1)) r s.readings k.readings_are.rising f
     ∙ ap (λ (b : Bool). length (of_day (day_start s d) (day_start s (d +ℤ pos 1)) s.readings) + (cond b 1 0))
     (not_of_day s own d r k i j m n (is_of_day (day_start s d) (day_start s (d +ℤ pos 1)) r) refl) ∙ plus_none _)
-    (kept_series s (with_readings (r ∷ []) s) refl refl) ∙ sym told
+    c ∙ sym told
 
 pub put_limit : (limits : Limits) (site : SiteNumber) (stations : List StationRecord) (s : StationRecord) (own : ℤ) (r : Reading)
     → lists.IsRising place_of stations → station_of stations site ≡ Some s → IsStation s → IsDay own → IsIn s.zone own r.at
+    → passed_count s (with_readings (r ∷ []) s) ≡ None
     → passed_limit limits site stations (lists.put place_of (with_readings (r ∷ []) s) stations) ≡ reading_limit limits (reading_count stations) s own r
-put_limit limits site stations s own r h e k i m = put_limit_step limits site stations s own r (at_instant r.at s.readings) h e k i m refl
+put_limit limits site stations s own r h e k i m c = put_limit_step limits site stations s own r (at_instant r.at s.readings) h e k i m c refl

@@ -3,8 +3,9 @@ use Rattle.std.specs.Prelude.{◌≡◌, Bool, true, false, cond, List, [], ◌�
 use Rattle.std.specs.Ordering.{int_eq}
 use Rattle.std.proofs.Common.{refl, ap, sym, subst, ◌∙◌, Bor}
 use Rattle.fixed_units.specs.Quantities.{SiteNumber, site_place}
-use Rattle.office_inputs.specs.Stations.{StationRecord, station_of}
-use Rattle.office_inputs.specs.KeptStation.{KeptStation}
+use Rattle.office_inputs.specs.Stations.{station_of}
+use Rattle.station_inputs.specs.Stations.{StationRecord}
+use Rattle.station_inputs.specs.KeptStation.{KeptStation}
 use Rattle.office_inputs.specs.Kept.{InForce, in_force, records_of, kept_at, place_of_kept}
 
 record_step : (k : KeptStation) (found : Option KeptStation) (told : Option StationRecord) (b : Bool)

@@ -9,13 +9,17 @@ use Rattle.rising.specs.Lists.{at, put}
 use Rattle.day_inputs.specs.Equality.{same_inputs}
 use Rattle.day_inputs.specs.declared.day_inputs.DayInputs.TheVariants.{Empty}
 use Rattle.edits.specs.declared.content.What.{What}
-use Rattle.edits.specs.declared.content.What.TheVariants.{AddStation, SetStation, PutReadings, PutCorrection, DropCorrection, PutShift, DropShift}
+use Rattle.edits.specs.declared.content.What.TheVariants.{AddStation}
 use Rattle.edits.specs.declared.content.Edit.{Edit}
+use Rattle.station_inputs.specs.Changes.{keeps_station_day}
+use Rattle.station_inputs.specs.KeptStation.{KeptStation}
+use Rattle.station_inputs.specs.Stations.{StationRecord, new_station, station_after, station_day}
+use Rattle.station_inputs.specs.declared.refusals.Refusal.TheVariants.{NoStation, StationExists}
+use Rattle.station_inputs.proofs.LawLemmas.{same_site}
+use Rattle.office_inputs.specs.Changes.{keeps_day}
 use Rattle.office_inputs.specs.Refusals.{refusal_of, adds_station}
-use Rattle.office_inputs.specs.Stations.{StationRecord, station_of, station_day, inputs_of_day, after_what, place_of, new_station, with_changed, changed_at}
+use Rattle.office_inputs.specs.Stations.{added, after_what, changed_at, inputs_of_day, place_of, station_of, with_added, with_changed}
 use Rattle.office_inputs.specs.declared.limits.Limits.{Limits}
-use Rattle.office_inputs.specs.declared.refusals.Refusal.TheVariants.{NoStation, StationExists}
-use Rattle.office_inputs.specs.KeptStation.{KeptStation}
 
 -- the station of a site is of that site
 at_step : {X : Type 0} (place : X → ℤ) (n : ℤ) (x y : X) (o : Option X) (b : Bool) → int_eq (place x) n ≡ b → cond b (Some x) o ≡ Some y
@@ -33,61 +37,76 @@ pub put_there : (stations : List StationRecord) (site : SiteNumber) (s : Station
 put_there stations site s e =
     ap (λ (n : ℤ). at place_of n (put place_of s stations)) (sym e) ∙ at_put place_of s stations
 
--- a new station's days have no inputs
-new_day : (site : SiteNumber) (name zone : List ℕ) (gap : ℕ) (stages discharges : List ℕ) (day : ℤ)
-    → station_day (new_station site name zone gap stages discharges) day ≡ Empty
-new_day site name zone gap stages discharges day = refl
+-- a station stays in its place through every edit of it
+pub same_place : (what : What) (s : StationRecord) → place_of (station_after what s) ≡ place_of s
+same_place what s = ap site_place (same_site what s)
 
--- the inputs of a day before an edit and after it
-abbrev pub KeptTold : List StationRecord → SiteNumber → ℤ → Bool → What → Type 0
-KeptTold stations site day b what = b ≡ same_inputs (inputs_of_day stations site day) (inputs_of_day (after_what site what stations) site day)
+pub place_after : (what : What) (s t : StationRecord) → t ≡ station_after what s → place_of t ≡ place_of s
+place_after what s t e = ap place_of e ∙ same_place what s
 
-told_days : (stations after : List StationRecord) (site : SiteNumber) (day : ℤ) (s t : StationRecord) (b : Bool)
-    → station_of stations site ≡ Some s → station_of after site ≡ Some t → b ≡ same_inputs (station_day s day) (station_day t day)
-    → b ≡ same_inputs (inputs_of_day stations site day) (inputs_of_day after site day)
-told_days stations after site day s t b e f g = rw (e, f) g
+-- every kind that adds no station changes one that is there
+pub adds_not : (what : What)
+    → ((name zone : List ℕ) (gap : ℕ) (stages discharges : List ℕ) → what ≡ AddStation name zone gap stages discharges → ⊥) → adds_station what ≡ false
+adds_not (AddStation name zone gap stages discharges) n = absurd (n name zone gap stages discharges refl)
+adds_not _ n = refl
 
-changed_there : (stations : List StationRecord) (site : SiteNumber) (change : StationRecord → StationRecord) (s : StationRecord)
-    → station_of stations site ≡ Some s → place_of (change s) ≡ place_of s
-    → station_of (with_changed change (station_of stations site) stations) site ≡ Some (change s)
-changed_there stations site change s e f =
-    ap (λ (o : Option StationRecord). station_of (with_changed change o stations) site) e
-    ∙ put_there stations site (change s) (f ∙ at_place place_of (site_place site) stations s e)
+pub added_none : (site : SiteNumber) (what : What) → adds_station what ≡ false → added site what ≡ None
+added_none site (AddStation name zone gap stages discharges) e = absurd (cc)
+added_none site _ e = refl
 
--- an edit that changes the station of its site keeps a day where the change does
-pub change_told : (stations : List StationRecord) (site : SiteNumber) (what : What) (day : ℤ) (s : StationRecord) (change : StationRecord → StationRecord) (b : Bool)
-    → after_what site what stations ≡ changed_at site change stations → place_of (change s) ≡ place_of s → station_of stations site ≡ Some s
-    → b ≡ same_inputs (station_day s day) (station_day (change s) day) → KeptTold stations site day b what
-change_told stations site what day s change b w p e g =
-    told_days stations (after_what site what stations) site day s (change s) b e
-    (ap (λ (ss : List StationRecord). station_of ss site) w ∙ changed_there stations site change s e p) g
+pub only_changed : (site : SiteNumber) (what : What) (stations : List StationRecord) → adds_station what ≡ false
+    → after_what site what stations ≡ changed_at site (station_after what) stations
+only_changed site what stations e = ap (λ (o : Option StationRecord). with_added site what o stations) (added_none site what e)
+
+-- and leaves it as the edit makes it
+pub changed_there : (stations : List StationRecord) (site : SiteNumber) (what : What) (s : StationRecord) → adds_station what ≡ false
+    → station_of stations site ≡ Some s → station_of (after_what site what stations) site ≡ Some (station_after what s)
+changed_there stations site what s a e =
+    ap (λ (ss : List StationRecord). station_of ss site) (only_changed site what stations a)
+    ∙ ap (λ (o : Option StationRecord). station_of (with_changed (station_after what) o stations) site) e
+    ∙ put_there stations site (station_after what s) (same_place what s ∙ at_place place_of (site_place site) stations s e)
+
+-- so it keeps a day of its site where it keeps that day of the station
+told_days : (stations after : List StationRecord) (site : SiteNumber) (day : ℤ) (s t : StationRecord) → station_of stations site ≡ Some s → station_of after site ≡ Some t
+    → same_inputs (station_day s day) (station_day t day) ≡ same_inputs (inputs_of_day stations site day) (inputs_of_day after site day)
+told_days stations after site day s t e f = rw (e, f) refl
+
+pub change_told : (stations : List StationRecord) (edit : Edit) (s : StationRecord) (day : ℤ) → adds_station edit.what ≡ false
+    → station_of stations edit.site ≡ Some s → keeps_station_day s edit.what day ≡ keeps_day stations edit day
+change_told stations edit s day a e =
+    told_days stations (after_what edit.site edit.what stations) edit.site day s (station_after edit.what s) e
+    (changed_there stations edit.site edit.what s a e)
 
 none_some : {X : Type 0} {x : X} → None ≡ Some x → ⊥
 none_some e = absurd (cc)
 
--- an edit of a site that is not kept adds it, and keeps each day
+-- an edit of a site that is not kept adds it, and keeps each day: a new station's days have no inputs
+new_day : (site : SiteNumber) (name zone : List ℕ) (gap : ℕ) (stages discharges : List ℕ) (day : ℤ)
+    → station_day (new_station site name zone gap stages discharges) day ≡ Empty
+new_day site name zone gap stages discharges day = refl
+
 added_step : (stations : List StationRecord) (site : SiteNumber) (day : ℤ) (n : StationRecord) → station_of stations site ≡ None → place_of n ≡ site_place site
-    → station_day n day ≡ Empty → true ≡ same_inputs (inputs_of_day stations site day) (inputs_of_day (put place_of n stations) site day)
+    → station_day n day ≡ Empty → same_inputs (inputs_of_day stations site day) (inputs_of_day (put place_of n stations) site day) ≡ true
 added_step stations site day n e p d = let f = put_there stations site n p in rw (e, f, d) refl
 
-refused : (limits : Limits) (stations : List StationRecord) (edit : Edit) → adds_station edit.what ≡ false → station_of stations edit.site ≡ None
+added_keeps : (stations : List StationRecord) (site : SiteNumber) (what : What) (day : ℤ) → adds_station what ≡ true → station_of stations site ≡ None
+    → same_inputs (inputs_of_day stations site day) (inputs_of_day (after_what site what stations) site day) ≡ true
+added_keeps stations site (AddStation name zone gap stages discharges) day a e =
+    added_step stations site day (new_station site name zone gap stages discharges) e refl (new_day site name zone gap stages discharges day)
+added_keeps stations site _ day a e = absurd (cc)
+
+needed : (limits : Limits) (stations : List StationRecord) (edit : Edit) → adds_station edit.what ≡ false → station_of stations edit.site ≡ None
     → refusal_of limits stations edit ≡ Some NoStation
-refused limits stations edit a e = rw (a, e) refl
+needed limits stations edit a e = rw (a, e) refl
 
-not_refused : (limits : Limits) (stations : List StationRecord) (edit : Edit) → adds_station edit.what ≡ false → station_of stations edit.site ≡ None
-    → refusal_of limits stations edit ≡ None → ⊥
-not_refused limits stations edit a e r = none_some (sym r ∙ refused limits stations edit a e)
+add_step : (limits : Limits) (stations : List StationRecord) (edit : Edit) (day : ℤ) (b : Bool) → adds_station edit.what ≡ b
+    → refusal_of limits stations edit ≡ None → station_of stations edit.site ≡ None → keeps_day stations edit day ≡ true
+add_step limits stations edit day true a r e = added_keeps stations edit.site edit.what day a e
+add_step limits stations edit day false a r e = absurd (none_some (sym r ∙ needed limits stations edit a e))
 
-pub add_told : (limits : Limits) (stations : List StationRecord) (edit : Edit) (what : What) (day : ℤ) → edit.what ≡ what → refusal_of limits stations edit ≡ None
-    → station_of stations edit.site ≡ None → KeptTold stations edit.site day true what
-add_told limits stations edit (AddStation name zone gap stages discharges) day w r e =
-    added_step stations edit.site day (new_station edit.site name zone gap stages discharges) e refl (new_day edit.site name zone gap stages discharges day)
-add_told limits stations edit (SetStation name gap stages discharges) day w r e = absurd (not_refused limits stations edit (ap (λ (x : What). adds_station x) w) e r)
-add_told limits stations edit (PutReadings readings) day w r e = absurd (not_refused limits stations edit (ap (λ (x : What). adds_station x) w) e r)
-add_told limits stations edit (PutCorrection set at curve prorate) day w r e = absurd (not_refused limits stations edit (ap (λ (x : What). adds_station x) w) e r)
-add_told limits stations edit (DropCorrection set at) day w r e = absurd (not_refused limits stations edit (ap (λ (x : What). adds_station x) w) e r)
-add_told limits stations edit (PutShift at curve prorate) day w r e = absurd (not_refused limits stations edit (ap (λ (x : What). adds_station x) w) e r)
-add_told limits stations edit (DropShift at) day w r e = absurd (not_refused limits stations edit (ap (λ (x : What). adds_station x) w) e r)
+pub add_told : (limits : Limits) (stations : List StationRecord) (edit : Edit) (day : ℤ) → refusal_of limits stations edit ≡ None
+    → station_of stations edit.site ≡ None → keeps_day stations edit day ≡ true
+add_told limits stations edit day r e = add_step limits stations edit day (adds_station edit.what) refl r e
 
 -- the record of a station that was found
 pub lent_is : (found : Option (Bor KeptStation)) (kept : Option StationRecord) (s : Bor KeptStation) → option_map (λ (s : Bor KeptStation). s.now.station) found ≡ kept

@@ -14,14 +14,14 @@ use Rattle.day_inputs.specs.Equality.{same_inputs}
 use Rattle.day_inputs.specs.declared.day_inputs.DayInputs.{DayInputs}
 use Rattle.day_inputs.specs.declared.day_inputs.DayInputs.TheVariants.{Empty, Day}
 use Rattle.edits.specs.declared.content.What.{What}
-use Rattle.edits.specs.declared.content.What.TheVariants.{AddStation, SetStation, PutReadings, PutCorrection, DropCorrection, PutShift, DropShift}
+use Rattle.edits.specs.declared.content.What.TheVariants.{AddStation}
 use Rattle.edits.specs.declared.content.Edit.{Edit}
 use Rattle.office_inputs.specs.Changes.{changed_days, keeps_day}
-use Rattle.office_inputs.specs.Stations.{StationRecord, station_of, stations_after, stations_of, inputs_of_day, day_of_station, after_what, place_of, with_changed, new_station, described, with_readings, with_entry, without_entry}
-use Rattle.curves.specs.Entries.{entry_of}
-use Rattle.office_inputs.specs.declared.series.StationSeries.TheVariants.{Correction, Shift}
-use Rattle.office_inputs.specs.Touched.{has_inputs, is_filled}
-use Rattle.office_inputs.proofs.KeepLemmas.{at_place}
+use Rattle.office_inputs.specs.Stations.{added, station_of, stations_after, stations_of, inputs_of_day, day_of_station, place_of, with_added, with_changed}
+use Rattle.station_inputs.specs.Stations.{StationRecord, new_station, station_after}
+use Rattle.office_inputs.specs.Touched.{is_filled}
+use Rattle.station_inputs.specs.Touched.{has_inputs}
+use Rattle.office_inputs.proofs.KeepLemmas.{at_place, same_place}
 
 other_place : (a b : SiteNumber) → same_site a b ≡ false → site_place a ≡ site_place b → ⊥
 other_place a b n e = let t = (Decides-int_eq (site_place a) (site_place b)).1 e in absurd (cc)
@@ -39,26 +39,20 @@ change_leaves change stations own site None k e n = refl
 change_leaves change stations own site (Some s) k e n =
     put_leaves (change s) stations own site (k s ∙ at_place place_of (site_place own) stations s e) n
 
-by_kind : (stations : List StationRecord) (own site : SiteNumber) (what : What) → same_site own site ≡ false
-    → station_of (after_what own what stations) site ≡ station_of stations site
-by_kind stations own site (AddStation name zone gap stages discharges) n =
-    put_leaves (new_station own name zone gap stages discharges) stations own site refl n
-by_kind stations own site (SetStation name gap stages discharges) n =
-    change_leaves (described name gap stages discharges) stations own site (station_of stations own) (λ s. refl) refl n
-by_kind stations own site (PutReadings readings) n =
-    change_leaves (with_readings readings) stations own site (station_of stations own) (λ s. refl) refl n
-by_kind stations own site (PutCorrection set at curve prorate) n =
-    change_leaves (with_entry (Correction set) (entry_of at curve prorate)) stations own site (station_of stations own) (λ s. refl) refl n
-by_kind stations own site (DropCorrection set at) n =
-    change_leaves (without_entry (Correction set) at) stations own site (station_of stations own) (λ s. refl) refl n
-by_kind stations own site (PutShift at curve prorate) n =
-    change_leaves (with_entry Shift (entry_of at curve prorate)) stations own site (station_of stations own) (λ s. refl) refl n
-by_kind stations own site (DropShift at) n =
-    change_leaves (without_entry Shift at) stations own site (station_of stations own) (λ s. refl) refl n
+-- a station that is added is that of the edit's site
+added_place : (site : SiteNumber) (what : What) (n : StationRecord) → added site what ≡ Some n → place_of n ≡ site_place site
+added_place site (AddStation name zone gap stages discharges) n e =
+    let f : new_station site name zone gap stages discharges ≡ n = cc in ap place_of (sym f)
+added_place site _ n e = absurd (cc)
+
+left_step : (stations : List StationRecord) (own site : SiteNumber) (what : What) (o : Option StationRecord) → added own what ≡ o → same_site own site ≡ false
+    → station_of (with_added own what o stations) site ≡ station_of stations site
+left_step stations own site what None e n = change_leaves (station_after what) stations own site (station_of stations own) (same_place what) refl n
+left_step stations own site what (Some s) e n = put_leaves s stations own site (added_place own what s e) n
 
 pub station_left : (stations : List StationRecord) (edit : Edit) (site : SiteNumber) → same_site edit.site site ≡ false
     → station_of (stations_after stations edit) site ≡ station_of stations site
-station_left stations edit site n = by_kind stations edit.site site edit.what n
+station_left stations edit site n = left_step stations edit.site site edit.what (added edit.site edit.what) refl n
 
 pub inputs_left : (stations : List StationRecord) (edit : Edit) (site : SiteNumber) (day : ℤ) → same_site edit.site site ≡ false
     → inputs_of_day (stations_after stations edit) site day ≡ inputs_of_day stations site day

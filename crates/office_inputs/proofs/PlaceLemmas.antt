@@ -10,10 +10,11 @@ use Rattle.rising.specs.Lists as lists
 use Rattle.rising.proofs.Parting.{IsAfter, lt_yes, lt_no, all_after}
 use Rattle.rising.proofs.Placing.{some_stands, passed_over}
 use Rattle.rising.proofs.Splitting.{none_before, rest_rises, rest_is_later}
-use Rattle.office_inputs.specs.KeptStation.{KeptStation}
+use Rattle.station_inputs.specs.KeptStation.{KeptStation}
 use Rattle.office_inputs.specs.Kept.{records_of, kept_at, place_of_kept}
 use Rattle.office_inputs.specs.Places.{Placed, IsPlace, IsPlaceOf, station_in}
-use Rattle.office_inputs.specs.Stations.{StationRecord, station_of, place_of}
+use Rattle.office_inputs.specs.Stations.{station_of, place_of}
+use Rattle.station_inputs.specs.Stations.{StationRecord}
 use Rattle.office_inputs.proofs.InputsLemmas.{record_at}
 use Rattle.office_inputs.proofs.KeepLemmas.{at_place}
 use Rattle.office_inputs.proofs.RoomLemmas.{StandsAt}

@@ -5,8 +5,8 @@ use Rattle.fixed_units.specs.Quantities.{SiteNumber, site_place}
 use Rattle.rising.specs.Lists.{at, put}
 use Rattle.rising.proofs.Placing.{at_put}
 use Rattle.rising.proofs.Selecting.{slice_get_at}
-use Rattle.office_inputs.specs.KeptStation.{KeptStation}
-use Rattle.office_inputs.specs.Stations.{StationRecord}
+use Rattle.station_inputs.specs.KeptStation.{KeptStation}
+use Rattle.station_inputs.specs.Stations.{StationRecord}
 use Rattle.office_inputs.specs.Kept.{records_of, kept_at, place_of_kept}
 use Rattle.office_inputs.proofs.KeepLemmas.{at_place}
 

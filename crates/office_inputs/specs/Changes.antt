@@ -3,7 +3,8 @@ use Rattle.std.specs.Prelude.{Bool, not, List, filter, ℤ}
 use Rattle.day_inputs.specs.Equality.{same_inputs}
 use Rattle.edits.specs.declared.content.Edit.{Edit}
 use Rattle.fixed_units.specs.Calendar.{calendar}
-use Rattle.office_inputs.specs.Stations.{StationRecord, stations_after, inputs_of_day}
+use Rattle.office_inputs.specs.Stations.{stations_after, inputs_of_day}
+use Rattle.station_inputs.specs.Stations.{StationRecord}
 
 -- the inputs of the day of the edit's site are equal before it and after it
 abbrev pub keeps_day : List StationRecord → Edit → ℤ → Bool

@@ -1,18 +1,18 @@
 -- What is kept of all stations, as contracts see it: the records in force with their limits, and room beside them.
-use Rattle.std.specs.Prelude.{◌≡◌, ℕ, ◌≤◌, ◌<◌, ⊤, List, [], length, map, All, Option, IfSome, ℤ}
+use Rattle.std.specs.Prelude.{◌≡◌, ℕ, ◌<◌, List, [], map, All, Option, Some, None, IfSome, ℤ}
 use Rattle.fixed_units.specs.Quantities.{SiteNumber, site_place}
 use Rattle.rising.specs.Lists as lists
 use Rattle.edits.specs.declared.content.What.{What}
-use Rattle.edits.specs.declared.content.What.TheVariants.{AddStation, SetStation, PutReadings, PutCorrection, DropCorrection, PutShift, DropShift}
 use Rattle.edits.specs.declared.content.Edit.{Edit}
-use Rattle.office_inputs.specs.Series.{room_in}
-use Rattle.office_inputs.specs.Stations.{StationRecord, new_station, place_of}
-use Rattle.office_inputs.specs.KeptStation.{KeptStation, IsStation}
+use Rattle.office_inputs.specs.Stations.{added, place_of}
 use Rattle.office_inputs.specs.declared.limits.Limits.{Limits}
-use Rattle.office_inputs.specs.declared.series.StationSeries.{StationSeries}
-use Rattle.office_inputs.specs.declared.series.StationSeries.TheVariants.{Correction, Shift}
-use Rattle.office_inputs.specs.declared.staged.Staged.{Staged}
-use Rattle.office_inputs.specs.declared.staged.Staged.TheVariants.{Nothing, Whole, Named}
+use Rattle.office_inputs.specs.declared.staged.StagedEdit.{StagedEdit}
+use Rattle.office_inputs.specs.declared.staged.StagedEdit.TheVariants.{Whole, Part}
+use Rattle.station_inputs.specs.KeptStation.{KeptStation, IsStation}
+use Rattle.station_inputs.specs.Room.{HasStationRoom}
+use Rattle.station_inputs.specs.Stations.{StationRecord}
+use Rattle.station_inputs.specs.declared.staged.Staged.{Staged}
+use Rattle.station_inputs.specs.declared.staged.Staged.TheVariants.{Nothing}
 
 -- the number that a kept station stands at
 abbrev pub place_of_kept : KeptStation → ℤ
@@ -28,7 +28,7 @@ pub record InForce : Type 0 where
   pub limits : Limits
   pub kept : List KeptStation
   pub spare : ℕ
-  pub staged : Staged
+  pub staged : StagedEdit
 
 -- the stations in force
 abbrev pub in_force : InForce → List StationRecord
@@ -43,42 +43,29 @@ pub record AreStations (kept : List KeptStation) : Type 0 where
   pub rising : lists.IsRising place_of_kept kept
   pub each : All (λ k. IsStation k.station) kept
 
--- a staged station, and a staged name
-abbrev pub IsStagedStation : StationRecord → Staged → Type 0
-IsStagedStation station Nothing = ⊥
+-- a staged station
+abbrev pub IsStagedStation : StationRecord → StagedEdit → Type 0
 IsStagedStation station (Whole kept) = kept.station ≡ station
-IsStagedStation station (Named name) = ⊥
-
-abbrev pub IsStagedName : List ℕ → Staged → Type 0
-IsStagedName name Nothing = ⊥
-IsStagedName name (Whole kept) = ⊥
-IsStagedName name (Named staged) = staged ≡ name
+IsStagedStation station (Part staged) = ⊥
 
 -- a station is staged for a site, without readings
-abbrev pub IsStagedNew : SiteNumber → Staged → Type 0
-IsStagedNew site Nothing = ⊥
+abbrev pub IsStagedNew : SiteNumber → StagedEdit → Type 0
 IsStagedNew site (Whole kept) = (kept.station.site ≡ site) × (kept.station.readings ≡ [])
-IsStagedNew site (Named name) = ⊥
+IsStagedNew site (Part staged) = ⊥
 
--- the station of a site, where it is kept, has room for so many readings more
-abbrev pub HasReadingRoom : List KeptStation → SiteNumber → ℕ → Type 0
-HasReadingRoom kept site count = IfSome (kept_at kept site) (λ k. count ≤ k.spare)
+-- what is staged for an edit of a station that is there
+abbrev pub staged_part : StagedEdit → Staged
+staged_part (Whole kept) = Nothing
+staged_part (Part staged) = staged
 
--- the station of a site, where it is kept, has room for one entry more in a series
-abbrev pub HasEntryRoom : List KeptStation → SiteNumber → StationSeries → Type 0
-HasEntryRoom kept site which = IfSome (kept_at kept site) (λ k. 0 < room_in which k.entry_room)
+-- all is ready for an edit of the station of a site, where it is kept
+abbrev pub HasRoomThere : List KeptStation → Staged → SiteNumber → What → Type 0
+HasRoomThere kept staged site what = IfSome (kept_at kept site) (λ k. HasStationRoom k staged what)
 
--- room is made for an edit: a station is staged and there is room for it; a name is staged; the station has room for the readings,
--- or for one entry more in the series, also where the entry only takes the place of another
-abbrev pub HasRoomFor : InForce → SiteNumber → What → Type 0
-HasRoomFor inputs site (AddStation name zone gap stage_array discharge_array) =
-    IsStagedStation (new_station site name zone gap stage_array discharge_array) inputs.staged × (0 < inputs.spare)
-HasRoomFor inputs site (SetStation name gap stage_array discharge_array) = IsStagedName name inputs.staged
-HasRoomFor inputs site (PutReadings readings) = HasReadingRoom inputs.kept site (length readings)
-HasRoomFor inputs site (PutCorrection set at curve prorate) = HasEntryRoom inputs.kept site (Correction set)
-HasRoomFor inputs site (DropCorrection set at) = ⊤
-HasRoomFor inputs site (PutShift at curve prorate) = HasEntryRoom inputs.kept site Shift
-HasRoomFor inputs site (DropShift at) = ⊤
+-- room is made for an edit: the station that it adds is staged and there is room for it, or the station that it changes has room
+abbrev pub HasRoomFor : InForce → SiteNumber → What → Option StationRecord → Type 0
+HasRoomFor inputs site what (Some station) = IsStagedStation station inputs.staged × (0 < inputs.spare)
+HasRoomFor inputs site what None = HasRoomThere inputs.kept (staged_part inputs.staged) site what
 
 abbrev pub HasRoom : InForce → Edit → Type 0
-HasRoom inputs edit = HasRoomFor inputs edit.site edit.what
+HasRoom inputs edit = HasRoomFor inputs edit.site edit.what (added edit.site edit.what)

@@ -1,9 +1,8 @@
 pub mod Changes
 pub mod Counting
 pub mod Kept
-pub mod KeptStation
+pub mod Measured
 pub mod Places
 pub mod Refusals
-pub mod Series
 pub mod Stations
 pub mod Touched

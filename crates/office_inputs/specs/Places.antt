@@ -1,7 +1,8 @@
 -- Where the station of a site stands among those in force.
 use Rattle.std.specs.Prelude.{◌≡◌, ℕ, ◌<◌, List, length, slice_get, Option, Some, None, IfSome}
 use Rattle.fixed_units.specs.Quantities.{SiteNumber}
-use Rattle.office_inputs.specs.Stations.{StationRecord, station_of}
+use Rattle.office_inputs.specs.Stations.{station_of}
+use Rattle.station_inputs.specs.Stations.{StationRecord}
 
 -- where the station of a site stands: its index, or none where it is not kept
 pub record Placed : Type 0 where

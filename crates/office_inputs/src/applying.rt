@@ -1,25 +1,22 @@
 //! The acceptance of an edit: what is in force changes, and no memory is taken.
 
-ghost use Rattle.std.specs.Prelude.{◌≡◌, ℕ, List, ◌+◌, ◌≤◌, ◌<◌, false, None, [], length, All, vec_len, vec_capacity};
-ghost use Rattle.day_inputs.specs.DayInputs.{most_gap};
-ghost use Rattle.edits.specs.Lawful.{IsPutCurve, IsPutReading};
-ghost use Rattle.fixed_units.specs.Quantities.{IsStamp};
-ghost use Rattle.office_inputs.specs.Kept.{HasRoom, IsStagedName, IsStagedStation, HasReadingRoom, HasEntryRoom, IsStagedNew, AreStations, in_force, records_of, kept_at};
+ghost use Rattle.std.specs.Prelude.{◌≡◌, ◌+◌, ◌<◌, false, None, [], vec_len, vec_capacity};
+ghost use Rattle.edits.specs.Lawful.{IsLawful};
+ghost use Rattle.office_inputs.specs.Kept.{AreStations, HasRoom, HasRoomThere, IsStagedNew, IsStagedStation, in_force, kept_at, records_of, staged_part};
 ghost use Rattle.office_inputs.specs.Places.{IsPlace, IsPlaceOf};
-ghost use Rattle.office_inputs.specs.Refusals.{refusal_of, reading_count, passes};
-ghost use Rattle.office_inputs.specs.Series.{IsOfStation};
-ghost use Rattle.office_inputs.specs.Stations.{StationRecord, stations_after, changed_at, described, with_readings, with_entry, without_entry, place_of};
+ghost use Rattle.office_inputs.specs.Refusals.{obstacle_of, reading_count, refusal_of};
+ghost use Rattle.office_inputs.specs.Stations.{changed_at, place_of, station_of, stations_after};
 ghost use Rattle.rising.specs.Lists.{put};
+ghost use Rattle.station_inputs.specs.Counts.{passes};
+ghost use Rattle.station_inputs.specs.Stations.{StationRecord, station_after};
 
 use crate::inputs::Inputs;
 use crate::places::Place;
-use crate::series::StationSeries;
-use crate::staged::Staged;
-use crate::stations::Station;
-use curves::Entry;
-use edits::{Edit, Name, What};
-use fixed_units::{Reading, RoundingArray, Second, Site};
+use crate::staged::StagedEdit;
+use edits::{Edit, What};
+use fixed_units::Site;
 use rising::put_in;
+use station_inputs::{Staged, Station};
 use std::mem;
 
 impl Inputs {
@@ -44,30 +41,7 @@ impl Inputs {
     {
         match &edit.what {
             What::AddStation { .. } => self.add_staged(edit.site),
-            What::SetStation {
-                gap,
-                stage_array,
-                discharge_array,
-                ..
-            } => self.describe_staged(place, *gap, *stage_array, *discharge_array),
-            What::PutReadings { readings } => self.put(place, readings.as_slice()),
-            What::PutCorrection {
-                set,
-                at,
-                curve,
-                prorate,
-            } => {
-                let entry = Entry::new(*at, *curve, *prorate);
-                self.put_entry(place, StationSeries::Correction(*set), entry)
-            }
-            What::DropCorrection { set, at } => {
-                self.drop_entry(place, StationSeries::Correction(*set), *at)
-            }
-            What::PutShift { at, curve, prorate } => {
-                let entry = Entry::new(*at, *curve, *prorate);
-                self.put_entry(place, StationSeries::Shift, entry)
-            }
-            What::DropShift { at } => self.drop_entry(place, StationSeries::Shift, *at),
+            what => self.change(place, what),
         }
     }
 
@@ -79,71 +53,44 @@ impl Inputs {
         ensures stations { (station : StationRecord) → IsStagedStation station self.old.staged → in_force self.new ≡ put place_of station (in_force self.old) }
         ensures limits { self.new.limits ≡ self.old.limits }
     {
-        if let Staged::Whole(station) = mem::replace(&mut self.staged, Staged::Nothing) {
+        if let StagedEdit::Whole(station) = self.take_staged() {
             add_in(&mut self.stations, station);
         }
     }
 
-    /// Describes the station at a place anew, with the name that is staged.
-    fn describe_staged(
-        &mut self,
-        place: Place,
-        gap: u32,
-        stage_array: RoundingArray,
-        discharge_array: RoundingArray,
-    )
+    /// Makes an edit of the station at a place.
+    fn change(&mut self, place: Place, what: &What)
         requires place { IsPlace (in_force self.old) place }
-        requires gap_low { 1 ≤ gap }
-        requires gap_high { gap ≤ most_gap }
-        ensures stations { (name : List ℕ) → IsStagedName name self.old.staged → in_force self.new ≡ changed_at place.site (described name gap stage_array discharge_array) (in_force self.old) }
+        requires lawful { IsLawful what.now }
+        requires free { obstacle_of (station_of (in_force self.old) place.site) what.now ≡ None }
+        requires room { HasRoomThere self.old.kept (staged_part self.old.staged) place.site what.now }
+        requires counted { passes self.old.limits.readings (reading_count (in_force self.old)) (reading_count (changed_at place.site (station_after what.now) (in_force self.old))) ≡ false }
+        ensures stations { in_force self.new ≡ changed_at place.site (station_after what.now) (in_force self.old) }
         ensures limits { self.new.limits ≡ self.old.limits }
     {
-        if let Staged::Named(name) = mem::replace(&mut self.staged, Staged::Nothing) {
-            describe_in(
-                &mut self.stations,
-                place,
-                name,
-                gap,
-                stage_array,
-                discharge_array,
-            );
-        }
-    }
-
-    /// Puts readings at a place.
-    fn put(&mut self, place: Place, readings: &[Reading])
-        requires place { IsPlace (in_force self.old) place }
-        requires room { HasReadingRoom self.old.kept place.site (length readings.now) }
-        requires lawful { All IsPutReading readings.now }
-        requires counted { passes self.old.limits.readings (reading_count (in_force self.old)) (reading_count (changed_at place.site (with_readings readings.now) (in_force self.old))) ≡ false }
-        ensures stations { in_force self.new ≡ changed_at place.site (with_readings readings.now) (in_force self.old) }
-        ensures limits { self.new.limits ≡ self.old.limits }
-    {
-        let added = put_readings_in(&mut self.stations, place, readings);
+        let staged = part_of(self.take_staged());
+        let added = change_in(&mut self.stations, place, what, staged);
         self.readings += added as u64;
     }
 
-    /// Puts an entry into a series at a place.
-    fn put_entry(&mut self, place: Place, which: StationSeries, entry: Entry)
-        requires place { IsPlace (in_force self.old) place }
-        requires series { IsOfStation which }
-        requires room { HasEntryRoom self.old.kept place.site which }
-        requires lawful { IsPutCurve entry.curve }
-        requires stamp { IsStamp entry.at }
-        ensures stations { in_force self.new ≡ changed_at place.site (with_entry which entry) (in_force self.old) }
+    /// Takes what is staged.
+    fn take_staged(&mut self) -> StagedEdit
+        ensures staged { result ≡ self.old.staged }
+        ensures kept { self.new.kept ≡ self.old.kept }
         ensures limits { self.new.limits ≡ self.old.limits }
+        ensures spare { self.new.spare ≡ self.old.spare }
     {
-        put_entry_in(&mut self.stations, place, which, entry);
+        mem::replace(&mut self.staged, StagedEdit::Part(Staged::Nothing))
     }
+}
 
-    /// Takes the entry at an instant out of a series at a place.
-    fn drop_entry(&mut self, place: Place, which: StationSeries, at: Second)
-        requires place { IsPlace (in_force self.old) place }
-        requires series { IsOfStation which }
-        ensures stations { in_force self.new ≡ changed_at place.site (without_entry which at) (in_force self.old) }
-        ensures limits { self.new.limits ≡ self.old.limits }
-    {
-        drop_entry_in(&mut self.stations, place, which, at);
+/// What is staged for an edit of a station that is there.
+fn part_of(staged: StagedEdit) -> Staged
+    ensures { result ≡ staged_part staged }
+{
+    match staged {
+        StagedEdit::Part(part) => part,
+        StagedEdit::Whole(_) => Staged::Nothing,
     }
 }
 
@@ -161,71 +108,19 @@ fn add_in(stations: &mut Vec<Station>, station: Station)
     put_in(stations, station);
 }
 
-/// Describes the station at a place anew, where its site is kept.
-fn describe_in(
-    stations: &mut Vec<Station>,
-    place: Place,
-    name: Name,
-    gap: u32,
-    stage_array: RoundingArray,
-    discharge_array: RoundingArray,
-)
+/// Makes an edit of the station at a place, where its site is kept, and tells how many readings more it has then.
+fn change_in(stations: &mut Vec<Station>, place: Place, what: &What, staged: Staged) -> usize
     requires kept { AreStations stations.old.items }
     requires place { IsPlace (records_of stations.old.items) place }
-    requires gap_low { 1 ≤ gap }
-    requires gap_high { gap ≤ most_gap }
-    ensures records { records_of stations.new.items ≡ changed_at place.site (described name gap stage_array discharge_array) (records_of stations.old.items) }
-    ensures count { reading_count (records_of stations.new.items) ≡ reading_count (records_of stations.old.items) }
-    ensures kept { AreStations stations.new.items }
-{
-    if let Some(index) = place.index() {
-        stations[index].describe(name, gap, stage_array, discharge_array);
-    }
-}
-
-/// Puts readings at the station at a place, where its site is kept, and tells how many more it has then.
-fn put_readings_in(stations: &mut Vec<Station>, place: Place, readings: &[Reading]) -> usize
-    requires kept { AreStations stations.old.items }
-    requires place { IsPlace (records_of stations.old.items) place }
-    requires room { HasReadingRoom stations.old.items place.site (length readings.now) }
-    requires lawful { All IsPutReading readings.now }
-    ensures records { records_of stations.new.items ≡ changed_at place.site (with_readings readings.now) (records_of stations.old.items) }
+    requires lawful { IsLawful what.now }
+    requires free { obstacle_of (station_of (records_of stations.old.items) place.site) what.now ≡ None }
+    requires room { HasRoomThere stations.old.items staged place.site what.now }
+    ensures records { records_of stations.new.items ≡ changed_at place.site (station_after what.now) (records_of stations.old.items) }
     ensures count { reading_count (records_of stations.new.items) ≡ reading_count (records_of stations.old.items) + result }
     ensures kept { AreStations stations.new.items }
 {
     match place.index() {
-        Some(index) => stations[index].put(readings),
+        Some(index) => stations[index].apply(what, staged),
         None => 0,
-    }
-}
-
-/// Puts an entry into a series of the station at a place, where its site is kept.
-fn put_entry_in(stations: &mut Vec<Station>, place: Place, which: StationSeries, entry: Entry)
-    requires kept { AreStations stations.old.items }
-    requires place { IsPlace (records_of stations.old.items) place }
-    requires series { IsOfStation which }
-    requires room { HasEntryRoom stations.old.items place.site which }
-    requires lawful { IsPutCurve entry.curve }
-    requires stamp { IsStamp entry.at }
-    ensures records { records_of stations.new.items ≡ changed_at place.site (with_entry which entry) (records_of stations.old.items) }
-    ensures count { reading_count (records_of stations.new.items) ≡ reading_count (records_of stations.old.items) }
-    ensures kept { AreStations stations.new.items }
-{
-    if let Some(index) = place.index() {
-        stations[index].put_entry(which, entry);
-    }
-}
-
-/// Takes the entry at an instant out of a series of the station at a place, where its site is kept.
-fn drop_entry_in(stations: &mut Vec<Station>, place: Place, which: StationSeries, at: Second)
-    requires kept { AreStations stations.old.items }
-    requires place { IsPlace (records_of stations.old.items) place }
-    requires series { IsOfStation which }
-    ensures records { records_of stations.new.items ≡ changed_at place.site (without_entry which at) (records_of stations.old.items) }
-    ensures count { reading_count (records_of stations.new.items) ≡ reading_count (records_of stations.old.items) }
-    ensures kept { AreStations stations.new.items }
-{
-    if let Some(index) = place.index() {
-        stations[index].drop_entry(which, at);
     }
 }

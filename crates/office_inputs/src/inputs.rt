@@ -1,26 +1,25 @@
 //! The inputs in force of all stations.
 
-ghost use Rattle.std.specs.Prelude.{◌≡◌, ◌↔◌, ◌+◌, true, [], ◌∷◌, length, IfOk, IfSome, IfNone, OnOk, None, option_map};
+ghost use Rattle.std.specs.Prelude.{◌≡◌, ◌↔◌, ◌+◌, true, [], IfOk, None, option_map};
 ghost use Rattle.day_inputs.specs.DayInputs.{AreInputs};
 ghost use Rattle.office_inputs.specs.Changes.{keeps_day};
 ghost use Rattle.office_inputs.specs.Kept.{AreStations, HasRoom, in_force};
 ghost use Rattle.office_inputs.specs.Places.{IsPlace, IsPlaceOf};
 ghost use Rattle.office_inputs.specs.Refusals.{refusal_of};
-ghost use Rattle.office_inputs.specs.Stations.{station_of, stations_after, inputs_of_day};
+ghost use Rattle.office_inputs.specs.Measured.{measurement_at, shift_at, table_at};
+ghost use Rattle.office_inputs.specs.Stations.{station_of, inputs_of_day};
 ghost use Rattle.office_inputs.specs.Touched.{IsUsedSpan};
 
 use crate::limits::Limits;
 use crate::places::{Place, find_place, station_there};
-use crate::refusals::{Refusal, Which};
-use crate::staged::Staged;
-use crate::stations::Station;
-use civil_days::StationZone;
+use crate::staged::StagedEdit;
 use day_inputs::DayInputs;
-use edits::{Edit, Name, What};
-use fixed_units::{Day, NoMemory, Reading, Site};
+use edits::{Edit, Measurement};
+use fixed_units::{Day, Micro, NoMemory, Second, Site};
+use ratings::Table;
+use station_inputs::{Staged, Station};
 use std::alloc::Global;
 use std::marker::Model;
-use std::sync::Arc;
 use std::sync::ledger::Ledger;
 use steps::Steps;
 
@@ -32,7 +31,7 @@ pub struct Inputs {
     pub(crate) limits: Limits,
     pub(crate) stations: Vec<Station>,
     pub(crate) readings: u64,
-    pub(crate) staged: Staged,
+    pub(crate) staged: StagedEdit,
 }
 
 impl Model for Inputs {
@@ -58,7 +57,7 @@ impl Inputs {
             limits,
             stations: Vec::new(alloc),
             readings: 0,
-            staged: Staged::Nothing,
+            staged: StagedEdit::Part(Staged::Nothing),
         }
     }
 
@@ -124,7 +123,32 @@ impl Inputs {
             steps.tick();
             return true;
         };
-        station.same_day_inputs(edit, day, steps)
+        station.same_day_inputs(&edit.what, day, steps)
+    }
+
+    /// The measurement of a number at a site, or `None` exactly where no such measurement stands. It takes no memory.
+    pub fn measurement(&self, site: Site, number: u32) -> Option<&Measurement>
+        ensures { option_map (λ m. m.now) result ≡ measurement_at (in_force self.now) site number }
+    {
+        self.station(site)?.measurement(number)
+    }
+
+    /// The shift at an instant and a stage of a site, in millionths of a foot: 0 where it is not kept. It takes no memory.
+    pub fn shift(&self, site: Site, at: Second, stage: Micro) -> Micro
+        ensures { result ≡ shift_at (in_force self.now) site at stage }
+    {
+        match self.station(site) {
+            Some(station) => station.shift(at, stage),
+            None => Micro::new(0).unwrap(),
+        }
+    }
+
+    /// The table of the rating that is in force at an instant at a site, or `None` exactly where no period of the site is in force. It
+    /// takes no memory.
+    pub fn table_at(&self, site: Site, at: Second) -> Option<&Table>
+        ensures { option_map (λ t. t.now) result ≡ table_at (in_force self.now) site at }
+    {
+        self.station(site)?.table_at(at)
     }
 
     /// The first and the last day of a site that have inputs, or `None` exactly where no day has. It takes no memory.
@@ -151,12 +175,4 @@ pub fn stations_keep_to_their_ranges(inputs: &Inputs)
     ensures { AreStations inputs.now.kept }
 {
     let _ = &inputs.stations;
-}
-
-/// The reading of a list of one.
-pub(crate) fn only_one(readings: &[Reading]) -> Reading
-    requires { length readings.now ≡ 1 }
-    ensures { readings.now ≡ result ∷ [] }
-{
-    readings[0]
 }

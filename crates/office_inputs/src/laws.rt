@@ -4,7 +4,8 @@ ghost use Rattle.std.specs.Prelude.{◌≡◌, ◌++◌, ◌∷◌, [], List, �
 ghost use Rattle.edits.specs.declared.content.Edit.{Edit};
 ghost use Rattle.fixed_units.specs.Quantities.{IsDay, SiteNumber, same_site};
 ghost use Rattle.office_inputs.specs.Changes.{changed_days};
-ghost use Rattle.office_inputs.specs.Stations.{StationRecord, station_of, stations_after, stations_of, inputs_of_day};
+ghost use Rattle.office_inputs.specs.Stations.{station_of, stations_after, stations_of, inputs_of_day};
+ghost use Rattle.station_inputs.specs.Stations.{StationRecord};
 ghost use Rattle.office_inputs.specs.Touched.{is_filled};
 
 /// An edit leaves every other site alone: its station, and the inputs of each day.

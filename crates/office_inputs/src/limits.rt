@@ -11,9 +11,6 @@ pub const USUAL_READINGS: u64 = 16_000_000;
 /// How many readings a local day of a station usually has at most, erroneous ones among them.
 pub const USUAL_DAY_READINGS: u32 = 1_500;
 
-/// How many entries a correction set, or the shifts, of a station has at most.
-pub const MOST_ENTRIES: usize = 10_000;
-
 /// How many cells of days an office usually keeps at most.
 pub const USUAL_CELLS: u64 = 4_000_000;
 

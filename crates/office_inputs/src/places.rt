@@ -6,9 +6,9 @@ ghost use Rattle.rising.specs.Lists.{IsRising};
 ghost use Rattle.office_inputs.specs.Kept.{kept_at, place_of_kept, records_of};
 ghost use Rattle.office_inputs.specs.Places.{IsPlace, IsPlaceOf};
 
-use crate::stations::Station;
 use fixed_units::Site;
 use rising::place_in;
+use station_inputs::Station;
 use std::marker::Model;
 
 /// Where the station of a site stands among those that are kept, until an edit is accepted. Contracts see the site and the index.

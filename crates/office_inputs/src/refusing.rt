@@ -1,27 +1,24 @@
 //! Which edits the inputs in force refuse.
 
-ghost use Rattle.std.specs.Prelude.{◌≡◌, length, None, Some};
+ghost use Rattle.std.specs.Prelude.{◌≡◌, ◌∷◌, [], length};
 ghost use Rattle.fixed_units.specs.Quantities.{IsStamp};
-ghost use Rattle.office_inputs.specs.Counting.{entry_limit, reading_limit, station_limit, without_station, IsRefusalAt, IsLimitedOn};
+ghost use Rattle.office_inputs.specs.Counting.{reading_limit, station_limit, without_station, IsRefusalAt, IsLimitedOn};
 ghost use Rattle.edits.specs.Lawful.{IsLawful};
 ghost use Rattle.office_inputs.specs.Kept.{in_force};
 ghost use Rattle.office_inputs.specs.Places.{IsPlaceOf};
-ghost use Rattle.office_inputs.specs.Series.{IsOfStation};
-ghost use Rattle.office_inputs.specs.Refusals.{refusal_of, lacks_entry, limit_refusal, reading_count, refusal_by};
+ghost use Rattle.office_inputs.specs.Refusals.{refusal_of, limit_refusal, reading_count};
 
-use crate::inputs::{Inputs, only_one, stations_keep_to_their_ranges};
-use crate::limits::MOST_ENTRIES;
+use crate::inputs::{Inputs, stations_keep_to_their_ranges};
 use crate::places::Place;
-use crate::refusals::{Refusal, Which};
-use crate::series::StationSeries;
-use crate::stations::Station;
 use edits::{Edit, What};
-use fixed_units::{Day, Reading, Second};
+use fixed_units::{Day, Reading};
+use station_inputs::{Refusal, Station, Which};
 
 impl Inputs {
     /// Why the inputs in force refuse an edit, or `None` exactly where they do not: no station of the site, a station that is kept
-    /// already, the first count that the edit would raise past its limit, or a drop that finds no entry at its instant in its
-    /// series. It takes no memory.
+    /// already, the first count that the edit would raise past its limit, or what of the station stands in its way: a rating that a
+    /// period lacks, a rating that is there already, a period that it overlaps, or nothing where a drop would take something out. It
+    /// takes no memory.
     pub fn refusal(&self, edit: &Edit) -> Option<Refusal>
         ensures { result ≡ refusal_of self.now.limits (in_force self.now) edit.now }
     {
@@ -60,18 +57,13 @@ impl Inputs {
     {
         match what {
             What::AddStation { .. } => Some(Refusal::StationExists),
-            What::SetStation { .. } => None,
             What::PutReadings { readings } => {
                 self.reading_limit(station, only_one(readings.as_slice()))
             }
-            What::PutCorrection { set, at, .. } => {
-                entry_limit(station, StationSeries::Correction(*set), *at)
-            }
-            What::DropCorrection { set, at } => {
-                entry_lack(station, StationSeries::Correction(*set), *at)
-            }
-            What::PutShift { at, .. } => entry_limit(station, StationSeries::Shift, *at),
-            What::DropShift { at } => entry_lack(station, StationSeries::Shift, *at),
+            _ => match station.passed_count(what) {
+                Some(which) => Some(Refusal::Limit(which)),
+                None => station.obstacle(what),
+            },
         }
     }
 
@@ -113,25 +105,10 @@ impl Inputs {
     }
 }
 
-/// Whether an entry put at an instant would raise its series past the limit: it raises nothing where one stands there.
-fn entry_limit(station: &Station, which: StationSeries, at: Second) -> Option<Refusal>
-    requires { IsOfStation which }
-    ensures { result ≡ limit_refusal (entry_limit station.now.station which at) }
+/// The reading of a list of one.
+fn only_one(readings: &[Reading]) -> Reading
+    requires { length readings.now ≡ 1 }
+    ensures { readings.now ≡ result ∷ [] }
 {
-    let full = station.entries(which).len() >= MOST_ENTRIES;
-    if full && !station.has_entry_at(which, at) {
-        return Some(Refusal::Limit(Which::Entries));
-    }
-    None
-}
-
-/// Whether no entry stands at an instant of the series that one is to be taken out of.
-fn entry_lack(station: &Station, which: StationSeries, at: Second) -> Option<Refusal>
-    requires { IsOfStation which }
-    ensures { result ≡ refusal_by None (lacks_entry (Some station.now.station) which at) }
-{
-    if station.has_entry_at(which, at) {
-        return None;
-    }
-    Some(Refusal::NoEntry)
+    readings[0]
 }

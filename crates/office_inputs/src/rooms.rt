@@ -1,22 +1,21 @@
 //! Room for an edit, made before it is journaled, so that its acceptance takes no memory.
 
-ghost use Rattle.std.specs.Prelude.{◌≡◌, ◌≤◌, ◌<◌, OnOk, IfSome, length};
-ghost use Rattle.std.specs.Prelude.{vec_len, vec_capacity};
+ghost use Rattle.std.specs.Prelude.{◌≡◌, ◌≤◌, ◌<◌, IfOk, OnOk, vec_len, vec_capacity};
 ghost use Rattle.civil_days.specs.Starts.{IsZone};
 ghost use Rattle.day_inputs.specs.DayInputs.{most_gap};
-ghost use Rattle.office_inputs.specs.Kept.{HasRoom, IsStagedStation, IsStagedName, HasReadingRoom, HasEntryRoom, AreStations, in_force, records_of};
+ghost use Rattle.edits.specs.Lawful.{IsLawful};
+ghost use Rattle.office_inputs.specs.Kept.{AreStations, HasRoom, HasRoomThere, IsStagedStation, in_force, records_of, staged_part};
 ghost use Rattle.office_inputs.specs.Places.{IsPlace, IsPlaceOf};
-ghost use Rattle.office_inputs.specs.Series.{IsOfStation};
-ghost use Rattle.office_inputs.specs.Stations.{new_station};
+ghost use Rattle.station_inputs.specs.Stations.{new_station};
 
 use crate::inputs::Inputs;
 use crate::places::Place;
-use crate::series::StationSeries;
-use crate::staged::Staged;
-use crate::stations::Station;
+use crate::staged::StagedEdit;
 use crate::zones::zone_of;
 use edits::{Edit, Name, What};
 use fixed_units::{NoMemory, RoundingArray, Site};
+use station_inputs::{Staged, Station};
+use std::alloc::Global;
 
 impl Inputs {
     /// Makes room for an edit. What is in force is as before, also after `NoMemory`.
@@ -44,13 +43,7 @@ impl Inputs {
                 stage_array,
                 discharge_array,
             } => self.stage_station(edit.site, name, zone, *gap, *stage_array, *discharge_array),
-            What::SetStation { name, .. } => self.stage_name(name),
-            What::PutReadings { readings } => self.reserve(place, readings.as_slice().len()),
-            What::PutCorrection { set, .. } => {
-                self.reserve_entry(place, StationSeries::Correction(*set))
-            }
-            What::PutShift { .. } => self.reserve_entry(place, StationSeries::Shift),
-            What::DropCorrection { .. } | What::DropShift { .. } => Ok(()),
+            what => self.prepare_station(place, what),
         }
     }
 
@@ -75,7 +68,7 @@ impl Inputs {
         let zone = zone_of(self.alloc, self.stations.as_slice(), zone)?;
         let name = name.copy(self.alloc)?;
         self.stations.reserve(1)?;
-        self.staged = Staged::Whole(Station::new(
+        self.staged = StagedEdit::Whole(Station::new(
             self.alloc,
             site,
             name,
@@ -87,71 +80,37 @@ impl Inputs {
         Ok(())
     }
 
-    /// Stages a name.
-    fn stage_name(&mut self, name: &Name) -> Result<(), NoMemory>
+    /// Makes room for an edit of the station at a place, where its site is kept.
+    fn prepare_station(&mut self, place: Place, what: &What) -> Result<(), NoMemory>
+        requires place { IsPlace (in_force self.old) place }
+        requires lawful { IsLawful what.now }
         ensures stations { in_force self.new ≡ in_force self.old }
         ensures limits { self.new.limits ≡ self.old.limits }
-        ensures staged { OnOk result (IsStagedName name.now self.new.staged) }
+        ensures room { OnOk result (HasRoomThere self.new.kept (staged_part self.new.staged) place.site what.now) }
     {
-        self.staged = Staged::Named(name.copy(self.alloc)?);
+        self.staged = StagedEdit::Part(prepare_in(self.alloc, &mut self.stations, place, what)?);
         Ok(())
     }
-
-    /// Makes room for so many readings more of the station at a place, where its site is kept.
-    fn reserve(&mut self, place: Place, count: usize) -> Result<(), NoMemory>
-        requires { IsPlace (in_force self.old) place }
-        ensures stations { in_force self.new ≡ in_force self.old }
-        ensures limits { self.new.limits ≡ self.old.limits }
-        ensures room { OnOk result (HasReadingRoom self.new.kept place.site count) }
-    {
-        reserve_in(&mut self.stations, place, count)
-    }
-
-    /// Makes room for one entry more in a series of the station at a place, where its site is kept.
-    fn reserve_entry(&mut self, place: Place, which: StationSeries) -> Result<(), NoMemory>
-        requires place { IsPlace (in_force self.old) place }
-        requires series { IsOfStation which }
-        ensures stations { in_force self.new ≡ in_force self.old }
-        ensures limits { self.new.limits ≡ self.old.limits }
-        ensures room { OnOk result (HasEntryRoom self.new.kept place.site which) }
-    {
-        reserve_entry_in(&mut self.stations, place, which)
-    }
 }
 
-/// Makes room for so many readings more of the station at a place among the stations that are kept.
-fn reserve_in(stations: &mut Vec<Station>, place: Place, count: usize) -> Result<(), NoMemory>
-    requires stations { AreStations stations.old.items }
-    requires place { IsPlace (records_of stations.old.items) place }
-    ensures records { records_of stations.new.items ≡ records_of stations.old.items }
-    ensures kept { AreStations stations.new.items }
-    ensures len { vec_len stations.new ≡ vec_len stations.old }
-    ensures capacity { vec_capacity stations.new ≡ vec_capacity stations.old }
-    ensures room { OnOk result (HasReadingRoom stations.new.items place.site count) }
-{
-    match place.index() {
-        Some(index) => stations[index].reserve(count),
-        None => Ok(()),
-    }
-}
-
-/// Makes room for one entry more in a series of the station at a place among the stations that are kept.
-fn reserve_entry_in(
+/// Makes room for an edit of the station at a place among the stations that are kept, and gives what is staged for it.
+fn prepare_in(
+    alloc: Global,
     stations: &mut Vec<Station>,
     place: Place,
-    which: StationSeries,
-) -> Result<(), NoMemory>
+    what: &What,
+) -> Result<Staged, NoMemory>
     requires stations { AreStations stations.old.items }
     requires place { IsPlace (records_of stations.old.items) place }
-    requires series { IsOfStation which }
+    requires lawful { IsLawful what.now }
     ensures records { records_of stations.new.items ≡ records_of stations.old.items }
     ensures kept { AreStations stations.new.items }
     ensures len { vec_len stations.new ≡ vec_len stations.old }
     ensures capacity { vec_capacity stations.new ≡ vec_capacity stations.old }
-    ensures room { OnOk result (HasEntryRoom stations.new.items place.site which) }
+    ensures room { IfOk result (λ staged. HasRoomThere stations.new.items staged place.site what.now) }
 {
     match place.index() {
-        Some(index) => stations[index].reserve_entry(which),
-        None => Ok(()),
+        Some(index) => stations[index].prepare(alloc, what),
+        None => Ok(Staged::Nothing),
     }
 }

@@ -1,15 +1,12 @@
 //! What is made ready for an edit before it is journaled, so that its acceptance takes no memory.
 
-use crate::stations::Station;
-use edits::Name;
+use station_inputs::{Staged, Station};
 
 /// What is made ready for an edit that carries more than numbers.
 #[derive(Debug, Drop)]
-pub(crate) enum Staged {
-    /// Nothing is.
-    Nothing,
-    /// A whole station.
+pub(crate) enum StagedEdit {
+    /// The station that is added.
     Whole(Station),
-    /// The name of a station.
-    Named(Name),
+    /// What is staged for an edit of a station that is there.
+    Part(Staged),
 }

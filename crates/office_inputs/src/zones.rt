@@ -4,10 +4,10 @@ ghost use Rattle.std.specs.Prelude.{◌≡◌, IfOk, IfErr, ⊤};
 ghost use Rattle.std.specs.Arc.{arc_value};
 ghost use Rattle.civil_days.specs.Starts.{IsZone};
 
-use crate::stations::Station;
 use civil_days::{StationZone, ZoneFault};
 use edits::Name;
 use fixed_units::NoMemory;
+use station_inputs::Station;
 use std::alloc::Global;
 use std::sync::Arc;
 

@@ -4,8 +4,8 @@ use Rattle.fixed_units.specs.Quantities.{SiteNumber}
 use Rattle.office_inputs.specs.Kept.{in_force}
 use Rattle.office_inputs.specs.Stations.{station_of}
 use Rattle.office_inputs.specs.Touched.{in_reach}
-use Rattle.office_inputs.specs.declared.touched.Touched.{Touched}
-use Rattle.office_inputs.specs.declared.touched.Touched.TheVariants.{Between}
+use Rattle.station_inputs.specs.declared.touched.Touched.{Touched}
+use Rattle.station_inputs.specs.declared.touched.Touched.TheVariants.{Between}
 use Rattle.depend.specs.Compared.{AreCompared}
 use Rattle.depend.proofs.IntervalLemmas.{station_is}
 use Rattle.depend.proofs.CoverLemmas.{stamps}

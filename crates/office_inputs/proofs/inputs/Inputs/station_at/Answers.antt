@@ -1,6 +1,6 @@
 -- The record of the site is that of the station found.
 use Rattle.std.proofs.Common.{◌∙◌, ap}
-use Rattle.office_inputs.specs.KeptStation.{KeptStation}
+use Rattle.station_inputs.specs.KeptStation.{KeptStation}
 use Rattle.office_inputs.specs.Kept.{kept_at}
 use Rattle.std.specs.Prelude.{List}
 use Rattle.office_inputs.proofs.InputsLemmas.{found_record}

@@ -1,9 +1,0 @@
--- The readings that are put are stages at stamps, and so are all then.
-use Rattle.office_inputs.proofs.StationLemmas.{put_station}
-use Rattle.office_inputs.proofs.stations.Station.put.Goals as goal
-
-pub invariant_of-self : goal.invariant_of-self
-invariant_of-self c = put_station _ c.args.readings.now c.put_each.new.kept.list c.self.invariant c.requires.lawful c.put_each.ensures.list
-
-pub returns-clause-kept : goal.returns-clause-kept
-returns-clause-kept c = put_station _ c.args.readings.now c.put_each.new.kept.list c.self.invariant c.requires.lawful c.put_each.ensures.list

@@ -1,0 +1,111 @@
+-- What holds of every edit of a station.
+use Rattle.std.specs.Prelude.{◌≡◌, ℕ, ◌⊎◌, List, [], ◌∷◌, All, Option, Some, None, is_some, IsSome, true, ℤ}
+use Rattle.std.proofs.Common.{refl, ap, sym, subst, inl, inr, ◌∙◌}
+use Rattle.std.proofs.lemmas.List.Elements.{All-head}
+use Rattle.fixed_units.specs.declared.readings.Flag.TheVariants.{Usable}
+use Rattle.fixed_units.specs.declared.readings.Reading.{Reading}
+use Rattle.readings.specs.Readings.{is_used}
+use Rattle.edits.specs.Lawful.{ArePutReadings, IsLawful, IsPutReading}
+use Rattle.edits.specs.declared.content.What.{What}
+use Rattle.edits.specs.declared.content.What.TheVariants.{AddStation, SetStation, PutReadings, PutCorrection, DropCorrection, PutShift, DropShift, AddRating, PutPeriod, DropPeriod, PutMeasurement, DropMeasurement}
+use Rattle.curves.specs.Entries.{entry_of}
+use Rattle.edits.specs.declared.measurements.Measurement.{Measurement}
+use Rattle.rating_tables.specs.Table.{Row}
+use Rattle.day_inputs.specs.Equality.{same_inputs}
+use Rattle.station_inputs.specs.Changes.{keeps_station_day}
+use Rattle.station_inputs.proofs.PeriodDays.{rating_told}
+use Rattle.station_inputs.proofs.StationLemmas.{same_of}
+use Rattle.ratings.specs.Numbered.{Numbered, rating_of}
+use Rattle.ratings.specs.Periods.{overlap}
+use Rattle.station_inputs.specs.KeptStation.{IsStation}
+use Rattle.station_inputs.specs.Obstacles.{obstacle, period_obstacle, rating_obstacle}
+use Rattle.station_inputs.specs.Stations.{StationRecord, day_start, station_after, station_day}
+use Rattle.station_inputs.specs.declared.series.StationSeries.TheVariants.{Correction, Shift}
+use Rattle.station_inputs.proofs.KeptLemmas.{described_is, readings_put, rating_added, period_put, period_dropped, measurement_put, measurement_dropped}
+use Rattle.station_inputs.proofs.SeriesLemmas.{put_station, without_station}
+
+pub same_site : (what : What) (s : StationRecord) → (station_after what s).site ≡ s.site
+same_site (AddStation name zone gap stages discharges) s = refl
+same_site (SetStation name gap stages discharges) s = refl
+same_site (PutReadings readings) s = refl
+same_site (PutCorrection set at curve prorate) s = refl
+same_site (DropCorrection set at) s = refl
+same_site (PutShift at curve prorate) s = refl
+same_site (DropShift at) s = refl
+same_site (AddRating rating table) s = refl
+same_site (PutPeriod period) s = refl
+same_site (DropPeriod from) s = refl
+same_site (PutMeasurement measurement) s = refl
+same_site (DropMeasurement number) s = refl
+
+pub same_days : (what : What) (s : StationRecord) (day : ℤ) → day_start (station_after what s) day ≡ day_start s day
+same_days (AddStation name zone gap stages discharges) s day = refl
+same_days (SetStation name gap stages discharges) s day = refl
+same_days (PutReadings readings) s day = refl
+same_days (PutCorrection set at curve prorate) s day = refl
+same_days (DropCorrection set at) s day = refl
+same_days (PutShift at curve prorate) s day = refl
+same_days (DropShift at) s day = refl
+same_days (AddRating rating table) s day = refl
+same_days (PutPeriod period) s day = refl
+same_days (DropPeriod from) s day = refl
+same_days (PutMeasurement measurement) s day = refl
+same_days (DropMeasurement number) s day = refl
+
+-- what nothing that stands in the way tells of the ratings
+pub is_free : (o : Option Numbered) → rating_obstacle (is_some o) ≡ None → o ≡ None
+is_free None e = refl
+is_free (Some kept) e = absurd (cc)
+
+pub is_known : (o : Option Numbered) (overlapped : Option ℤ) → period_obstacle (is_some o) overlapped ≡ None → IsSome o × (overlapped ≡ None)
+is_known None overlapped e = absurd (cc)
+is_known (Some kept) None e = (refl, refl)
+is_known (Some kept) (Some at) e = absurd (cc)
+
+pub still_station : (what : What) (s : StationRecord) → IsStation s → IsLawful what → obstacle s what ≡ None → IsStation (station_after what s)
+still_station (AddStation name zone gap stages discharges) s k l e = k
+still_station (SetStation name gap stages discharges) s k l e = described_is s name gap stages discharges k l.near.low l.near.high
+still_station (PutReadings readings) s k l e = readings_put s readings _ k l.each refl
+still_station (PutCorrection set at curve prorate) s k l e = put_station s (Correction set) (entry_of at curve prorate) k l.0 l.2 l.1
+still_station (DropCorrection set at) s k l e = without_station s (Correction set) at k l.0
+still_station (PutShift at curve prorate) s k l e = put_station s Shift (entry_of at curve prorate) k tt l.1 l.0
+still_station (DropShift at) s k l e = without_station s Shift at k tt
+still_station (AddRating rating table) s k l e =
+    rating_added s (record { number = rating; rows = table }) _ k l.1 (is_free (rating_of rating s.ratings.tables) e) refl
+still_station (PutPeriod period) s k l e =
+    let h = is_known (rating_of period.rating s.ratings.tables) (overlap period s.ratings.periods) e in
+    period_put s period _ k l h.0 h.1 refl
+still_station (DropPeriod from) s k l e = period_dropped s from _ k refl
+still_station (PutMeasurement measurement) s k l e = measurement_put s measurement _ k l refl
+still_station (DropMeasurement number) s k l e = measurement_dropped s number _ k refl
+
+-- the one reading that is put is used
+usable_is : (r : Reading) → r.flag ≡ Usable → is_used r ≡ true
+usable_is r e = rw e refl
+
+pub one_used : (what : What) (readings list : List Reading) (r : Reading) → IsLawful what → what ≡ PutReadings readings → list ≡ readings → list ≡ r ∷ []
+    → is_used r ≡ true
+one_used what readings list r l e f g =
+    let put : ArePutReadings readings = subst IsLawful e l in
+    let each : All IsPutReading (r ∷ []) = subst (λ (rs : List Reading). All IsPutReading rs) (sym f ∙ g) put.each in
+    usable_is r (All-head IsPutReading r [] each).usable
+
+-- the edits that change no inputs of a day are these
+abbrev pub ChangesNone : What → Type 0
+ChangesNone what =
+    ((name : List ℕ) × (zone : List ℕ) × (gap : ℕ) × (stages : List ℕ) × (discharges : List ℕ) × (what ≡ AddStation name zone gap stages discharges))
+    ⊎ (((rating : ℕ) × (table : List Row) × (what ≡ AddRating rating table))
+    ⊎ (((measurement : Measurement) × (what ≡ PutMeasurement measurement))
+    ⊎ ((number : ℕ) × (what ≡ DropMeasurement number))))
+
+told_at : (s : StationRecord) (what other : What) (day : ℤ) → what ≡ other → true ≡ keeps_station_day s other day → true ≡ keeps_station_day s what day
+told_at s what other day e h = h ∙ ap (λ (w : What). keeps_station_day s w day) (sym e)
+
+same_day : (s : StationRecord) (day : ℤ) → true ≡ same_inputs (station_day s day) (station_day s day)
+same_day s day = sym (same_of (station_day s day) (station_day s day) refl)
+
+pub none_changed : (s : StationRecord) (what : What) (day : ℤ) → IsStation s → ChangesNone what → true ≡ keeps_station_day s what day
+none_changed s what day k (inl p) = told_at s what (AddStation p.0 p.1 p.2 p.3 p.4) day p.5 (same_day s day)
+none_changed s what day k (inr (inl p)) = told_at s what (AddRating p.0 p.1) day p.2 (rating_told s day (record { number = p.0; rows = p.1 }) k)
+none_changed s what day k (inr (inr (inl p))) = told_at s what (PutMeasurement p.0) day p.1 (same_day s day)
+none_changed s what day k (inr (inr (inr p))) = told_at s what (DropMeasurement p.0) day p.1 (same_day s day)

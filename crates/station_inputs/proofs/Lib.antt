@@ -1,0 +1,10 @@
+pub mod BearingDays
+pub mod CountLemmas
+pub mod KeptLemmas
+pub mod LawLemmas
+pub mod LengthLemmas
+pub mod PeriodDays
+pub mod SeriesLemmas
+pub mod SpanLemmas
+pub mod StationLemmas
+pub mod WindowSpans

@@ -1,0 +1,23 @@
+-- Each kind of room keeps the station as it is.
+use Rattle.std.proofs.Common.{◌≡◌, sym, subst}
+use Rattle.station_inputs.specs.KeptStation.{IsStation, KeptStation}
+use Rattle.station_inputs.proofs.stations.Station.prepare.Goals as goal
+use Rattle.station_inputs.proofs.stations.Station.prepare.Goals.{in-PutReadings+in_ok-reserve-in-PutReadings, in-PutCorrection+in_ok-reserve_entry-in-PutCorrection, in-PutShift+in_ok-reserve_entry-in-PutShift, in-PutPeriod+in_ok-reserve_period-in-PutPeriod, in-PutMeasurement+in_ok-reserve_measurement-in-PutMeasurement, in-AddStation-1, in-DropCorrection-1, in-DropShift-1, in-DropPeriod-1, in-DropMeasurement-1}
+
+is : (one other : KeptStation) → one ≡ other → IsStation other.station → IsStation one.station
+is one other e k = subst (λ (s : KeptStation). IsStation s.station) (sym e) k
+
+pub returns-clause-kept : goal.returns-clause-kept
+returns-clause-kept c =
+    elim c.match-what.branch [
+      | in-PutReadings+in_ok-reserve-in-PutReadings w ↦ is _ _ w.self-is w.reserve.ensures.kept
+      | in-PutCorrection+in_ok-reserve_entry-in-PutCorrection w ↦ is _ _ w.self-is w.reserve_entry.ensures.kept
+      | in-PutShift+in_ok-reserve_entry-in-PutShift w ↦ is _ _ w.self-is w.reserve_entry-in-PutShift.ensures.kept
+      | in-PutPeriod+in_ok-reserve_period-in-PutPeriod w ↦ is _ _ w.self-is w.reserve_period.ensures.kept
+      | in-PutMeasurement+in_ok-reserve_measurement-in-PutMeasurement w ↦ is _ _ w.self-is w.reserve_measurement.ensures.kept
+      | in-AddStation-1 w ↦ is _ _ w.self-is c.site-site.ensures.kept
+      | in-DropCorrection-1 w ↦ is _ _ w.self-is c.site-site.ensures.kept
+      | in-DropShift-1 w ↦ is _ _ w.self-is c.site-site.ensures.kept
+      | in-DropPeriod-1 w ↦ is _ _ w.self-is c.site-site.ensures.kept
+      | in-DropMeasurement-1 w ↦ is _ _ w.self-is c.site-site.ensures.kept
+    ]

@@ -1,0 +1,176 @@
+-- The inputs in force of one station, what an edit makes of them, and the inputs of its days.
+use Rattle.std.specs.Prelude.{ℕ, ◌*◌, List, [], Option, ℤ, ◌+ℤ◌, pos}
+use Rattle.fixed_units.specs.Quantities.{SiteNumber}
+use Rattle.fixed_units.specs.declared.readings.Reading.{Reading}
+use Rattle.rising.specs.Lists as lists
+use Rattle.readings.specs.Readings.{put_all}
+use Rattle.readings.specs.Window.{window}
+use Rattle.curves.specs.declared.entries.Entry.{Entry}
+use Rattle.curves.specs.Corrections.{Corrections}
+use Rattle.curves.specs.Entries as series
+use Rattle.curves.specs.Entries.{entry_of}
+use Rattle.civil_days.specs.Starts.{day_start_of}
+use Rattle.day_inputs.specs.DayInputs.{day_inputs}
+use Rattle.day_inputs.specs.declared.day_inputs.DayInputs.{DayInputs}
+use Rattle.edits.specs.declared.content.What.{What}
+use Rattle.edits.specs.declared.content.What.TheVariants.{AddStation, SetStation, PutReadings, PutCorrection, DropCorrection, PutShift, DropShift, AddRating, PutPeriod, DropPeriod, PutMeasurement, DropMeasurement}
+use Rattle.edits.specs.declared.measurements.Measurement.{Measurement}
+use Rattle.ratings.specs.Numbered.{StationRatings, with_period, with_rating, without_period}
+use Rattle.station_inputs.specs.Series.{corrections_with, entries_in, shifts_with}
+use Rattle.station_inputs.specs.declared.series.StationSeries.{StationSeries}
+use Rattle.station_inputs.specs.declared.series.StationSeries.TheVariants.{Correction, Shift}
+
+-- what is in force at a station
+pub record StationRecord : Type 0 where
+  pub site : SiteNumber
+  pub name : List ℕ
+  pub zone : List ℕ
+  pub gap : ℕ
+  pub stage_array : List ℕ
+  pub discharge_array : List ℕ
+  pub corrections : Corrections
+  pub shifts : List Entry
+  pub ratings : StationRatings
+  pub measurements : List Measurement
+  pub readings : List Reading
+
+-- a station as it is added: without corrections, shifts, ratings, measurements and readings
+abbrev pub new_station : SiteNumber → List ℕ → List ℕ → ℕ → List ℕ → List ℕ → StationRecord
+new_station site name zone gap stage_array discharge_array = record {
+  site = site;
+  name = name;
+  zone = zone;
+  gap = gap;
+  stage_array = stage_array;
+  discharge_array = discharge_array;
+  corrections = record { first = []; second = []; third = [] };
+  shifts = [];
+  ratings = record { tables = []; periods = [] };
+  measurements = [];
+  readings = [];
+}
+
+-- a station described anew: all else of it stays
+abbrev pub described : List ℕ → ℕ → List ℕ → List ℕ → StationRecord → StationRecord
+described name gap stage_array discharge_array s = record {
+  site = s.site;
+  name = name;
+  zone = s.zone;
+  gap = gap;
+  stage_array = stage_array;
+  discharge_array = discharge_array;
+  corrections = s.corrections;
+  shifts = s.shifts;
+  ratings = s.ratings;
+  measurements = s.measurements;
+  readings = s.readings;
+}
+
+-- a station with readings put, in place of those at their instants
+abbrev pub with_readings : List Reading → StationRecord → StationRecord
+with_readings readings s = record {
+  site = s.site;
+  name = s.name;
+  zone = s.zone;
+  gap = s.gap;
+  stage_array = s.stage_array;
+  discharge_array = s.discharge_array;
+  corrections = s.corrections;
+  shifts = s.shifts;
+  ratings = s.ratings;
+  measurements = s.measurements;
+  readings = put_all readings s.readings;
+}
+
+-- the entries of a series of a station
+abbrev pub series_of : StationSeries → StationRecord → List Entry
+series_of which s = entries_in which s.corrections s.shifts
+
+-- a station with one of its series changed: all else of it stays
+abbrev pub with_series : StationSeries → (List Entry → List Entry) → StationRecord → StationRecord
+with_series which change s = record {
+  site = s.site;
+  name = s.name;
+  zone = s.zone;
+  gap = s.gap;
+  stage_array = s.stage_array;
+  discharge_array = s.discharge_array;
+  corrections = corrections_with which change s.corrections;
+  shifts = shifts_with which change s.shifts;
+  ratings = s.ratings;
+  measurements = s.measurements;
+  readings = s.readings;
+}
+
+-- a station with an entry put into a series, in place of the one at its instant, and with the one at an instant taken out
+abbrev pub with_entry : StationSeries → Entry → StationRecord → StationRecord
+with_entry which entry s = with_series which (series.put entry) s
+
+abbrev pub without_entry : StationSeries → ℤ → StationRecord → StationRecord
+without_entry which at s = with_series which (series.without at) s
+
+-- a station with its ratings changed: all else of it stays
+abbrev pub with_ratings : (StationRatings → StationRatings) → StationRecord → StationRecord
+with_ratings change s = record {
+  site = s.site;
+  name = s.name;
+  zone = s.zone;
+  gap = s.gap;
+  stage_array = s.stage_array;
+  discharge_array = s.discharge_array;
+  corrections = s.corrections;
+  shifts = s.shifts;
+  ratings = change s.ratings;
+  measurements = s.measurements;
+  readings = s.readings;
+}
+
+-- the number that a measurement stands at, and the measurement of a number
+abbrev pub number_of : Measurement → ℤ
+number_of measurement = pos measurement.number
+
+abbrev pub measurement_of : ℕ → StationRecord → Option Measurement
+measurement_of number s = lists.at number_of (pos number) s.measurements
+
+-- a station with its measurements changed: all else of it stays
+abbrev pub with_measurements : (List Measurement → List Measurement) → StationRecord → StationRecord
+with_measurements change s = record {
+  site = s.site;
+  name = s.name;
+  zone = s.zone;
+  gap = s.gap;
+  stage_array = s.stage_array;
+  discharge_array = s.discharge_array;
+  corrections = s.corrections;
+  shifts = s.shifts;
+  ratings = s.ratings;
+  measurements = change s.measurements;
+  readings = s.readings;
+}
+
+-- a station after an edit of it, which keeps its site and its zone; an addition is none of it
+abbrev pub station_after : What → StationRecord → StationRecord
+station_after (AddStation name zone gap stage_array discharge_array) s = s
+station_after (SetStation name gap stage_array discharge_array) s = described name gap stage_array discharge_array s
+station_after (PutReadings readings) s = with_readings readings s
+station_after (PutCorrection set at curve prorate) s = with_entry (Correction set) (entry_of at curve prorate) s
+station_after (DropCorrection set at) s = without_entry (Correction set) at s
+station_after (PutShift at curve prorate) s = with_entry Shift (entry_of at curve prorate) s
+station_after (DropShift at) s = without_entry Shift at s
+station_after (AddRating rating table) s = with_ratings (with_rating (record { number = rating; rows = table })) s
+station_after (PutPeriod period) s = with_ratings (with_period period) s
+station_after (DropPeriod from) s = with_ratings (without_period from) s
+station_after (PutMeasurement measurement) s = with_measurements (lists.put number_of measurement) s
+station_after (DropMeasurement number) s = with_measurements (lists.without number_of (pos number)) s
+
+-- when a station's day begins
+abbrev pub day_start : StationRecord → ℤ → ℤ
+day_start station day = day_start_of station.zone day
+
+-- the window of a day of a station
+abbrev pub station_window : StationRecord → ℤ → List Reading
+station_window s day = window (day_start s day) (day_start s (day +ℤ pos 1)) (pos (60 * s.gap)) s.readings
+
+-- the inputs of a day of a station
+abbrev pub station_day : StationRecord → ℤ → DayInputs
+station_day s day = day_inputs s.gap s.stage_array s.discharge_array (day_start s day) (day_start s (day +ℤ pos 1)) s.corrections s.shifts s.ratings s.readings

@@ -1,0 +1,85 @@
+-- What an edit touches of a station's days.
+use Rattle.rising.specs.Ends.{first, last}
+use Rattle.std.specs.Prelude.{◌≡◌, Bool, true, false, if◌then◌else◌, List, Option, Some, None, ℤ, ◌≤ℤ◌}
+use Rattle.std.specs.Int.{int_max}
+use Rattle.fixed_units.specs.Quantities.{IsDay, last_stamp}
+use Rattle.fixed_units.specs.declared.readings.Reading.{Reading}
+use Rattle.curves.specs.declared.entries.Entry.{Entry}
+use Rattle.curves.specs.Entries.{entry_after, entry_before}
+use Rattle.day_inputs.specs.declared.day_inputs.DayInputs.{DayInputs}
+use Rattle.day_inputs.specs.declared.day_inputs.DayInputs.TheVariants.{Empty, Day}
+use Rattle.edits.specs.declared.content.What.{What}
+use Rattle.edits.specs.declared.content.What.TheVariants.{AddStation, SetStation, PutReadings, PutCorrection, DropCorrection, PutShift, DropShift, AddRating, PutPeriod, DropPeriod, PutMeasurement, DropMeasurement}
+use Rattle.ratings.specs.Numbered.{period_from}
+use Rattle.ratings.specs.Spans.{Span}
+use Rattle.station_inputs.specs.Stations.{StationRecord, series_of}
+use Rattle.station_inputs.specs.declared.series.StationSeries.TheVariants.{Correction, Shift}
+use Rattle.station_inputs.specs.declared.touched.Touched.{Touched}
+use Rattle.station_inputs.specs.declared.touched.Touched.TheVariants.{Nothing, Between, Cells}
+
+-- the day has inputs
+abbrev pub has_inputs : DayInputs → Bool
+has_inputs Empty = false
+has_inputs (Day parts) = true
+
+-- the first and the last day of those that are filled, or none where no day is
+abbrev pub IsSpanOf : (ℤ → Bool) → Option (ℤ × ℤ) → Type 0
+IsSpanOf filled None = (day : ℤ) → IsDay day → filled day ≡ false
+IsSpanOf filled (Some span) =
+    (filled span.0 ≡ true) × (filled span.1 ≡ true) × ((day : ℤ) → IsDay day → filled day ≡ true → (span.0 ≤ℤ day) × (day ≤ℤ span.1))
+
+-- the time between the first and the last of some readings
+abbrev pub between_readings : Option Reading → Option Reading → Touched
+between_readings None last = Nothing
+between_readings (Some first) None = Nothing
+between_readings (Some first) (Some last) = Between first.at last.at false
+
+-- the instants between which the entry at an instant has a say: from the one before it on where that one prorates, else from its
+-- own on, up to the next one, or to the last stamp
+abbrev pub says_from : ℤ → Option Entry → ℤ
+says_from at None = at
+says_from at (Some before) = if before.prorate then before.at else at
+
+abbrev pub says_until : Option Entry → ℤ
+says_until None = last_stamp
+says_until (Some next) = next.at
+
+-- the time in which the entry at an instant of a series has a say: only days that have inputs can change
+abbrev pub about_entry : ℤ → List Entry → Touched
+about_entry at entries =
+    Between (says_from at (entry_before at entries)) (says_until (entry_after at entries)) true
+
+-- the end of a period, or the last stamp where it has none, and the later of its end and that of the period in whose place it is put
+abbrev pub end_or_last : Option ℤ → ℤ
+end_or_last None = last_stamp
+end_or_last (Some until) = until
+
+abbrev pub period_end : Span → ℤ
+period_end p = end_or_last p.until
+
+abbrev pub later_end : Span → Option Span → ℤ
+later_end p None = period_end p
+later_end p (Some kept) = int_max (period_end p) (period_end kept)
+
+-- the time from a period's start until an end: only days that have inputs can change
+abbrev pub about_period : ℤ → ℤ → Touched
+about_period from until = Between from until true
+
+abbrev pub about_dropped_period : Option Span → Touched
+about_dropped_period None = Nothing
+about_dropped_period (Some kept) = about_period kept.from (period_end kept)
+
+-- what an edit touches of the station as it was before
+abbrev pub touched_at : StationRecord → What → Touched
+touched_at s (AddStation name zone gap stage_array discharge_array) = Nothing
+touched_at s (SetStation name gap stage_array discharge_array) = Cells
+touched_at s (PutReadings readings) = between_readings (first readings) (last readings)
+touched_at s (PutCorrection set at curve prorate) = about_entry at (series_of (Correction set) s)
+touched_at s (DropCorrection set at) = about_entry at (series_of (Correction set) s)
+touched_at s (PutShift at curve prorate) = about_entry at (series_of Shift s)
+touched_at s (DropShift at) = about_entry at (series_of Shift s)
+touched_at s (AddRating rating table) = Nothing
+touched_at s (PutPeriod period) = about_period period.from (later_end period (period_from period.from s.ratings.periods))
+touched_at s (DropPeriod from) = about_dropped_period (period_from from s.ratings.periods)
+touched_at s (PutMeasurement measurement) = Nothing
+touched_at s (DropMeasurement number) = Nothing

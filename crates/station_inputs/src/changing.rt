@@ -1,0 +1,102 @@
+//! An edit of a station made: first room for it, then the edit itself, which takes no memory.
+
+ghost use Rattle.std.specs.Prelude.{◌≡◌, ◌+◌, None, length, IfOk};
+ghost use Rattle.edits.specs.Lawful.{IsLawful};
+ghost use Rattle.station_inputs.specs.KeptStation.{IsStation};
+ghost use Rattle.station_inputs.specs.Obstacles.{obstacle};
+ghost use Rattle.station_inputs.specs.Room.{HasStationRoom};
+ghost use Rattle.station_inputs.specs.Stations.{station_after};
+
+use crate::series::StationSeries;
+use crate::staged::Staged;
+use crate::stations::Station;
+use curves::Entry;
+use edits::What;
+use fixed_units::NoMemory;
+use std::alloc::Global;
+
+impl Station {
+    /// Makes room for an edit of the station, and gives what is staged for it. The record is as before, also after `NoMemory`.
+    pub fn prepare(&mut self, alloc: Global, what: &What) -> Result<Staged, NoMemory>
+        requires { IsLawful what.now }
+        ensures station { self.new.station ≡ self.old.station }
+        ensures room { IfOk result (λ staged. HasStationRoom self.new staged what.now) }
+        ensures kept { IsStation self.new.station }
+    {
+        let _site = self.site();
+        match what {
+            What::SetStation { name, .. } => return Ok(Staged::Named(name.copy(alloc)?)),
+            What::AddRating { table, .. } => {
+                self.reserve_rating()?;
+                return Ok(Staged::Rated(table.share()?));
+            }
+            What::PutReadings { readings } => self.reserve(readings.as_slice().len())?,
+            What::PutCorrection { set, .. } => {
+                self.reserve_entry(StationSeries::Correction(*set))?
+            }
+            What::PutShift { .. } => self.reserve_entry(StationSeries::Shift)?,
+            What::PutPeriod { .. } => self.reserve_period()?,
+            What::PutMeasurement { .. } => self.reserve_measurement()?,
+            What::AddStation { .. }
+            | What::DropCorrection { .. }
+            | What::DropShift { .. }
+            | What::DropPeriod { .. }
+            | What::DropMeasurement { .. } => {}
+        }
+        Ok(Staged::Nothing)
+    }
+
+    /// Makes an edit of the station, for which room is made and in whose way nothing stands, and tells how many readings more there are
+    /// then. It takes no memory.
+    pub fn apply(&mut self, what: &What, staged: Staged) -> usize
+        requires lawful { IsLawful what.now }
+        requires free { obstacle self.old.station what.now ≡ None }
+        requires room { HasStationRoom self.old staged what.now }
+        ensures station { self.new.station ≡ station_after what.now self.old.station }
+        ensures count { length self.new.station.readings ≡ length self.old.station.readings + result }
+        ensures kept { IsStation self.new.station }
+    {
+        let _site = self.site();
+        match what {
+            What::PutReadings { readings } => return self.put(readings.as_slice()),
+            What::SetStation {
+                gap,
+                stage_array,
+                discharge_array,
+                ..
+            } => {
+                if let Staged::Named(name) = staged {
+                    self.describe(name, *gap, *stage_array, *discharge_array);
+                }
+            }
+            What::PutCorrection {
+                set,
+                at,
+                curve,
+                prorate,
+            } => {
+                let entry = Entry::new(*at, *curve, *prorate);
+                self.put_entry(StationSeries::Correction(*set), entry)
+            }
+            What::DropCorrection { set, at } => {
+                self.drop_entry(StationSeries::Correction(*set), *at)
+            }
+            What::PutShift { at, curve, prorate } => {
+                let entry = Entry::new(*at, *curve, *prorate);
+                self.put_entry(StationSeries::Shift, entry)
+            }
+            What::DropShift { at } => self.drop_entry(StationSeries::Shift, *at),
+            What::AddRating { rating, .. } => {
+                if let Staged::Rated(table) = staged {
+                    self.add_rating(*rating, table);
+                }
+            }
+            What::PutPeriod { period } => self.put_period(*period),
+            What::DropPeriod { from } => self.drop_period(*from),
+            What::PutMeasurement { measurement } => self.put_measurement(*measurement),
+            What::DropMeasurement { number } => self.drop_measurement(*number),
+            What::AddStation { .. } => {}
+        }
+        0
+    }
+}

@@ -1,0 +1,21 @@
+//! The inputs in force of one station, what stands in the way of an edit of it, and which of its days an edit changes.
+#![tactic(auto)]
+
+mod changing;
+mod comparing;
+pub mod counts;
+mod days;
+pub mod laws;
+mod measured;
+pub mod refusals;
+pub mod series;
+pub mod staged;
+pub mod stations;
+pub mod touched;
+
+pub use counts::{MOST_ENTRIES, MOST_MEASUREMENTS, MOST_PERIODS, MOST_RATINGS};
+pub use refusals::{Full, Refusal, Which};
+pub use series::StationSeries;
+pub use staged::Staged;
+pub use stations::Station;
+pub use touched::Touched;

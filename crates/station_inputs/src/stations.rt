@@ -1,0 +1,249 @@
+//! A station that is kept: what is said of it, its corrections and shifts, its ratings, its measurements, and its readings.
+
+ghost use Rattle.std.specs.Prelude.{◌≡◌, ◌≤◌, ◌<◌, ◌+◌, length, All, is_some, IfOk, OnOk};
+ghost use Rattle.std.specs.Arc.{arc_value};
+ghost use Rattle.civil_days.specs.Starts.{IsZone};
+ghost use Rattle.readings.specs.Readings.{put_all, at_instant, IsRising};
+ghost use Rattle.day_inputs.specs.DayInputs.{most_gap};
+ghost use Rattle.edits.specs.Lawful.{IsPutReading};
+ghost use Rattle.station_inputs.specs.Stations.{new_station, described, with_readings};
+ghost use Rattle.station_inputs.specs.KeptStation.{IsStation};
+
+use civil_days::StationZone;
+use curves::{CorrectionSets, Shifts};
+use edits::{Measurement, Name};
+use fixed_units::{NoMemory, Reading, RoundingArray, Second, Site};
+use ratings::Ratings;
+use readings::Readings;
+use rising::{Keyed, RisingList};
+use std::alloc::Global;
+use std::marker::Model;
+use std::sync::Arc;
+
+/// A station in force. Contracts see its record, and for how many more readings, entries of each series, ratings, periods and
+/// measurements there is room beside it.
+#[derive(Debug, Drop)]
+pub struct Station {
+    site: Site,
+    name: Name,
+    pub(crate) zone: Arc<StationZone>,
+    pub(crate) gap: u32,
+    pub(crate) stage_array: RoundingArray,
+    pub(crate) discharge_array: RoundingArray,
+    pub(crate) corrections: CorrectionSets,
+    pub(crate) shifts: Shifts,
+    pub(crate) ratings: Ratings,
+    pub(crate) measurements: RisingList<Measurement>,
+    pub(crate) readings: Readings,
+}
+
+impl Model for Station {
+    ghost use Rattle.std.specs.Arc.{arc_value};
+    ghost use Rattle.curves.specs.Corrections.{entries_of};
+    ghost use Rattle.station_inputs.specs.KeptStation.{KeptStation, IsStation};
+    ghost use Rattle.station_inputs.specs.Series.{room_of};
+
+    ghost Value = { KeptStation };
+
+    ghost view = { λ s. record {
+      station = record { site = s.site; name = s.name; zone = arc_value s.zone; gap = s.gap; stage_array = s.stage_array; discharge_array = s.discharge_array; corrections = entries_of s.corrections; shifts = s.shifts.series.entries; ratings = s.ratings.ratings; measurements = s.measurements.list; readings = s.readings.list };
+      spare = s.readings.spare;
+      entry_room = room_of s.corrections s.shifts;
+      rating_room = s.ratings.rating_room;
+      period_room = s.ratings.period_room;
+      measurement_room = s.measurements.spare;
+    } };
+
+    ghost invariant = { λ s. IsStation (record { site = s.site; name = s.name; zone = arc_value s.zone; gap = s.gap; stage_array = s.stage_array; discharge_array = s.discharge_array; corrections = entries_of s.corrections; shifts = s.shifts.series.entries; ratings = s.ratings.ratings; measurements = s.measurements.list; readings = s.readings.list }) };
+}
+
+impl Keyed for Station {
+    ghost use Rattle.fixed_units.specs.Quantities.{site_place};
+
+    type Key = Site;
+
+    ghost place = { λ s. site_place s.station.site };
+
+    ghost number = { λ s. site_place s };
+
+    fn key(&self) -> Site {
+        self.site
+    }
+
+    fn is_before(&self, key: Site) -> bool {
+        self.site.is_before(key)
+    }
+
+    fn is_at(&self, key: Site) -> bool {
+        self.site.is_at(key)
+    }
+}
+
+impl Station {
+    /// The site.
+    pub fn site(&self) -> Site
+        ensures site { result ≡ self.now.station.site }
+        ensures kept { IsStation self.now.station }
+    {
+        self.site
+    }
+
+    /// What the station is called: 1 to 60 characters from space to `~`.
+    pub fn name(&self) -> &[u8]
+        ensures { result.now ≡ self.now.station.name }
+    {
+        self.name.as_slice()
+    }
+
+    /// The text of its zone, as it was given.
+    pub fn zone_text(&self) -> &[u8]
+        ensures { result.now ≡ self.now.station.zone }
+    {
+        self.zone.text()
+    }
+
+    /// Its zone once more, for a station of the same zone text.
+    pub fn share_zone(&self) -> Result<Arc<StationZone>, NoMemory>
+        ensures { IfOk result (λ zone. arc_value zone ≡ self.now.station.zone) }
+    {
+        Ok(Arc::try_clone(&self.zone)?)
+    }
+
+    /// Its zone.
+    pub fn zone(&self) -> &StationZone
+        ensures { result.now ≡ self.now.station.zone }
+    {
+        &self.zone
+    }
+
+    /// The gap tolerance in minutes, 1 to 720.
+    pub fn gap(&self) -> u32
+        ensures { result ≡ self.now.station.gap }
+    {
+        self.gap
+    }
+
+    /// The rounding array for stages.
+    pub fn stage_array(&self) -> &RoundingArray
+        ensures { result.now ≡ self.now.station.stage_array }
+    {
+        &self.stage_array
+    }
+
+    /// The rounding array for discharges.
+    pub fn discharge_array(&self) -> &RoundingArray
+        ensures { result.now ≡ self.now.station.discharge_array }
+    {
+        &self.discharge_array
+    }
+}
+
+impl Station {
+    /// A station without corrections, shifts, ratings, measurements and readings, which takes no memory of its own.
+    pub fn new(
+        alloc: Global,
+        site: Site,
+        name: Name,
+        zone: Arc<StationZone>,
+        gap: u32,
+        stage_array: RoundingArray,
+        discharge_array: RoundingArray,
+    ) -> Station
+        requires gap_low { 1 ≤ gap }
+        requires gap_high { gap ≤ most_gap }
+        requires zone { IsZone (arc_value zone) }
+        ensures { result.station ≡ new_station site name (arc_value zone) gap stage_array discharge_array }
+    {
+        let _range = site.digits();
+        Station {
+            site,
+            name,
+            zone,
+            gap,
+            stage_array,
+            discharge_array,
+            corrections: CorrectionSets::new(alloc),
+            shifts: Shifts::new(alloc),
+            ratings: Ratings::new(alloc),
+            measurements: RisingList::new(alloc),
+            readings: Readings::new(alloc),
+        }
+    }
+
+    /// How many readings the station has, erroneous ones among them.
+    pub fn count(&self) -> usize
+        ensures { result ≡ length self.now.station.readings }
+    {
+        self.readings.as_slice().len()
+    }
+
+    /// Whether a reading stands at an instant.
+    pub fn has_reading(&self, at: Second) -> bool
+        ensures { result ≡ is_some (at_instant at self.now.station.readings) }
+    {
+        self.readings.place(at).here.is_some()
+    }
+
+    /// Makes room for so many readings more. The record is as before, also after `NoMemory`.
+    pub(crate) fn reserve(&mut self, count: usize) -> Result<(), NoMemory>
+        ensures station { self.new.station ≡ self.old.station }
+        ensures room { OnOk result (count ≤ self.new.spare) }
+        ensures kept { IsStation self.new.station }
+    {
+        self.readings.reserve(count)
+    }
+
+    /// Puts readings, each in place of the one at its instant, and tells how many more there are then. There is room for them,
+    /// so no memory is taken.
+    pub(crate) fn put(&mut self, readings: &[Reading]) -> usize
+        requires room { length readings.now ≤ self.old.spare }
+        requires lawful { All IsPutReading readings.now }
+        ensures station { self.new.station ≡ with_readings readings.now self.old.station }
+        ensures count { length self.new.station.readings ≡ length self.old.station.readings + result }
+        ensures kept { IsStation self.new.station }
+    {
+        put_each(&mut self.readings, readings)
+    }
+
+    /// Describes the station anew: all else of it stays.
+    pub(crate) fn describe(
+        &mut self,
+        name: Name,
+        gap: u32,
+        stage_array: RoundingArray,
+        discharge_array: RoundingArray,
+    )
+        requires gap_low { 1 ≤ gap }
+        requires gap_high { gap ≤ most_gap }
+        ensures station { self.new.station ≡ described name gap stage_array discharge_array self.old.station }
+        ensures spare { self.new.spare ≡ self.old.spare }
+        ensures kept { IsStation self.new.station }
+    {
+        self.name = name;
+        self.gap = gap;
+        self.stage_array = stage_array;
+        self.discharge_array = discharge_array;
+    }
+}
+
+/// Puts readings, for which there is room, and tells how many more there are then.
+fn put_each(kept: &mut Readings, readings: &[Reading]) -> usize
+    requires room { length readings.now ≤ kept.old.spare }
+    requires rising { IsRising kept.old.list }
+    ensures list { kept.new.list ≡ put_all readings.now kept.old.list }
+    ensures count { length kept.new.list ≡ length kept.old.list + result }
+{
+    let before = kept.as_slice().len();
+    put_one_by_one(kept, readings);
+    kept.as_slice().len() - before
+}
+
+/// Puts readings, for which there is room.
+fn put_one_by_one(kept: &mut Readings, readings: &[Reading])
+    requires { length readings.now ≤ kept.old.spare }
+    ensures { kept.new.list ≡ put_all readings.now kept.old.list }
+{
+    for reading in readings {
+        kept.put(*reading);
+    }
+}

@@ -8,7 +8,8 @@ use Rattle.fixed_units.specs.Quantities.{SiteNumber}
 use Rattle.history.specs.Accepted.{accepted, edit_of, edits_of, stations_at, changes}
 use Rattle.history.specs.Awaited.{awaited_back, awaited, is_day_of}
 use Rattle.history.specs.Events.{Event, Accepted, Published, Faulted}
-use Rattle.office_inputs.specs.Stations.{StationRecord, stations_of, stations_after}
+use Rattle.office_inputs.specs.Stations.{stations_of, stations_after}
+use Rattle.station_inputs.specs.Stations.{StationRecord}
 use Rattle.records.specs.declared.payloads.Record.{Record}
 
 pub accepted-append : (xs ys : List Event) → accepted (xs ++ ys) ≡ accepted xs ++ accepted ys

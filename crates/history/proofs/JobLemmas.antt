@@ -9,7 +9,8 @@ use Rattle.history.specs.Awaited.{awaited_back, awaited, is_day_of, inputs_at}
 use Rattle.history.specs.Events.{Event, Accepted, Published, Faulted}
 use Rattle.history.proofs.EventLemmas.{accepted-append, stations_accepted, accepted_published, accepted_faulted}
 use Rattle.history.proofs.StationLemmas.{unchanged_day}
-use Rattle.office_inputs.specs.Stations.{StationRecord, stations_of, inputs_of_day}
+use Rattle.office_inputs.specs.Stations.{stations_of, inputs_of_day}
+use Rattle.station_inputs.specs.Stations.{StationRecord}
 use Rattle.records.specs.declared.payloads.Record.{Record}
 
 module _ (site : SiteNumber) (day : ℤ) where

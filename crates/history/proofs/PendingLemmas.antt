@@ -11,7 +11,6 @@ use Rattle.std.proofs.lemmas.List.Elements.{All-cons, All-nil, All-weaker, filte
 use Rattle.day_cells.specs.Spans.{with_days, days_of}
 use Rattle.edits.specs.declared.content.Edit.{Edit}
 use Rattle.edits.specs.declared.content.What.{What}
-use Rattle.edits.specs.declared.content.What.TheVariants.{AddStation, SetStation, PutReadings, PutCorrection, DropCorrection, PutShift, DropShift}
 use Rattle.fixed_units.specs.Calendar.{calendar, days_from, days_of_calendar}
 use Rattle.fixed_units.specs.Quantities.{SiteNumber, IsDay, site_place, same_site, first_day}
 use Rattle.fixed_units.proofs.CalendarLemmas.{IsAmong, among_first, among_rest, is_day}
@@ -24,9 +23,8 @@ use Rattle.history.proofs.MergeLemmas.{given, merged_sums}
 use Rattle.history.proofs.SpanLemmas.{span_more, none_ever_changed, stations_more}
 use Rattle.history.proofs.StationLemmas.{places_equal, places_apart, found_passes, found_place, same_station, kept_other, station_stays, changed_has_station}
 use Rattle.office_inputs.specs.Changes.{keeps_day, changed_days}
-use Rattle.curves.specs.Entries.{entry_of}
-use Rattle.office_inputs.specs.Stations.{StationRecord, place_of, station_of, stations_of, stations_after, after_what, with_changed, new_station, described, with_readings, with_entry, without_entry}
-use Rattle.office_inputs.specs.declared.series.StationSeries.TheVariants.{Correction, Shift}
+use Rattle.office_inputs.specs.Stations.{added, place_of, station_of, stations_of, stations_after, with_added, with_changed}
+use Rattle.station_inputs.specs.Stations.{StationRecord, station_after}
 use Rattle.records.specs.declared.payloads.Record.{Record}
 use Rattle.rising.specs.Lists.{IsRising, at, put}
 use Rattle.rising.proofs.Placing.{put_rises}
@@ -50,21 +48,13 @@ changed_rise : (change : StationRecord → StationRecord) (found : Option Statio
 changed_rise change None stations h = h
 changed_rise change (Some s) stations h = put_rises place_of (change s) stations h
 
-what_rises : (site : SiteNumber) (what : What) (stations : List StationRecord) → IsRising place_of stations → IsRising place_of (after_what site what stations)
-what_rises site (AddStation name zone gap stages discharges) stations h = put_rises place_of (new_station site name zone gap stages discharges) stations h
-what_rises site (SetStation name gap stages discharges) stations h = changed_rise (described name gap stages discharges) (station_of stations site) stations h
-what_rises site (PutReadings readings) stations h = changed_rise (with_readings readings) (station_of stations site) stations h
-what_rises site (PutCorrection set at curve prorate) stations h =
-    changed_rise (with_entry (Correction set) (entry_of at curve prorate)) (station_of stations site) stations h
-what_rises site (DropCorrection set at) stations h =
-    changed_rise (without_entry (Correction set) at) (station_of stations site) stations h
-what_rises site (PutShift at curve prorate) stations h =
-    changed_rise (with_entry Shift (entry_of at curve prorate)) (station_of stations site) stations h
-what_rises site (DropShift at) stations h =
-    changed_rise (without_entry Shift at) (station_of stations site) stations h
+added_rises : (site : SiteNumber) (what : What) (o : Option StationRecord) (stations : List StationRecord) → IsRising place_of stations
+    → IsRising place_of (with_added site what o stations)
+added_rises site what None stations h = changed_rise (station_after what) (station_of stations site) stations h
+added_rises site what (Some s) stations h = put_rises place_of s stations h
 
 pub stations_rise_after : (stations : List StationRecord) (edit : Edit) → IsRising place_of stations → IsRising place_of (stations_after stations edit)
-stations_rise_after stations edit h = what_rises edit.site edit.what stations h
+stations_rise_after stations edit h = added_rises edit.site edit.what (added edit.site edit.what) stations h
 
 -- what is awaited hangs on where the site stands
 same_site_by : (own a b : SiteNumber) → site_place a ≡ site_place b → same_site own a ≡ same_site own b

@@ -9,10 +9,11 @@ use Rattle.std.proofs.lemmas.Option.{same_Some}
 use Rattle.curves.proofs.EqualityLemmas.{entries_decide}
 use Rattle.curves.specs.Equality.{same_entry}
 use Rattle.curves.specs.declared.entries.Entry.{Entry}
-use Rattle.edits.specs.Same.{is_same, is_same_what}
+use Rattle.edits.specs.Grades.{grade_number}
+use Rattle.edits.specs.Same.{is_same, is_same_what, same_end}
 use Rattle.edits.specs.declared.content.Edit.{Edit}
 use Rattle.edits.specs.declared.content.What.{What}
-use Rattle.edits.specs.declared.content.What.TheVariants.{AddStation, SetStation, PutReadings, PutCorrection, DropCorrection, PutShift, DropShift}
+use Rattle.edits.specs.declared.content.What.TheVariants.{AddStation, SetStation, PutReadings, PutCorrection, DropCorrection, PutShift, DropShift, AddRating, PutPeriod, DropPeriod, PutMeasurement, DropMeasurement}
 use Rattle.history.specs.Accepted.{Numbered, accepted, edit_of, edits_of, named}
 use Rattle.history.specs.Events.{Event, Accepted, Published, Faulted, History}
 use Rattle.history.specs.Legal.{IsLegal}
@@ -20,9 +21,12 @@ use Rattle.history.specs.Verdicts.{Repeats, Refuses, refusal_of, verdict_of_refu
 use Rattle.history.proofs.EventLemmas.{accepted-append}
 use Rattle.history.proofs.NamedLemmas.{named_kept, named_new}
 use Rattle.history.proofs.PendingLemmas.{own_site}
+use Rattle.rating_tables.proofs.RowLemmas.{rows_decide}
+use Rattle.rating_tables.specs.RowEquality.{same_rows}
+use Rattle.rating_tables.specs.Table.{Row}
 use Rattle.readings.proofs.EqualityLemmas.{told_same}
-use Rattle.office_inputs.specs.declared.refusals.Refusal.{Refusal}
-use Rattle.office_inputs.specs.declared.refusals.Refusal.TheVariants.{RefReused}
+use Rattle.station_inputs.specs.declared.refusals.Refusal.{Refusal}
+use Rattle.station_inputs.specs.declared.refusals.Refusal.TheVariants.{RefReused}
 use Rattle.records.specs.declared.payloads.Record.{Record}
 
 same_bytes : (bytes : List ℕ) → bytes_eq bytes bytes ≡ true
@@ -37,6 +41,13 @@ same_instant at = (Decides-int_eq at at).1 refl
 own_entry : (entry : Entry) → same_entry entry entry ≡ true
 own_entry entry = (entries_decide entry entry).1 refl
 
+own_rows : (rows : List Row) → same_rows rows rows ≡ true
+own_rows rows = (rows_decide rows rows).1 refl
+
+same_end_with : (until : Option ℤ) → same_end until until ≡ true
+same_end_with None = refl
+same_end_with (Some until) = same_instant until
+
 same_what : (what : What) → is_same_what what what ≡ true
 same_what (AddStation name zone gap stages discharges) =
     rw (same_bytes name, same_bytes zone, same_number gap, same_bytes stages, same_bytes discharges) refl
@@ -47,6 +58,12 @@ same_what (PutCorrection set at curve prorate) =
 same_what (DropCorrection set at) = rw (same_number set, same_instant at) refl
 same_what (PutShift at curve prorate) = own_entry (record { at = at; curve = curve; prorate = prorate })
 same_what (DropShift at) = same_instant at
+same_what (AddRating rating table) = rw (same_number rating) (own_rows table)
+same_what (PutPeriod period) = rw (same_instant period.from, same_end_with period.until, same_number period.rating) refl
+same_what (DropPeriod from) = same_instant from
+same_what (PutMeasurement m) =
+    rw (same_number m.number, same_instant m.at, same_instant m.gage, same_instant m.discharge, same_number (grade_number m.grade)) refl
+same_what (DropMeasurement number) = same_number number
 
 -- an edit is the same as itself
 same_as_itself : (edit : Edit) → is_same edit edit ≡ true

@@ -15,7 +15,8 @@ use Rattle.fixed_units.specs.Quantities.{SiteNumber, site_place, same_site}
 use Rattle.history.specs.Accepted.{changes, was_changed_back, was_changed, days_ever_changed, cells_of}
 use Rattle.history.proofs.StationLemmas.{places_equal, station_stays, changed_has_station}
 use Rattle.office_inputs.specs.Changes.{keeps_day, changed_days}
-use Rattle.office_inputs.specs.Stations.{StationRecord, station_of, stations_of, stations_after}
+use Rattle.office_inputs.specs.Stations.{station_of, stations_of, stations_after}
+use Rattle.station_inputs.specs.Stations.{StationRecord}
 
 min_turned : (a b c : ℤ) → int_min (int_min a b) c ≡ int_min (int_min a c) b
 min_turned a b c = grind (arith, ints)

@@ -9,15 +9,15 @@ use Rattle.day_inputs.specs.declared.day_inputs.DayInputs.{DayInputs}
 use Rattle.day_inputs.proofs.EqualityLemmas.{Decides-same_inputs}
 use Rattle.edits.specs.declared.content.Edit.{Edit}
 use Rattle.edits.specs.declared.content.What.{What}
-use Rattle.edits.specs.declared.content.What.TheVariants.{AddStation, SetStation, PutReadings, PutCorrection, DropCorrection, PutShift, DropShift}
+use Rattle.edits.specs.declared.content.What.TheVariants.{AddStation, SetStation, PutReadings, PutCorrection, DropCorrection, PutShift, DropShift, AddRating, PutPeriod, DropPeriod, PutMeasurement, DropMeasurement}
 use Rattle.fixed_units.specs.Quantities.{SiteNumber, site_place, same_site}
 use Rattle.history.specs.Accepted.{changes}
 use Rattle.office_inputs.specs.Changes.{keeps_day}
-use Rattle.curves.specs.Entries.{entry_of}
-use Rattle.office_inputs.specs.Stations.{StationRecord, place_of, station_of, with_changed, changed_at, new_station, described, with_readings, with_entry, without_entry, after_what, stations_after, day_of_station, inputs_of_day}
-use Rattle.office_inputs.specs.declared.series.StationSeries.TheVariants.{Correction, Shift}
+use Rattle.office_inputs.proofs.LawLemmas.{station_left}
+use Rattle.office_inputs.specs.Stations.{added, place_of, station_of, with_added, with_changed, changed_at, after_what, stations_after, day_of_station, inputs_of_day}
+use Rattle.station_inputs.specs.Stations.{StationRecord, new_station, station_after}
 use Rattle.rising.specs.Lists.{at, put}
-use Rattle.rising.proofs.Placing.{at_put, at_put_other}
+use Rattle.rising.proofs.Placing.{at_put}
 
 pub places_equal : (a b : SiteNumber) → same_site a b ≡ true → site_place a ≡ site_place b
 places_equal a b h = (Decides-int_eq (site_place a) (site_place b)).0 h
@@ -46,16 +46,39 @@ same_station stations a b e = ap (λ n. at place_of n stations) e
 pub same_day : (stations : List StationRecord) (a b : SiteNumber) (day : ℤ) → site_place a ≡ site_place b → inputs_of_day stations a day ≡ inputs_of_day stations b day
 same_day stations a b day e = ap (λ o. day_of_station o day) (same_station stations a b e)
 
-module _ (own site : SiteNumber) (stations : List StationRecord) where
-  -- a change of a station leaves the others
-  other_changed : (change : StationRecord → StationRecord) (found : Option StationRecord) → station_of stations own ≡ found
-      → ((s : StationRecord) → place_of (change s) ≡ place_of s) → (site_place own ≡ site_place site → ⊥)
-      → station_of (with_changed change found stations) site ≡ station_of stations site
-  other_changed change None e keeps apart = refl
-  other_changed change (Some s) e keeps apart =
-      at_put_other place_of (change s) (site_place site) stations (λ k. apart (sym (found_place stations own s e) ∙ sym (keeps s) ∙ k))
+-- a station keeps its place through an edit, and one that is added has that of its site
+pub changed_place : (what : What) (s : StationRecord) → place_of (station_after what s) ≡ place_of s
+changed_place (AddStation name zone gap stages discharges) s = refl
+changed_place (SetStation name gap stages discharges) s = refl
+changed_place (PutReadings readings) s = refl
+changed_place (PutCorrection set since curve prorate) s = refl
+changed_place (DropCorrection set since) s = refl
+changed_place (PutShift since curve prorate) s = refl
+changed_place (DropShift since) s = refl
+changed_place (AddRating rating table) s = refl
+changed_place (PutPeriod period) s = refl
+changed_place (DropPeriod from) s = refl
+changed_place (PutMeasurement measurement) s = refl
+changed_place (DropMeasurement number) s = refl
 
-  -- and keeps a station
+pub added_place : (site : SiteNumber) (what : What) (s : StationRecord) → added site what ≡ Some s → place_of s ≡ site_place site
+added_place site (AddStation name zone gap stages discharges) s e =
+    let same : new_station site name zone gap stages discharges ≡ s = cc in
+    ap place_of (sym same)
+added_place site (SetStation name gap stages discharges) s e = absurd (cc)
+added_place site (PutReadings readings) s e = absurd (cc)
+added_place site (PutCorrection set since curve prorate) s e = absurd (cc)
+added_place site (DropCorrection set since) s e = absurd (cc)
+added_place site (PutShift since curve prorate) s e = absurd (cc)
+added_place site (DropShift since) s e = absurd (cc)
+added_place site (AddRating rating table) s e = absurd (cc)
+added_place site (PutPeriod period) s e = absurd (cc)
+added_place site (DropPeriod from) s e = absurd (cc)
+added_place site (PutMeasurement measurement) s e = absurd (cc)
+added_place site (DropMeasurement number) s e = absurd (cc)
+
+module _ (own : SiteNumber) (stations : List StationRecord) where
+  -- a change of a station keeps it
   own_changed : (change : StationRecord → StationRecord) (found : Option StationRecord) → station_of stations own ≡ found
       → ((s : StationRecord) → place_of (change s) ≡ place_of s) → is_some found ≡ true
       → is_some (station_of (with_changed change found stations) own) ≡ true
@@ -63,38 +86,18 @@ module _ (own site : SiteNumber) (stations : List StationRecord) where
   own_changed change (Some s) e keeps h =
       ap is_some (ap (λ n. at place_of n (put place_of (change s) stations)) (sym (keeps s ∙ found_place stations own s e)) ∙ at_put place_of (change s) stations)
 
-  other_after : (what : What) → (site_place own ≡ site_place site → ⊥) → station_of (after_what own what stations) site ≡ station_of stations site
-  other_after (AddStation name zone gap stages discharges) apart =
-      at_put_other place_of (new_station own name zone gap stages discharges) (site_place site) stations apart
-  other_after (SetStation name gap stages discharges) apart =
-      other_changed (described name gap stages discharges) (station_of stations own) refl (λ s. refl) apart
-  other_after (PutReadings readings) apart = other_changed (with_readings readings) (station_of stations own) refl (λ s. refl) apart
-  other_after (PutCorrection set at curve prorate) apart =
-      other_changed (with_entry (Correction set) (entry_of at curve prorate)) (station_of stations own) refl (λ s. refl) apart
-  other_after (DropCorrection set at) apart =
-      other_changed (without_entry (Correction set) at) (station_of stations own) refl (λ s. refl) apart
-  other_after (PutShift at curve prorate) apart =
-      other_changed (with_entry Shift (entry_of at curve prorate)) (station_of stations own) refl (λ s. refl) apart
-  other_after (DropShift at) apart =
-      other_changed (without_entry Shift at) (station_of stations own) refl (λ s. refl) apart
+  own_added : (what : What) (o : Option StationRecord) → ((s : StationRecord) → o ≡ Some s → place_of s ≡ site_place own) → is_some (station_of stations own) ≡ true
+      → is_some (station_of (with_added own what o stations) own) ≡ true
+  own_added what None n h = own_changed (station_after what) (station_of stations own) refl (λ s. changed_place what s) h
+  own_added what (Some s) n h = ap is_some (ap (λ m. at place_of m (put place_of s stations)) (sym (n s refl)) ∙ at_put place_of s stations)
 
   own_after : (what : What) → is_some (station_of stations own) ≡ true → is_some (station_of (after_what own what stations) own) ≡ true
-  own_after (AddStation name zone gap stages discharges) h = ap is_some (at_put place_of (new_station own name zone gap stages discharges) stations)
-  own_after (SetStation name gap stages discharges) h = own_changed (described name gap stages discharges) (station_of stations own) refl (λ s. refl) h
-  own_after (PutReadings readings) h = own_changed (with_readings readings) (station_of stations own) refl (λ s. refl) h
-  own_after (PutCorrection set at curve prorate) h =
-      own_changed (with_entry (Correction set) (entry_of at curve prorate)) (station_of stations own) refl (λ s. refl) h
-  own_after (DropCorrection set at) h =
-      own_changed (without_entry (Correction set) at) (station_of stations own) refl (λ s. refl) h
-  own_after (PutShift at curve prorate) h =
-      own_changed (with_entry Shift (entry_of at curve prorate)) (station_of stations own) refl (λ s. refl) h
-  own_after (DropShift at) h =
-      own_changed (without_entry Shift at) (station_of stations own) refl (λ s. refl) h
+  own_after what h = own_added what (added own what) (added_place own what) h
 
 module _ (stations : List StationRecord) (edit : Edit) (site : SiteNumber) where
   -- an edit of another site leaves the station
   pub kept_other : same_site edit.site site ≡ false → station_of (stations_after stations edit) site ≡ station_of stations site
-  kept_other h = other_after edit.site site stations edit.what (places_apart edit.site site h)
+  kept_other h = station_left stations edit site h
 
   -- no edit takes a station away
   pub station_stays : is_some (station_of stations site) ≡ true → is_some (station_of (stations_after stations edit) site) ≡ true
@@ -103,7 +106,7 @@ module _ (stations : List StationRecord) (edit : Edit) (site : SiteNumber) where
         | inl y ↦
             let e = places_equal edit.site site y in
             ap is_some (sym (same_station (stations_after stations edit) edit.site site e))
-            ∙ own_after edit.site site stations edit.what (ap is_some (same_station stations edit.site site e) ∙ h)
+            ∙ own_after edit.site stations edit.what (ap is_some (same_station stations edit.site site e) ∙ h)
         | inr n ↦ ap is_some (kept_other n) ∙ h
       ]
 
@@ -134,7 +137,7 @@ module _ (stations : List StationRecord) (edit : Edit) (site : SiteNumber) where
         | inr n ↦
             let none : is_some (station_of (stations_after stations edit) edit.site) ≡ false = ap is_some (same_station (stations_after stations edit) edit.site site e) ∙ n in
             elim (cases_Bool (is_some (station_of stations edit.site))) [
-              | inl y ↦ absurd (false≢true (sym none ∙ own_after edit.site site stations edit.what y))
+              | inl y ↦ absurd (false≢true (sym none ∙ own_after edit.site stations edit.what y))
               | inr m ↦
                   absurd (false≢true (sym (not-true (keeps_day stations edit day) parts.1)
                   ∙ none_same (station_of stations edit.site) (station_of (stations_after stations edit) edit.site) day m none))

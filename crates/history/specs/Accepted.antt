@@ -6,7 +6,8 @@ use Rattle.fixed_units.specs.Calendar.{calendar}
 use Rattle.fixed_units.specs.Quantities.{SiteNumber, same_site}
 use Rattle.history.specs.Events.{Event, Accepted, Published, Faulted, History}
 use Rattle.office_inputs.specs.Changes.{keeps_day}
-use Rattle.office_inputs.specs.Stations.{StationRecord, stations_of}
+use Rattle.office_inputs.specs.Stations.{stations_of}
+use Rattle.station_inputs.specs.Stations.{StationRecord}
 use Rattle.records.specs.Payloads.{payload}
 use Rattle.records.specs.declared.payloads.Record.{Record}
 

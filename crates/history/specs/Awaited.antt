@@ -9,7 +9,8 @@ use Rattle.fixed_units.specs.Calendar.{calendar}
 use Rattle.fixed_units.specs.Quantities.{SiteNumber, same_site}
 use Rattle.history.specs.Accepted.{accepted, edits_of, stations_at, changes}
 use Rattle.history.specs.Events.{Event, Accepted, Published, Faulted}
-use Rattle.office_inputs.specs.Stations.{StationRecord, station_of, inputs_of_day}
+use Rattle.office_inputs.specs.Stations.{station_of, inputs_of_day}
+use Rattle.station_inputs.specs.Stations.{StationRecord}
 
 -- it is this day of this site
 abbrev pub is_day_of : SiteNumber → ℤ → SiteNumber → ℤ → Bool

@@ -16,8 +16,8 @@ use Rattle.office.specs.Edits.{IsRefusedBy, IsTaken}
 use Rattle.office.specs.Steps.{Step, AnEdit, AClaim, ALook, APublication, ATurn, ASettlement, AnAnswer, AStop, IsReopened, IsStep, MayBeFound, Publishes, added_by, cut_off}
 use Rattle.office.proofs.DoubtLemmas.{accepted_publications}
 use Rattle.office_inputs.specs.declared.limits.Limits.{Limits}
-use Rattle.office_inputs.specs.declared.refusals.Refusal.{Refusal}
-use Rattle.office_inputs.specs.declared.refusals.Refusal.TheVariants.{RefReused, NoStation, StationExists, Limit, NoEntry, HistoryFull, JournalFull, NoMemory, JournalFault}
+use Rattle.station_inputs.specs.declared.refusals.Refusal.{Refusal}
+use Rattle.station_inputs.specs.declared.refusals.Refusal.TheVariants.{RefReused, NoStation, StationExists, Limit, NoRating, RatingExists, PeriodOverlap, NoEntry, HistoryFull, JournalFull, NoMemory, JournalFault}
 use Rattle.recompute.specs.Jobs.{DayJob}
 use Rattle.recompute.specs.declared.jobs.Publish.{Publish}
 use Rattle.recompute.specs.declared.jobs.Publish.TheVariants.{Settled, Superseded, Foreign, Published}
@@ -47,6 +47,9 @@ of_refused h edit new (RefReused number) is = Still refl is.1
 of_refused h edit new NoStation is = Still refl is.1
 of_refused h edit new StationExists is = Still refl is.1
 of_refused h edit new (Limit which) is = Still refl is.1
+of_refused h edit new NoRating is = Still refl is.1
+of_refused h edit new RatingExists is = Still refl is.1
+of_refused h edit new (PeriodOverlap from) is = Still refl is.1
 of_refused h edit new NoEntry is = Still refl is.1
 of_refused h edit new (HistoryFull full) is = Still refl is.1
 of_refused h edit new JournalFull is = Still refl is.1

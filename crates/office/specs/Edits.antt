@@ -10,8 +10,8 @@ use Rattle.history.specs.declared.recorded.NotKept.TheVariants as not_kept
 use Rattle.journal.specs.Keeping.{AppendCalls}
 use Rattle.journal.specs.declared.keeping.AppendFault.TheVariants as append
 use Rattle.office.specs.declared.offices.Accepted.{Accepted}
-use Rattle.office_inputs.specs.declared.refusals.Refusal.{Refusal}
-use Rattle.office_inputs.specs.declared.refusals.Refusal.TheVariants.{RefReused, NoStation, StationExists, Limit, NoEntry, HistoryFull, JournalFull, NoMemory, JournalFault}
+use Rattle.station_inputs.specs.declared.refusals.Refusal.{Refusal}
+use Rattle.station_inputs.specs.declared.refusals.Refusal.TheVariants.{RefReused, NoStation, StationExists, Limit, NoRating, RatingExists, PeriodOverlap, NoEntry, HistoryFull, JournalFull, NoMemory, JournalFault}
 use Rattle.records.specs.declared.payloads.Record.{Record}
 use Rattle.register.specs.Registered.{Registered, KeepsClaims, MarksClaims}
 
@@ -42,6 +42,9 @@ IsRefusedBy old edit new (RefReused number) = IsRefused old edit new (RefReused 
 IsRefusedBy old edit new NoStation = IsRefused old edit new NoStation
 IsRefusedBy old edit new StationExists = IsRefused old edit new StationExists
 IsRefusedBy old edit new (Limit which) = IsRefused old edit new (Limit which)
+IsRefusedBy old edit new NoRating = IsRefused old edit new NoRating
+IsRefusedBy old edit new RatingExists = IsRefused old edit new RatingExists
+IsRefusedBy old edit new (PeriodOverlap from) = IsRefused old edit new (PeriodOverlap from)
 IsRefusedBy old edit new NoEntry = IsRefused old edit new NoEntry
 IsRefusedBy old edit new (HistoryFull full) = IsRefused old edit new (HistoryFull full)
 IsRefusedBy old edit new JournalFull = IsRefused old edit new JournalFull
@@ -59,6 +62,9 @@ is_fault (RefReused number) = false
 is_fault NoStation = false
 is_fault StationExists = false
 is_fault (Limit which) = false
+is_fault NoRating = false
+is_fault RatingExists = false
+is_fault (PeriodOverlap from) = false
 is_fault NoEntry = false
 is_fault (HistoryFull full) = false
 is_fault JournalFull = false
@@ -109,6 +115,9 @@ RefusalCalls old edit new (RefReused number) calls = calls ≡ []
 RefusalCalls old edit new NoStation calls = calls ≡ []
 RefusalCalls old edit new StationExists calls = calls ≡ []
 RefusalCalls old edit new (Limit which) calls = calls ≡ []
+RefusalCalls old edit new NoRating calls = calls ≡ []
+RefusalCalls old edit new RatingExists calls = calls ≡ []
+RefusalCalls old edit new (PeriodOverlap from) calls = calls ≡ []
 RefusalCalls old edit new NoEntry calls = calls ≡ []
 RefusalCalls old edit new (HistoryFull full) calls = calls ≡ []
 RefusalCalls old edit new JournalFull calls = calls ≡ []

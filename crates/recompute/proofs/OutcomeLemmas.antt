@@ -7,7 +7,8 @@ use Rattle.std.proofs.lemmas.Option.{same_Some}
 use Rattle.day_inputs.specs.declared.day_inputs.DayInputs.{DayInputs}
 use Rattle.day_inputs.specs.Equality.{same_inputs}
 use Rattle.day_inputs.proofs.EqualityLemmas.{Decides-same_inputs}
-use Rattle.office_inputs.specs.Stations.{StationRecord, inputs_of_day}
+use Rattle.office_inputs.specs.Stations.{inputs_of_day}
+use Rattle.station_inputs.specs.Stations.{StationRecord}
 use Rattle.day_cells.specs.KeptDays.{KeptDays}
 use Rattle.recompute.specs.Cells.{awaited_in}
 use Rattle.recompute.specs.Jobs.{DayJob, outcome_by, outcome_of}

@@ -11,57 +11,18 @@ use Rattle.day_cells.specs.Days.{contains_day}
 use Rattle.day_cells.specs.KeptDays.{KeptDays}
 use Rattle.day_inputs.proofs.EqualityLemmas.{Decides-same_inputs}
 use Rattle.edits.specs.declared.content.Edit.{Edit}
-use Rattle.edits.specs.declared.content.What.{What}
-use Rattle.edits.specs.declared.content.What.TheVariants.{AddStation, SetStation, PutReadings, PutCorrection, DropCorrection, PutShift, DropShift}
 use Rattle.fixed_units.specs.Calendar.{calendar}
 use Rattle.fixed_units.specs.Quantities.{SiteNumber, IsDay, site_place, same_site}
 use Rattle.fixed_units.proofs.CalendarLemmas.{calendar_any}
 use Rattle.office_inputs.specs.Changes.{keeps_day, changed_days}
-use Rattle.curves.specs.Entries.{entry_of}
-use Rattle.office_inputs.specs.Stations.{StationRecord, place_of, station_of, with_changed, new_station, described, with_readings, with_entry, without_entry, after_what, stations_after, day_of_station, inputs_of_day}
-use Rattle.office_inputs.specs.declared.series.StationSeries.TheVariants.{Correction, Shift}
+use Rattle.office_inputs.proofs.LawLemmas.{station_left}
+use Rattle.office_inputs.specs.Stations.{place_of, station_of, stations_after, day_of_station, inputs_of_day}
+use Rattle.station_inputs.specs.Stations.{StationRecord}
 use Rattle.rising.specs.Lists.{at}
-use Rattle.rising.proofs.Placing.{at_put_other}
 use Rattle.recompute.specs.Cells.{SaysTheSame, Marks, TakesOut, Publishes, awaited_in, is_day_of}
 use Rattle.recompute.specs.Jobs.{DayJob, IsTrueJob}
 use Rattle.recompute.proofs.FoundLemmas.{any_both}
 use Rattle.recompute.proofs.StationLemmas.{site_yes, site_no}
-
--- the station that is found stands at its site's number
-found_step : (p : StationRecord → Bool) (x y : StationRecord) (xs : List StationRecord) (b : Bool) → p x ≡ b → cond b (Some x) (find p xs) ≡ Some y
-    → (find p xs ≡ Some y → p y ≡ true) → p y ≡ true
-found_step p x y xs true e h rec = let same : x ≡ y = cc in subst (λ z. p z ≡ true) same e
-found_step p x y xs false e h rec = rec h
-
-found_passes : (p : StationRecord → Bool) (xs : List StationRecord) (y : StationRecord) → find p xs ≡ Some y → p y ≡ true
-found_passes p [] y h = absurd (cc)
-found_passes p (x ∷ xs) y h = found_step p x y xs (p x) refl h (found_passes p xs y)
-
-found_place : (stations : List StationRecord) (site : SiteNumber) (s : StationRecord) → station_of stations site ≡ Some s → place_of s ≡ site_place site
-found_place stations site s h =
-    (Decides-int_eq (place_of s) (site_place site)).0 (found_passes (λ (t : StationRecord). int_eq (place_of t) (site_place site)) stations s h)
-
--- an edit leaves the stations of other sites
-module _ (own site : SiteNumber) (stations : List StationRecord) (apart : site_place own ≡ site_place site → ⊥) where
-  other_changed : (change : StationRecord → StationRecord) (found : Option StationRecord) → station_of stations own ≡ found
-      → ((s : StationRecord) → place_of (change s) ≡ place_of s) → station_of (with_changed change found stations) site ≡ station_of stations site
-  other_changed change None e keeps = refl
-  other_changed change (Some s) e keeps =
-      at_put_other place_of (change s) (site_place site) stations (λ k. apart (sym (found_place stations own s e) ∙ sym (keeps s) ∙ k))
-
-  other_after : (what : What) → station_of (after_what own what stations) site ≡ station_of stations site
-  other_after (AddStation name zone gap stages discharges) =
-      at_put_other place_of (new_station own name zone gap stages discharges) (site_place site) stations apart
-  other_after (SetStation name gap stages discharges) = other_changed (described name gap stages discharges) (station_of stations own) refl (λ s. refl)
-  other_after (PutReadings readings) = other_changed (with_readings readings) (station_of stations own) refl (λ s. refl)
-  other_after (PutCorrection set at curve prorate) =
-      other_changed (with_entry (Correction set) (entry_of at curve prorate)) (station_of stations own) refl (λ s. refl)
-  other_after (DropCorrection set at) =
-      other_changed (without_entry (Correction set) at) (station_of stations own) refl (λ s. refl)
-  other_after (PutShift at curve prorate) =
-      other_changed (with_entry Shift (entry_of at curve prorate)) (station_of stations own) refl (λ s. refl)
-  other_after (DropShift at) =
-      other_changed (without_entry Shift at) (station_of stations own) refl (λ s. refl)
 
 -- the same day of two sites that are one
 same_day : (stations : List StationRecord) (a b : SiteNumber) (day : ℤ) → site_place a ≡ site_place b → inputs_of_day stations a day ≡ inputs_of_day stations b day
@@ -94,7 +55,7 @@ module _ (stations : List StationRecord) (edit : Edit) (site : SiteNumber) (day 
       let kept = not-false (keeps_day stations edit day) (not_listed (λ d. not (keeps_day stations edit d)) day _ inside h refl) in
       let same = (Decides-same_inputs (inputs_of_day stations edit.site day) (inputs_of_day (stations_after stations edit) edit.site day)).0 kept in
       sym (same_day (stations_after stations edit) edit.site site day p) ∙ sym same ∙ same_day stations edit.site site day p
-  unmarked false e h = ap (λ o. day_of_station o day) (other_after edit.site site stations (site_no edit.site site e) edit.what)
+  unmarked false e h = ap (λ o. day_of_station o day) (station_left stations edit site e)
 
 module _ (old new : List KeptDays) (stations : List StationRecord) (job : DayJob) where
   marked_step : (edit : Edit) (number : ℕ) (b : Bool) → IsDay job.day → job.awaits ≢ number

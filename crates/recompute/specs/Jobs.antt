@@ -4,7 +4,8 @@ use Rattle.fixed_units.specs.Quantities.{SiteNumber}
 use Rattle.day_inputs.specs.declared.day_inputs.DayInputs.{DayInputs}
 use Rattle.day_inputs.specs.Equality.{same_inputs}
 use Rattle.daily_values.specs.declared.day_values.DayValue.{DayValue}
-use Rattle.office_inputs.specs.Stations.{StationRecord, inputs_of_day}
+use Rattle.office_inputs.specs.Stations.{inputs_of_day}
+use Rattle.station_inputs.specs.Stations.{StationRecord}
 use Rattle.day_cells.specs.declared.waiting.Waiting.{Waiting}
 use Rattle.day_cells.specs.KeptDays.{KeptDays}
 use Rattle.recompute.specs.Cells.{awaited_in}

@@ -159,7 +159,7 @@ fn accept(
 ) -> Result<Told, Wrong> {
     let edit = edit(alloc, record)?;
     match inputs.refusal(&edit) {
-        Some(refusal) => Err(Wrong::Refused(refusal)),
+        Some(_) => Err(Wrong::Refused),
         None => apply(alloc, cells, inputs, number, &edit),
     }
 }

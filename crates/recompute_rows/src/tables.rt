@@ -1,7 +1,6 @@
 //! What a row does, and what is told of it.
 
 use fixed_units::{NoMemory, Published};
-use office_inputs::Refusal;
 use recompute::Publish;
 
 /// How many digits the number of a site has, and their value.
@@ -71,7 +70,7 @@ pub enum Wrong {
     /// No record has such bytes, or there is no memory for it.
     Record,
     /// The edit is refused.
-    Refused(Refusal),
+    Refused,
     /// No job is at hand.
     Job,
     NoMemory,

@@ -14,7 +14,8 @@ use Rattle.history.specs.Verdicts.{Accepts, record_of, verdict}
 use Rattle.history.proofs.EventLemmas.{accepted_all, accepted_accepted, accepted_published, accepted_faulted, awaited_accepted}
 use Rattle.history.proofs.PendingLemmas.{pending_more}
 use Rattle.office_inputs.specs.Changes.{changed_days}
-use Rattle.office_inputs.specs.Stations.{StationRecord, stations_of}
+use Rattle.office_inputs.specs.Stations.{stations_of}
+use Rattle.station_inputs.specs.Stations.{StationRecord}
 use Rattle.records.specs.declared.payloads.Record.{Record}
 use Rattle.register.specs.Keeping.{KeepsToTheLimit}
 use Rattle.register.proofs.CourseLemmas.{ArePublished}

@@ -16,7 +16,8 @@ use Rattle.history.proofs.LegalLemmas.{left_may_be_kept}
 use Rattle.history.proofs.PendingLemmas.{pending_at, pending_sum, pending_more}
 use Rattle.history.proofs.VerdictLemmas.{accepted_parts}
 use Rattle.office_inputs.specs.Kept.{InForce, AreStations}
-use Rattle.office_inputs.specs.Stations.{StationRecord, place_of, stations_of}
+use Rattle.office_inputs.specs.Stations.{place_of, stations_of}
+use Rattle.station_inputs.specs.Stations.{StationRecord}
 use Rattle.records.specs.declared.payloads.Record.{Record}
 use Rattle.office_inputs.specs.declared.limits.Limits.{Limits}
 use Rattle.register.specs.Keeping.{Keeps, KeepsToTheLimit}

@@ -16,7 +16,8 @@ use Rattle.history.specs.Awaited.{SiteDay, awaited, is_pending, pending_of, pend
 use Rattle.history.specs.Events.{Event}
 use Rattle.history.proofs.PendingLemmas.{calendar_days}
 use Rattle.office_inputs.specs.Kept.{AreStations, in_force}
-use Rattle.office_inputs.specs.Stations.{StationRecord, place_of, inputs_of_day}
+use Rattle.office_inputs.specs.Stations.{place_of, inputs_of_day}
+use Rattle.station_inputs.specs.Stations.{StationRecord}
 use Rattle.recompute.specs.Cells.{waiting, is_behind}
 use Rattle.recompute.specs.Jobs.{DayJob, job_of}
 use Rattle.records.specs.declared.payloads.Record.{Record}

@@ -17,7 +17,8 @@ use Rattle.history.proofs.NamedLemmas.{named_kept, named_new}
 use Rattle.office_inputs.specs.Changes.{changed_days}
 use Rattle.office_inputs.specs.Kept.{InForce, in_force}
 use Rattle.office_inputs.specs.Refusals as refusals
-use Rattle.office_inputs.specs.Stations.{StationRecord, stations_of, stations_after}
+use Rattle.office_inputs.specs.Stations.{stations_of, stations_after}
+use Rattle.station_inputs.specs.Stations.{StationRecord}
 use Rattle.office_inputs.specs.declared.limits.Limits.{Limits}
 use Rattle.recompute.specs.Cells.{SaysTheSame, Marks, TakesOut, Publishes}
 use Rattle.records.specs.Payloads.{payload}

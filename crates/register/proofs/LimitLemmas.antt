@@ -22,7 +22,8 @@ use Rattle.history.proofs.EventLemmas.{accepted_published}
 use Rattle.history.proofs.PendingLemmas.{calendar_days, own_site, pending_at, pending_by, pending_has_station, pending_sum, stations_rise_after}
 use Rattle.history.proofs.StationLemmas.{found_place, places_equal}
 use Rattle.history.proofs.VerdictLemmas.{accepted_parts}
-use Rattle.office_inputs.specs.Stations.{StationRecord, place_of, station_of, stations_of, stations_after}
+use Rattle.office_inputs.specs.Stations.{place_of, station_of, stations_of, stations_after}
+use Rattle.station_inputs.specs.Stations.{StationRecord}
 use Rattle.records.specs.declared.payloads.Record.{Record}
 use Rattle.register.specs.Keeping.{KeepsToTheLimit}
 use Rattle.register.proofs.FaultLemmas.{fault_keeps_to}

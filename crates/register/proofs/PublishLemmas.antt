@@ -11,7 +11,8 @@ use Rattle.history.specs.Awaited.{is_pending, pending_days, value_at}
 use Rattle.history.specs.Events.{Event, Published}
 use Rattle.history.proofs.EventLemmas.{accepted_published}
 use Rattle.office_inputs.specs.Kept.{InForce, AreStations, in_force}
-use Rattle.office_inputs.specs.Stations.{StationRecord, place_of, stations_of, inputs_of_day}
+use Rattle.office_inputs.specs.Stations.{place_of, stations_of, inputs_of_day}
+use Rattle.station_inputs.specs.Stations.{StationRecord}
 use Rattle.recompute.specs.Cells.{Publishes, waiting}
 use Rattle.recompute.specs.Jobs.{DayJob, outcome_by, outcome_of}
 use Rattle.recompute.specs.declared.jobs.Publish.TheVariants as publish

@@ -4,8 +4,9 @@ use Rattle.std.proofs.Common.{subst}
 use Rattle.std.proofs.lemmas.List.Elements.{All-map, All-weaker}
 use Rattle.fixed_units.specs.Quantities.{IsSite}
 use Rattle.office_inputs.specs.Kept.{AreStations, records_of}
-use Rattle.office_inputs.specs.KeptStation.{KeptStation, IsStation}
-use Rattle.office_inputs.specs.Stations.{StationRecord, place_of}
+use Rattle.station_inputs.specs.KeptStation.{KeptStation, IsStation}
+use Rattle.office_inputs.specs.Stations.{place_of}
+use Rattle.station_inputs.specs.Stations.{StationRecord}
 use Rattle.office_inputs.proofs.ApplyLemmas.{records_rise}
 use Rattle.rising.specs.Lists.{IsRising}
 

@@ -15,7 +15,8 @@ use Rattle.history.specs.After.{publication, after_publication, after_publicatio
 use Rattle.history.specs.Awaited.{SiteDay, awaited, is_day_of, is_pending, pending_of, pending_days}
 use Rattle.history.specs.Events.{Event, Published, History}
 use Rattle.history.proofs.EventLemmas.{accepted_published, awaited_published}
-use Rattle.office_inputs.specs.Stations.{StationRecord, stations_of}
+use Rattle.office_inputs.specs.Stations.{stations_of}
+use Rattle.station_inputs.specs.Stations.{StationRecord}
 use Rattle.records.specs.declared.payloads.Record.{Record}
 use Rattle.register.specs.Registered.{Registered, IsSettledTo, is_out}
 

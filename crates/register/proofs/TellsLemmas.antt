@@ -21,7 +21,8 @@ use Rattle.history.proofs.EventLemmas.{stations_accepted, awaited_accepted, edit
 use Rattle.history.proofs.SpanLemmas.{span_more, none_ever_changed}
 use Rattle.history.proofs.StationLemmas.{unchanged_day, same_day, places_equal}
 use Rattle.office_inputs.specs.Changes.{keeps_day, changed_days}
-use Rattle.office_inputs.specs.Stations.{StationRecord, stations_of, inputs_of_day}
+use Rattle.office_inputs.specs.Stations.{stations_of, inputs_of_day}
+use Rattle.station_inputs.specs.Stations.{StationRecord}
 use Rattle.recompute.specs.Cells.{SaysTheSame, Marks, TakesOut, Publishes, awaited_in, value_in}
 use Rattle.records.specs.declared.payloads.Record.{Record}
 use Rattle.register.specs.Keeping.{Tells}

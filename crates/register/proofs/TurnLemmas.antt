@@ -16,7 +16,7 @@ use Rattle.history.specs.After.{after_publication, after_publications, after_tur
 use Rattle.history.specs.Awaited.{SiteDay, awaited, is_day_of, is_pending, pending_of, pending_days, inputs_at}
 use Rattle.history.specs.Events.{Event, History}
 use Rattle.history.proofs.StationLemmas.{found_passes, places_equal}
-use Rattle.office_inputs.specs.Stations.{StationRecord}
+use Rattle.station_inputs.specs.Stations.{StationRecord}
 use Rattle.recompute.specs.Cells.{is_out_in}
 use Rattle.recompute.specs.Jobs.{DayJob}
 use Rattle.recompute.specs.declared.jobs.Publish.{Publish}

@@ -21,7 +21,8 @@ use Rattle.history.proofs.MergeLemmas.{given, merged_lists, merged_sums}
 use Rattle.history.proofs.PendingLemmas.{calendar_days, pending_has_station}
 use Rattle.history.proofs.SpanLemmas.{none_ever_changed}
 use Rattle.history.proofs.StationLemmas.{found_passes}
-use Rattle.office_inputs.specs.Stations.{StationRecord, place_of, station_of}
+use Rattle.office_inputs.specs.Stations.{place_of, station_of}
+use Rattle.station_inputs.specs.Stations.{StationRecord}
 use Rattle.recompute.specs.Cells.{awaited_in, is_out_in, span_in, waiting, cell_count}
 use Rattle.recompute.specs.Cells as kept_cells
 use Rattle.register.specs.Keeping.{Tells}

@@ -3,10 +3,9 @@
 
 use crate::disks::play_row;
 use crate::sent::{ADDITION, ANOTHER, FIRST, OTHER, READING, SETTING};
-use crate::tables::{Act, NEW, Row, Told, Wrong};
-use office_inputs::Refusal;
+use crate::tables::{Act, Cause, NEW, Row, Told, Wrong};
 
-const NO_STATION: Told = Told::Refused(Refusal::NoStation);
+const NO_STATION: Told = Told::Refused(Cause::NoStation);
 
 /// What the reference says comes before what the station does. A refused edit is not kept under its reference.
 static JUDGED: Row = Row {
@@ -15,13 +14,13 @@ static JUDGED: Row = Row {
         (Act::Send(SETTING), NO_STATION),
         (Act::Send(ADDITION), Told::Kept(1)),
         (Act::Send(ADDITION), Told::Repeated(1)),
-        (Act::Send(SETTING), Told::Refused(Refusal::RefReused(1))),
-        (Act::Send(READING), Told::Refused(Refusal::RefReused(1))),
-        (Act::Send(ANOTHER), Told::Refused(Refusal::StationExists)),
+        (Act::Send(SETTING), Told::Refused(Cause::RefReused(1))),
+        (Act::Send(READING), Told::Refused(Cause::RefReused(1))),
+        (Act::Send(ANOTHER), Told::Refused(Cause::StationExists)),
         (Act::Counts, Told::Counts(1, 1, 0)),
         (Act::Send(FIRST), Told::Kept(2)),
         (Act::Send(FIRST), Told::Repeated(2)),
-        (Act::Send(OTHER), Told::Refused(Refusal::RefReused(2))),
+        (Act::Send(OTHER), Told::Refused(Cause::RefReused(2))),
         (Act::Counts, Told::Counts(2, 2, 1)),
     ]],
     calls: 12,
@@ -40,7 +39,7 @@ static KNOWN: Row = Row {
     sessions: &[&[
         (Act::Send(FIRST), Told::Repeated(2)),
         (Act::Send(ADDITION), Told::Repeated(1)),
-        (Act::Send(SETTING), Told::Refused(Refusal::RefReused(1))),
+        (Act::Send(SETTING), Told::Refused(Cause::RefReused(1))),
     ]],
     calls: 4,
     left: &[ADDITION, FIRST],

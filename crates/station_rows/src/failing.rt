@@ -3,13 +3,13 @@
 
 use crate::disks::{play_row, play_rows};
 use crate::sent::{ADDITION, ANOTHER, FIRST};
-use crate::tables::{Act, NEW, Row, Session, Told, Wrong};
-use office_inputs::{Full, Refusal};
+use crate::tables::{Act, Cause, NEW, Row, Session, Told, Wrong};
+use office_inputs::Full;
 
 /// A fault that leaves no doubt, and one that does.
-const FAULT: Told = Told::Refused(Refusal::JournalFault(false));
+const FAULT: Told = Told::Refused(Cause::JournalFault(false));
 
-const DOUBT: Told = Told::Refused(Refusal::JournalFault(true));
+const DOUBT: Told = Told::Refused(Cause::JournalFault(true));
 
 /// A fault is an event, and the next edit has the number that the failed one would have had.
 const KEPT: &[Session] = &[&[
@@ -120,7 +120,7 @@ static FULL: Row = Row {
         (Act::Counts, Told::Counts(2, 1, 0)),
         (
             Act::Send(FIRST),
-            Told::Refused(Refusal::HistoryFull(Full::Events)),
+            Told::Refused(Cause::HistoryFull(Full::Events)),
         ),
     ]],
     calls: 9,

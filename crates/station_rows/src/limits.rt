@@ -3,20 +3,20 @@
 
 use crate::disks::play_rows;
 use crate::sent::{ADDITION, ANOTHER, FIRST, LATE, READING};
-use crate::tables::{Act, NEW, Row, Session, Told, Wrong};
-use office_inputs::{Full, Refusal};
+use crate::tables::{Act, Cause, NEW, Row, Session, Told, Wrong};
+use office_inputs::Full;
 
-const NO_EVENT: Told = Told::Refused(Refusal::HistoryFull(Full::Events));
+const NO_EVENT: Told = Told::Refused(Cause::HistoryFull(Full::Events));
 
-const NO_CELL: Told = Told::Refused(Refusal::HistoryFull(Full::Cells));
+const NO_CELL: Told = Told::Refused(Cause::HistoryFull(Full::Cells));
 
-const NO_BYTE: Told = Told::Refused(Refusal::JournalFull);
+const NO_BYTE: Told = Told::Refused(Cause::JournalFull);
 
 /// An addition: kept, without an event for it, and without the bytes for it.
 const ADDED: &[Session] = &[&[(Act::Send(ADDITION), Told::Kept(1))]];
 
 const ADDED_NO_EVENT: &[Session] = &[&[
-    (Act::Send(READING), Told::Refused(Refusal::NoStation)),
+    (Act::Send(READING), Told::Refused(Cause::NoStation)),
     (Act::Send(ADDITION), NO_EVENT),
 ]];
 
@@ -84,7 +84,7 @@ const PUT_NO_BYTE: &[Session] = &[&[
 
 const ADDED_AGAIN: &[Session] = &[&[
     (Act::Send(ADDITION), Told::Kept(1)),
-    (Act::Send(ANOTHER), Told::Refused(Refusal::StationExists)),
+    (Act::Send(ANOTHER), Told::Refused(Cause::StationExists)),
 ]];
 
 /// The addition alone is kept.

@@ -3,7 +3,7 @@
 ghost use Rattle.std.specs.Prelude.{◌≡◌, ◌<◌};
 
 use crate::sent::edit;
-use crate::tables::{Act, Session, Told, Wrong};
+use crate::tables::{Act, Cause, Session, Told, Wrong};
 use devices::MemoryDisk;
 use edits::Edit;
 use fixed_units::{Day, NoMemory, Site};
@@ -152,7 +152,7 @@ fn tell_counted<L: Ledger>(office: &mut DiskOffice, edit: Edit, blank: Blank) ->
     match office.edit(edit, &mut steps) {
         Ok(accepted) if accepted.repeated => Told::Repeated(accepted.number),
         Ok(accepted) => Told::Kept(accepted.number),
-        Err(refusal) => Told::Refused(refusal),
+        Err(refusal) => Told::Refused(Cause::of(refusal)),
     }
 }
 

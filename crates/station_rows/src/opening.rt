@@ -2,9 +2,8 @@
 
 use crate::disks::{play_row, play_rows, stays_shut};
 use crate::sent::{ADDITION, ANOTHER, FIFTH, FIRST, NEXT, SETTING};
-use crate::tables::{Act, NEW, Row, Told, Wrong};
+use crate::tables::{Act, Cause, NEW, Row, Told, Wrong};
 use journal::OpenFault;
-use office_inputs::Refusal;
 
 /// What was published awaits its last edit again, and the edits are known again.
 static AGAIN: Row = Row {
@@ -34,7 +33,7 @@ fn edits_and_pending_days_are_known_again(rt: HostRuntime) -> Result<(), Wrong> 
     play_row(rt.alloc(), &AGAIN)
 }
 
-const DOUBT: Told = Told::Refused(Refusal::JournalFault(true));
+const DOUBT: Told = Told::Refused(Cause::JournalFault(true));
 
 /// Where the gate was not written the edit in doubt is none of the office's, and where it was it is one.
 static IN_DOUBT: [Row; 2] = [

@@ -1,31 +1,39 @@
 //! What is said to the records that an office is opened with.
 
 use crate::sent::{ADDITION, ANOTHER, FIRST, READING, edit};
-use crate::tables::Wrong;
+use crate::tables::{Cause, Wrong};
 use edits::Edit;
-use office_inputs::{Limits, Refusal};
+use office_inputs::Limits;
 use records::Record;
 use register::{NotReadmitted, Register};
 use std::alloc::Global;
 
 /// What is said to a record.
-pub type Said = Result<(), NotReadmitted>;
+pub type Said = Result<(), Cause>;
 
 /// What is said to the records of two edits, and with how many edits the office is opened then.
 pub type Readmitted = (Said, Said, u64);
 
 fn readmitted(alloc: Global, first: Edit, second: Edit) -> Readmitted {
     let mut register = Register::new(alloc, Limits::usual());
-    let said = register.readmit(Record { edit: first });
-    let next = register.readmit(Record { edit: second });
+    let said = said_of(register.readmit(Record { edit: first }));
+    let next = said_of(register.readmit(Record { edit: second }));
     (said, next, register.opened())
 }
 
-const NO_STATION: Said = Err(NotReadmitted::Refused(Refusal::NoStation));
+fn said_of(readmitted: Result<(), NotReadmitted>) -> Said {
+    match readmitted {
+        Ok(()) => Ok(()),
+        Err(NotReadmitted::Refused(refusal)) => Err(Cause::of(refusal)),
+        Err(NotReadmitted::NoMemory) => Err(Cause::Other),
+    }
+}
 
-const REUSED: Said = Err(NotReadmitted::Refused(Refusal::RefReused(1)));
+const NO_STATION: Said = Err(Cause::NoStation);
 
-const EXISTS: Said = Err(NotReadmitted::Refused(Refusal::StationExists));
+const REUSED: Said = Err(Cause::RefReused(1));
+
+const EXISTS: Said = Err(Cause::StationExists);
 
 static ROWS: [([&[u8]; 2], Readmitted); 5] = [
     ([ADDITION, FIRST], (Ok(()), Ok(()), 2)),

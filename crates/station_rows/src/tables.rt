@@ -2,7 +2,7 @@
 
 use crate::readmitting::Readmitted;
 use journal::OpenFault;
-use office_inputs::Refusal;
+use office_inputs::{Full, Refusal};
 use recompute::Publish;
 
 /// What is done to an office. A day is one of the station 01646500, told by its number.
@@ -28,6 +28,35 @@ pub enum Act {
     Counts,
 }
 
+/// Why an edit is refused, as a plain value.
+#[derive(Clone, Copy, Debug, PartialEq, Eq)]
+pub enum Cause {
+    /// The reference is that of this accepted edit, which differs.
+    RefReused(u64),
+    NoStation,
+    StationExists,
+    HistoryFull(Full),
+    JournalFull,
+    JournalFault(bool),
+    /// Any of which no row speaks.
+    Other,
+}
+
+impl Cause {
+    /// The cause of a refusal.
+    pub fn of(refusal: Refusal) -> Cause {
+        match refusal {
+            Refusal::RefReused(edit) => Cause::RefReused(edit),
+            Refusal::NoStation => Cause::NoStation,
+            Refusal::StationExists => Cause::StationExists,
+            Refusal::HistoryFull(full) => Cause::HistoryFull(full),
+            Refusal::JournalFull => Cause::JournalFull,
+            Refusal::JournalFault(in_doubt) => Cause::JournalFault(in_doubt),
+            _ => Cause::Other,
+        }
+    }
+}
+
 /// What is told of it.
 #[derive(Clone, Copy, Debug, PartialEq, Eq)]
 pub enum Told {
@@ -35,7 +64,7 @@ pub enum Told {
     Kept(u64),
     /// It is the edit of this number, which comes again.
     Repeated(u64),
-    Refused(Refusal),
+    Refused(Cause),
     /// This day awaits this edit.
     Day(i32, u64),
     /// There is no such day.

@@ -2,7 +2,7 @@
 use Rattle.std.specs.Prelude.{◌+◌, ◌≤◌, List, length}
 use Rattle.std.proofs.Common.{ap, subst, ◌∙◌}
 use Rattle.history.specs.Accepted.{stations_at}
-use Rattle.office_inputs.specs.Stations.{StationRecord}
+use Rattle.station_inputs.specs.Stations.{StationRecord}
 use Rattle.office_inputs.specs.Touched.{interval}
 use Rattle.register.specs.Registered.{Registered}
 use Rattle.register.proofs.registers.Register.judge.Goals as goal

@@ -3,9 +3,11 @@
 use civil_days::read_instant;
 use curves::Curve;
 use edit_bodies::{BodyFault, Member, read_edit};
-use edits::{By, Edit, Name, Ref, What};
+use edits::{By, Edit, Grade, Measurement, Name, Ref, What};
 use fixed_units::{Flag, Micro, Reading, RoundingArray, Site, Text};
 use json::Scratch;
+use rating_tables::{SharedTable, Table};
+use ratings::Period;
 use readings::ReadingList;
 use std::alloc::Global;
 
@@ -29,6 +31,16 @@ pub enum Sent {
     Shift(&'static str, &'static [(i64, i64)], bool),
     /// Takes out the entry of the shifts at an instant.
     DroppedShift(&'static str),
+    /// Adds the rating of a number: its rows in millionths of a foot and of a cubic foot per second.
+    Rating(u32, &'static [(i64, i64)]),
+    /// Puts a period of the rating of a number, from an instant until another one or without end.
+    Period(u32, &'static str, Option<&'static str>),
+    /// Takes out the period that begins at an instant.
+    DroppedPeriod(&'static str),
+    /// Puts the measurement of a number: its instant, its gage height and its discharge in millionths, and its grade.
+    Measured(u32, &'static str, i64, i64, Grade),
+    /// Takes out the measurement of a number.
+    DroppedMeasurement(u32),
 }
 
 /// The usual rounding arrays of stages and of discharges in these rows.
@@ -69,12 +81,30 @@ fn put(alloc: Global, at: &str, millionths: i64) -> Option<What> {
     })
 }
 
-fn curve(alloc: Global, points: &[(i64, i64)]) -> Option<Curve> {
+/// Pairs of two quantities.
+fn pairs(alloc: Global, numbers: &[(i64, i64)]) -> Option<Vec<(Micro, Micro)>> {
     let mut made = Vec::new(alloc);
-    for (stage, amount) in points {
-        made.push((Micro::new(*stage)?, Micro::new(*amount)?)).ok()?;
+    for (first, second) in numbers {
+        made.push((Micro::new(*first)?, Micro::new(*second)?)).ok()?;
     }
-    Curve::new(made.as_slice()).ok()
+    Some(made)
+}
+
+fn curve(alloc: Global, points: &[(i64, i64)]) -> Option<Curve> {
+    Curve::new(pairs(alloc, points)?.as_slice()).ok()
+}
+
+fn table(alloc: Global, rows: &[(i64, i64)]) -> Option<SharedTable> {
+    let table = Table::from_vec(pairs(alloc, rows)?).ok()?;
+    SharedTable::new(alloc, table).ok()
+}
+
+fn period(rating: u32, from: &str, until: Option<&str>) -> Option<Period> {
+    let end = match until {
+        Some(until) => Some(read_instant(until.as_bytes())?),
+        None => None,
+    };
+    Period::new(read_instant(from.as_bytes())?, end, rating)
 }
 
 fn what(alloc: Global, sent: &Sent) -> Option<What> {
@@ -101,6 +131,26 @@ fn what(alloc: Global, sent: &Sent) -> Option<What> {
         Sent::DroppedShift(at) => Some(What::DropShift {
             at: read_instant(at.as_bytes())?,
         }),
+        Sent::Rating(rating, rows) => Some(What::AddRating {
+            rating,
+            table: table(alloc, rows)?,
+        }),
+        Sent::Period(rating, from, until) => Some(What::PutPeriod {
+            period: period(rating, from, until)?,
+        }),
+        Sent::DroppedPeriod(from) => Some(What::DropPeriod {
+            from: read_instant(from.as_bytes())?,
+        }),
+        Sent::Measured(number, at, gage, discharge, grade) => Some(What::PutMeasurement {
+            measurement: Measurement {
+                number,
+                at: read_instant(at.as_bytes())?,
+                gage: Micro::new(gage)?,
+                discharge: Micro::new(discharge)?,
+                grade,
+            },
+        }),
+        Sent::DroppedMeasurement(number) => Some(What::DropMeasurement { number }),
     }
 }
 
@@ -158,4 +208,24 @@ pub fn first_misnamed_of_all(
         }
     }
     None
+}
+
+/// The body of an edit that adds a rating of so many rows, each a foot and a cubic foot per second above the one before.
+pub fn rows_body(alloc: Global, count: u32) -> Option<Text> {
+    let mut body = Text::new(alloc);
+    body.push_slice(
+        br#"{"kind":"AddRating","by":"AB","ref":"a-1","site":"01646500","rating":1,"rows":["#,
+    ).ok()?;
+    for row in 0..count {
+        if 0 < row {
+            body.push(b',').ok()?;
+        }
+        body.push_slice(b"[\"").ok()?;
+        body.push_number(u64::from(row)).ok()?;
+        body.push_slice(b"\",\"").ok()?;
+        body.push_number(u64::from(row)).ok()?;
+        body.push_slice(b"\"]").ok()?;
+    }
+    body.push_slice(b"]}").ok()?;
+    Some(body)
 }

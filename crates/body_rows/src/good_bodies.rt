@@ -1,6 +1,7 @@
 //! Bodies that are edits, in each spelling.
 
 use crate::fixtures::{Sent, is_read};
+use edits::Grade;
 use json::Scratch;
 use std::alloc::Global;
 
@@ -113,6 +114,84 @@ const ENTRIES: [(&str, &Sent); 10] = [
     ),
 ];
 
+/// Bodies of ratings, periods and field measurements, and what each sends: in order, in another order with spaces, with the ends of
+/// ranges, with a member that comes twice, and with escapes.
+const RATINGS: [(&str, &Sent); 12] = [
+    (
+        r#"{"kind":"AddRating","by":"AB","ref":"a-1","site":"01646500","rating":1,"rows":[["1.00","10"],["2.00","30"]]}"#,
+        &Sent::Rating(1, &[(1_000_000, 10_000_000), (2_000_000, 30_000_000)]),
+    ),
+    (
+        r#"{ "rows" : [ [ "-100000" , "0" ] , [ "0.000001" , "0.00" ] , [ "100000.000000" , "+10000000" ] ] , "rating" : 999999 , "site" : "01646500" , "ref" : "a-1" , "by" : "AB" , "kind" : "AddRating" } "#,
+        &Sent::Rating(
+            999_999,
+            &[
+                (-100_000_000_000, 0),
+                (1, 0),
+                (100_000_000_000, 10_000_000_000_000),
+            ],
+        ),
+    ),
+    (
+        r#"{"kind":"AddRating","by":"AB","ref":"a-1","site":"01646500","rating":0,"r\u006fws":[["\u0031","1"],["2","1"]],"rating":12}"#,
+        &Sent::Rating(12, &[(1_000_000, 1_000_000), (2_000_000, 1_000_000)]),
+    ),
+    (
+        r#"{"kind":"PutPeriod","by":"AB","ref":"a-1","site":"01646500","rating":1,"from":"2023-01-01T00:00:00Z","until":null}"#,
+        &Sent::Period(1, "2023-01-01T00:00:00Z", None),
+    ),
+    (
+        r#"{"kind":"PutPeriod","by":"AB","ref":"a-1","site":"01646500","until":"2023-01-01T00:00:01Z","from":"2023-01-01T00:00:00Z","rating":2}"#,
+        &Sent::Period(2, "2023-01-01T00:00:00Z", Some("2023-01-01T00:00:01Z")),
+    ),
+    (
+        r#"{"kind":"PutPeriod","by":"AB","ref":"a-1","site":"01646500","rating":1,"from":"1900-01-03T00:00:00Z","until":0,"until":"2099-12-28T23:59:59Z"}"#,
+        &Sent::Period(1, "1900-01-03T00:00:00Z", Some("2099-12-28T23:59:59Z")),
+    ),
+    (
+        r#"{"kind":"DropPeriod","by":"AB","ref":"a-1","site":"01646500","from":"2023-01-01T00:00:00Z"}"#,
+        &Sent::DroppedPeriod("2023-01-01T00:00:00Z"),
+    ),
+    (
+        r#"{"kind":"PutMeasurement","by":"AB","ref":"a-1","site":"01646500","number":7,"at":"2024-01-05T12:00:00Z","gage":"1.50","discharge":"19.50","grade":"good"}"#,
+        &Sent::Measured(
+            7,
+            "2024-01-05T12:00:00Z",
+            1_500_000,
+            19_500_000,
+            Grade::Good,
+        ),
+    ),
+    (
+        r#"{"kind":"PutMeasurement","by":"AB","ref":"a-1","site":"01646500","grade":"excellent","discharge":"10000000","gage":"-100000","at":"1900-01-03T00:00:00Z","number":4294967295}"#,
+        &Sent::Measured(
+            4_294_967_295,
+            "1900-01-03T00:00:00Z",
+            -100_000_000_000,
+            10_000_000_000_000,
+            Grade::Excellent,
+        ),
+    ),
+    (
+        r#"{"kind":"PutMeasurement","by":"AB","ref":"a-1","site":"01646500","number":1,"at":"2024-01-05T12:00:00Z","gage":"1.50","discharge":"0","grade":"fair"}"#,
+        &Sent::Measured(1, "2024-01-05T12:00:00Z", 1_500_000, 0, Grade::Fair),
+    ),
+    (
+        r#"{"kind":"PutMeasurement","by":"AB","ref":"a-1","site":"01646500","number":7,"at":"2024-01-05T12:00:00Z","gage":"1.50","discharge":"19.50","grade":"po\u006fr"}"#,
+        &Sent::Measured(
+            7,
+            "2024-01-05T12:00:00Z",
+            1_500_000,
+            19_500_000,
+            Grade::Poor,
+        ),
+    ),
+    (
+        r#"{"kind":"DropMeasurement","by":"AB","ref":"a-1","site":"01646500","number":4294967295}"#,
+        &Sent::DroppedMeasurement(4_294_967_295),
+    ),
+];
+
 /// The number from 0 on of the first body that is read otherwise or not at all, where all are read with one scratch.
 fn first_otherwise(alloc: Global, bodies: &[(&str, &Sent)]) -> Option<usize> {
     let mut scratch = Scratch::new(alloc);
@@ -133,5 +212,11 @@ fn bodies_are_read_in_each_spelling(rt: HostRuntime) {
 #[test]
 fn entries_are_read_in_each_spelling(rt: HostRuntime) {
     let otherwise = first_otherwise(rt.alloc(), &ENTRIES);
+    assert!(rt; otherwise.is_none(), "{otherwise:?}");
+}
+
+#[test]
+fn ratings_are_read_in_each_spelling(rt: HostRuntime) {
+    let otherwise = first_otherwise(rt.alloc(), &RATINGS);
     assert!(rt; otherwise.is_none(), "{otherwise:?}");
 }

@@ -8,7 +8,11 @@ mod fixtures;
 #[cfg(test)]
 mod good_bodies;
 #[cfg(test)]
+mod measurement_refusals;
+#[cfg(test)]
 mod no_json;
+#[cfg(test)]
+mod rating_refusals;
 #[cfg(test)]
 mod refusals;
 #[cfg(test)]

@@ -15,8 +15,8 @@ use Rattle.http_api.specs.declared.asks.Ask.{Ask}
 use Rattle.http_api.specs.declared.asks.Ask.TheVariants as asks
 use Rattle.http_api.specs.declared.replies.Reply.TheVariants as replies
 use Rattle.office.specs.Edits.{IsRefused, IsRefusedBy, is_fault}
-use Rattle.office_inputs.specs.declared.refusals.Refusal.{Refusal}
-use Rattle.office_inputs.specs.declared.refusals.Refusal.TheVariants as refusals
+use Rattle.station_inputs.specs.declared.refusals.Refusal.{Refusal}
+use Rattle.station_inputs.specs.declared.refusals.Refusal.TheVariants as refusals
 
 -- what follows from a fact about an answer that is Ok
 pub on_ok : {X E : Type 0} (r : Result X E) (A B : Type 0) → (A → B) → OnOk r A → OnOk r B
@@ -72,6 +72,9 @@ module _ (h : History) (edit : Edit) (reply : List ℕ) (next : History) where
   refused_by refusals.NoStation is told fault = refused refusals.NoStation is told
   refused_by refusals.StationExists is told fault = refused refusals.StationExists is told
   refused_by (refusals.Limit which) is told fault = refused (refusals.Limit which) is told
+  refused_by refusals.NoRating is told fault = refused refusals.NoRating is told
+  refused_by refusals.RatingExists is told fault = refused refusals.RatingExists is told
+  refused_by (refusals.PeriodOverlap from) is told fault = refused (refusals.PeriodOverlap from) is told
   refused_by refusals.NoEntry is told fault = refused refusals.NoEntry is told
   refused_by (refusals.HistoryFull full) is told fault = refused (refusals.HistoryFull full) is told
   refused_by refusals.JournalFull is told fault = refused refusals.JournalFull is told
@@ -108,6 +111,9 @@ unwritten (refusals.RefReused n) told reply old new fault stays none = stays ref
 unwritten refusals.NoStation told reply old new fault stays none = stays refl
 unwritten refusals.StationExists told reply old new fault stays none = stays refl
 unwritten (refusals.Limit which) told reply old new fault stays none = stays refl
+unwritten refusals.NoRating told reply old new fault stays none = stays refl
+unwritten refusals.RatingExists told reply old new fault stays none = stays refl
+unwritten (refusals.PeriodOverlap from) told reply old new fault stays none = stays refl
 unwritten refusals.NoEntry told reply old new fault stays none = stays refl
 unwritten (refusals.HistoryFull full) told reply old new fault stays none = stays refl
 unwritten refusals.JournalFull told reply old new fault stays none = stays refl

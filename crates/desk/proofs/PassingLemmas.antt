@@ -13,8 +13,8 @@ use Rattle.journal.proofs.Moments.{started}
 use Rattle.journal.specs.Moments.{LeavesOnly}
 use Rattle.office.specs.Stops.{IsLeft, IsLeftBefore, IsLeftBetween}
 use Rattle.office.specs.Edits.{IsRefusedBy, IsTaken}
-use Rattle.office_inputs.specs.declared.refusals.Refusal.{Refusal}
-use Rattle.office_inputs.specs.declared.refusals.Refusal.TheVariants as refusals
+use Rattle.station_inputs.specs.declared.refusals.Refusal.{Refusal}
+use Rattle.station_inputs.specs.declared.refusals.Refusal.TheVariants as refusals
 use Rattle.records.specs.declared.payloads.Record.{Record}
 
 -- a history goes on by no event
@@ -129,6 +129,9 @@ module _ {D : Type 0} (g : Ghosts D) where
   passes_refused h after edit refusals.NoStation old new is counted cause leaves told = passes_none h after old new is.1 counted leaves told
   passes_refused h after edit refusals.StationExists old new is counted cause leaves told = passes_none h after old new is.1 counted leaves told
   passes_refused h after edit (refusals.Limit which) old new is counted cause leaves told = passes_none h after old new is.1 counted leaves told
+  passes_refused h after edit refusals.NoRating old new is counted cause leaves told = passes_none h after old new is.1 counted leaves told
+  passes_refused h after edit refusals.RatingExists old new is counted cause leaves told = passes_none h after old new is.1 counted leaves told
+  passes_refused h after edit (refusals.PeriodOverlap from) old new is counted cause leaves told = passes_none h after old new is.1 counted leaves told
   passes_refused h after edit refusals.NoEntry old new is counted cause leaves told = passes_none h after old new is.1 counted leaves told
   passes_refused h after edit (refusals.HistoryFull full) old new is counted cause leaves told = passes_none h after old new is.1 counted leaves told
   passes_refused h after edit refusals.JournalFull old new is counted cause leaves told = passes_none h after old new is.1 counted leaves told

@@ -55,3 +55,4 @@ replied_denied h verb target body reply denials.NoRoute is made = replied_why h 
 replied_denied h verb target body reply (denials.NotAllowed due) is made = replied_why h verb target body reply (denials.NotAllowed due) is made
 replied_denied h verb target body reply denials.Json is made = replied_why h verb target body reply denials.Json is made
 replied_denied h verb target body reply (denials.Body name) is made = replied_why h verb target body reply (denials.Body name) is made
+replied_denied h verb target body reply (denials.Rdb fault) is made = replied_why h verb target body reply (denials.Rdb fault) is made

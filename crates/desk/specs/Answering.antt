@@ -6,7 +6,7 @@ use Rattle.desk.specs.declared.answers.Told.TheVariants as told
 use Rattle.http_api.specs.Replies.{bytes_of}
 use Rattle.http_api.specs.declared.replies.Reply.{Reply}
 use Rattle.http_api.specs.declared.replies.Reply.TheVariants as replies
-use Rattle.office_inputs.specs.declared.refusals.Refusal.{Refusal}
+use Rattle.station_inputs.specs.declared.refusals.Refusal.{Refusal}
 
 -- the bytes that are told: a reply that was made, or one of those that stand ready
 abbrev pub told_bytes : Told → List ℕ → List ℕ

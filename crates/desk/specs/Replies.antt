@@ -18,9 +18,12 @@ use Rattle.http_api.specs.declared.asks.Ask.TheVariants as asks
 use Rattle.http_api.specs.declared.asks.Denied.{Denied}
 use Rattle.http_api.specs.declared.days.DayAnswer.TheVariants as told
 use Rattle.http_api.specs.declared.replies.Reply.TheVariants as replies
+use Rattle.measurements.specs.Departures.{departure_of}
+use Rattle.measurements.specs.declared.departures.Departure.{Departure}
 use Rattle.office.specs.Edits.{IsFaulted}
-use Rattle.office_inputs.specs.Stations.{StationRecord, station_of}
-use Rattle.office_inputs.specs.declared.refusals.Refusal.TheVariants.{JournalFault}
+use Rattle.office_inputs.specs.Stations.{station_of}
+use Rattle.station_inputs.specs.Stations.{StationRecord}
+use Rattle.station_inputs.specs.declared.refusals.Refusal.TheVariants.{JournalFault}
 use Rattle.wire.specs.ReplyHead.{reply_bytes}
 use Rattle.wire.specs.declared.messages.Message.{Message}
 use Rattle.wire.specs.declared.messages.Message.TheVariants as messages
@@ -52,6 +55,15 @@ day_reply status days.NoStation = bytes_of replies.NoStation
 day_reply status (days.Pending edit) = answer_bytes (answer_members (told.Pending edit) ++ status_member status)
 day_reply status (days.Computed value) = answer_bytes (value_members value ++ status_member status)
 
+-- the reply for a measurement of a station
+abbrev pub departure_reply : Option Departure → List ℕ
+departure_reply None = bytes_of replies.NoMeasurement
+departure_reply (Some departure) = bytes_of (replies.Measurement departure)
+
+abbrev pub measurement_reply : ℕ → Option StationRecord → List ℕ
+measurement_reply number None = bytes_of replies.NoStation
+measurement_reply number (Some station) = departure_reply (departure_of number station)
+
 -- the reply once days were published: how many are pending then, and how many publications there were, which is how many events more
 -- the history has
 abbrev pub turned_reply : History → History → List ℕ
@@ -62,6 +74,7 @@ abbrev pub history_after : History → Ask → History
 history_after h (asks.Edit edit) = history_by (verdict h edit) h edit
 history_after h (asks.Station site) = h
 history_after h (asks.DayOf site day) = h
+history_after h (asks.Measurement site number) = h
 history_after h (asks.Turns count) = after_turns count h
 history_after h asks.Settle = after_settlement h
 history_after h asks.Counts = h
@@ -71,6 +84,7 @@ abbrev pub reply_to : History → Ask → List ℕ
 reply_to h (asks.Edit edit) = edit_reply (verdict h edit) (length (accepted h.events) + 1)
 reply_to h (asks.Station site) = station_reply (station_of (stations_at h.events) site)
 reply_to h (asks.DayOf site day) = day_reply (status_at h.events site day) (answer_at h.events site day)
+reply_to h (asks.Measurement site number) = measurement_reply number (station_of (stations_at h.events) site)
 reply_to h (asks.Turns count) = turned_reply h (after_turns count h)
 reply_to h asks.Settle = turned_reply h (after_settlement h)
 reply_to h asks.Counts = bytes_of (replies.Counts (length (accepted h.events)) (length (pending_days h.events)))
@@ -87,6 +101,7 @@ abbrev pub Fails : History → Ask → List ℕ → History → Type 0
 Fails h (asks.Edit edit) reply next = (in_doubt : Bool) × (reply ≡ fault_reply in_doubt) × IsFaulted h edit next in_doubt
 Fails h (asks.Station site) reply next = ⊥
 Fails h (asks.DayOf site day) reply next = ⊥
+Fails h (asks.Measurement site number) reply next = ⊥
 Fails h (asks.Turns count) reply next = ⊥
 Fails h asks.Settle reply next = ⊥
 Fails h asks.Counts reply next = ⊥
@@ -96,6 +111,7 @@ abbrev pub IsLeftBy : History → Ask → History → Type 0
 IsLeftBy h (asks.Edit edit) next = next ≡ h
 IsLeftBy h (asks.Station site) next = next ≡ h
 IsLeftBy h (asks.DayOf site day) next = next ≡ h
+IsLeftBy h (asks.Measurement site number) next = next ≡ h
 IsLeftBy h (asks.Turns count) next = (turns : ℕ) × (turns ≤ count) × (next ≡ after_turns turns h)
 IsLeftBy h asks.Settle next = (count : ℕ) × (count ≤ length (pending_days h.events)) × (next ≡ after_publications h (take count (pending_days h.events)))
 IsLeftBy h asks.Counts next = next ≡ h

@@ -14,6 +14,7 @@ use fixed_units::{Day, NoMemory, Site, Text};
 use http_api::replies::constants_are_replies;
 use http_api::{Ask, DayAnswer, DayReply, Reply, write_reply};
 use json::Scratch;
+use measurements::station_departure;
 use office::laws::an_office_stands_on_its_disk;
 use office::{Answer, Office};
 use office_inputs::{Refusal, Station};
@@ -119,6 +120,7 @@ pub(crate) fn answer<D: Disk>(office: &mut Office<D>, ask: Ask, texts: &mut Text
         Ask::Edit(edit) => take_edit(office, edit, texts),
         Ask::Station(site) => told_by(tell_station(office, site, texts)),
         Ask::DayOf(site, day) => told_by(tell_day(office, site, day, texts)),
+        Ask::Measurement(site, number) => told_by(tell_measurement(office, site, number, texts)),
         Ask::Turns(count) => told_by(take_turns(office, count, texts)),
         Ask::Settle => told_by(settle(office, texts)),
         Ask::Counts => told_by(tell_counts(office, texts)),
@@ -204,6 +206,24 @@ fn tell_day<D: Disk>(
         answer,
         status: office.status(site, day),
     }))
+}
+
+/// Tells what a measurement of a station says of the rating in force.
+fn tell_measurement<D: Disk>(
+    office: &Office<D>,
+    site: Site,
+    number: u32,
+    texts: &mut Texts,
+) -> Result<(), NoMemory>
+    ensures { OnOk result (texts.new.reply ≡ reply_to office.now.register.history (asks.Measurement site number)) }
+{
+    let Some(station) = office.station(site) else {
+        return texts.make(&Reply::NoStation);
+    };
+    match station_departure(station, number) {
+        Some(departure) => texts.make(&Reply::Measurement(departure)),
+        None => texts.make(&Reply::NoMeasurement),
+    }
 }
 
 /// Tells how many edits were accepted, and how many days are pending.

@@ -2,7 +2,9 @@ pub mod AnswerLemmas
 pub mod ChainLemmas
 pub mod FieldLemmas
 pub mod MemberLemmas
+pub mod PairLemmas
 pub mod PointLemmas
+pub mod RatingLemmas
 pub mod RowLemmas
 pub mod SiteLemmas
 pub mod TextLemmas

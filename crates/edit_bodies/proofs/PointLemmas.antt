@@ -1,68 +1,24 @@
 -- The points that are read are those of a curve that an edit puts.
-use Rattle.std.proofs.Common.{◌≡◌, ℕ, Bool, true, false, List, [], ◌∷◌, ℤ, ◌<ℤ◌, int_lt, All, Option, Some, None, option_and_then, option_map, IfSome, Result, Ok, Err, if◌then◌else◌, refl, sym, ap, ◌∙◌, subst, lit≤, arith}
-use Rattle.std.proofs.lemmas.Bool.{and_parts}
+use Rattle.std.proofs.Common.{◌≡◌, ℕ, Bool, true, false, List, [], ◌∷◌, ℤ, ◌<ℤ◌, int_lt, All, Option, Some, None, option_and_then, IfSome, Result, Ok, Err, if◌then◌else◌, refl, subst, lit≤, arith}
 use Rattle.std.proofs.lemmas.Int.{ints}
 use Rattle.std.proofs.lemmas.List.Elements.{All-cons, All-nil}
 use Rattle.std.proofs.lemmas.List.Kept.{AllPairs-cons}
 use Rattle.std.specs.Result.{result_ok}
-use Rattle.civil_days.specs.Spelling.{only}
 use Rattle.curves.specs.Curve.{curve_of, first_not_rising, stage_of as at_stage, unless_falling}
 use Rattle.curves.specs.declared.curve.CurveFault.{CurveFault}
-use Rattle.edit_bodies.specs.Grammars.{curve_if, each_of, pair_of, point_of, point_of_row, points_of, quantity_of}
+use Rattle.edit_bodies.proofs.PairLemmas.{each_pair, within}
+use Rattle.edit_bodies.specs.Grammars.{curve_if, each_of, point_of, points_of}
 use Rattle.edits.specs.Lawful.{IsPutCurve, IsPutPoint}
-use Rattle.fixed_units.specs.Quantities.{IsWithin, is_amount, is_stage, is_within}
-use Rattle.rising.proofs.Parting.{yes_le, yes_lt}
+use Rattle.fixed_units.specs.Quantities.{is_amount, is_stage}
+use Rattle.rising.proofs.Parting.{yes_lt}
 use Rattle.rising.specs.Lists.{IsRising}
-use Rattle.serde_json.specs.Data.{Data, Items, no_items, item}
+use Rattle.serde_json.specs.Data.{Data, Items}
 use Rattle.serde_json.specs.Find.{as_array}
-
-within : (least greatest n : ℤ) → is_within least greatest n ≡ true → IsWithin least greatest n
-within least greatest n e = let p = and_parts _ _ e in record { low = yes_le _ _ p.0; high = yes_le _ _ p.1 }
-
--- a number that is only of a kind is of it
-of_kind : (kind : ℤ → Bool) (o : Option ℤ) (n : ℤ) → only kind o ≡ Some n → kind n ≡ true
-of_kind kind None n e = absurd cc
-of_kind kind (Some m) n e = by (kind m) refl e
-  where
-    by : (b : Bool) → kind m ≡ b → (if b then Some m else None) ≡ Some n → kind n ≡ true
-    by true is e = let same : m ≡ n = cc in ap kind (sym same) ∙ is
-    by false is e = absurd cc
-
-pair_put : (stage amount : Option ℤ) (p : ℤ × ℤ) → pair_of (only is_stage stage) (only is_amount amount) ≡ Some p → IsPutPoint p
-pair_put stage amount p e = by (only is_stage stage) (only is_amount amount) refl refl e
-  where
-    by : (s a : Option ℤ) → only is_stage stage ≡ s → only is_amount amount ≡ a → pair_of s a ≡ Some p → IsPutPoint p
-    by None a is it e = absurd cc
-    by (Some s) None is it e = absurd cc
-    by (Some s) (Some a) is it e =
-        let same : (s, a) ≡ p = cc in
-        subst IsPutPoint same (record { stage = within _ _ s (of_kind is_stage stage s is); amount = within _ _ a (of_kind is_amount amount a it) })
-
-row_put : (row : Items) (p : ℤ × ℤ) → point_of_row row ≡ Some p → IsPutPoint p
-row_put no_items p e = absurd cc
-row_put (item stage no_items) p e = absurd cc
-row_put (item stage (item amount no_items)) p e = pair_put (quantity_of stage) (quantity_of amount) p e
-row_put (item stage (item amount (item more rest))) p e = absurd cc
-
-point_put : (value : Data) (p : ℤ × ℤ) → point_of value ≡ Some p → IsPutPoint p
-point_put value p e = by (as_array value) e
-  where
-    by : (o : Option Items) → option_and_then point_of_row o ≡ Some p → IsPutPoint p
-    by None e = absurd cc
-    by (Some row) e = row_put row p e
 
 -- each point that is read may be put
 each_put : (rows : Items) (ps : List (ℤ × ℤ)) → each_of point_of rows ≡ Some ps → All IsPutPoint ps
-each_put no_items ps e = let same : [] ≡ ps = cc in subst (All IsPutPoint) same (All-nil IsPutPoint)
-each_put (item value rest) ps e = by (point_of value) (each_of point_of rest) refl (each_put rest) e
-  where
-    by : (o : Option (ℤ × ℤ)) (more : Option (List (ℤ × ℤ))) → point_of value ≡ o → ((qs : List (ℤ × ℤ)) → more ≡ Some qs → All IsPutPoint qs)
-        → option_and_then (λ x. option_map (λ xs. x ∷ xs) more) o ≡ Some ps → All IsPutPoint ps
-    by None more is further e = absurd cc
-    by (Some p) None is further e = absurd cc
-    by (Some p) (Some qs) is further e =
-        let same : p ∷ qs ≡ ps = cc in
-        subst (All IsPutPoint) same (All-cons IsPutPoint p qs (point_put value p is) (further qs refl))
+each_put rows ps e =
+    each_pair is_stage is_amount IsPutPoint (λ p stage amount. record { stage = within _ _ p.0 stage; amount = within _ _ p.1 amount }) rows ps e
 
 -- stages that rise from each point to the next rise
 abbrev Rises : List (ℤ × ℤ) → Type 0

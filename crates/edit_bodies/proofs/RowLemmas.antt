@@ -1,10 +1,11 @@
 -- Rows of readings, and rows of points.
 use Rattle.std.proofs.Common.{◌≡◌, List, [], ◌∷◌, length, ℤ, Option, Some, None, option_map, option_and_then, Bool, true, false, ◌&&◌, nat_le, if◌then◌else◌, ap, refl, arith}
 use Rattle.std.proofs.lemmas.Bool.{lt-leb}
-use Rattle.edit_bodies.specs.Grammars.{kept_if, are_put, are_rising, curve_if, each_of, point_of, point_of_row, reading_of, reading_of_row}
+use Rattle.edit_bodies.specs.Grammars.{kept_if, are_put, are_rising, curve_if, each_of, pair_in, point_of, reading_of, reading_of_row}
 use Rattle.edits.specs.Lawful.{most_readings}
 use Rattle.fixed_units.specs.declared.readings.Reading.{Reading}
 use Rattle.edit_bodies.specs.Trees.{Tree, stated, items_stated}
+use Rattle.serde_json.specs.Data.{Data}
 
 -- a row of other than two strings has no reading
 pub wrong_row : (vs : List Tree) → (length vs ≡ 2 → ⊥) → reading_of_row (items_stated vs) ≡ None
@@ -33,12 +34,12 @@ wrong_rows [] other = refl
 wrong_rows (a ∷ []) other = absurd (other refl)
 wrong_rows (a ∷ b ∷ vs) other = two_rows (reading_of (stated a)) (reading_of (stated b)) (each_of reading_of (items_stated vs))
 
--- nor has it a point
-pub wrong_point : (vs : List Tree) → (length vs ≡ 2 → ⊥) → point_of_row (items_stated vs) ≡ None
-wrong_point [] other = refl
-wrong_point (a ∷ []) other = refl
-wrong_point (a ∷ b ∷ []) other = absurd (other refl)
-wrong_point (a ∷ b ∷ c ∷ vs) other = refl
+-- nor has it a pair
+pub wrong_pair : (read_first read_second : Data → Option ℤ) (vs : List Tree) → (length vs ≡ 2 → ⊥) → pair_in read_first read_second (items_stated vs) ≡ None
+wrong_pair read_first read_second [] other = refl
+wrong_pair read_first read_second (a ∷ []) other = refl
+wrong_pair read_first read_second (a ∷ b ∷ []) other = absurd (other refl)
+wrong_pair read_first read_second (a ∷ b ∷ c ∷ vs) other = refl
 
 four_points : (a b c d : Option (ℤ × ℤ)) (more : Option (List (ℤ × ℤ)))
     → option_and_then curve_if (option_and_then (λ x. option_map (λ xs. x ∷ xs) (option_and_then (λ x. option_map (λ xs. x ∷ xs) (option_and_then (λ x. option_map (λ xs. x ∷ xs) (option_and_then (λ x. option_map (λ xs. x ∷ xs) more) d)) c)) b)) a) ≡ None

@@ -1,12 +1,12 @@
 -- Trees whose numbers floats hold, and what serde_json states of them.
 use Rattle.std.proofs.Common.{◌≡◌, ℕ, List, Bool, true, false, ◌&&◌, Option, Some, None, is_some, option_map, option_and_then, refl, ap, ◌∙◌}
 use Rattle.std.proofs.lemmas.Bool.{and_parts}
-use Rattle.edit_bodies.specs.Trees.{number_or_null, data_of, items_of, members_of, is_held, are_items_held, are_members_held}
+use Rattle.edit_bodies.specs.Trees.{number_or_float, data_of, items_of, members_of, is_held, are_items_held, are_members_held}
 use Rattle.json.specs.Json as json
 use Rattle.serde_json.specs.Data.{Num, number, array, object, item, Members, no_members, put}
 use Rattle.serde_json.specs.Read.{number_of, of_json, of_items, of_members}
 
-there : (o : Option Num) → is_some o ≡ true → option_map number o ≡ Some (number_or_null o)
+there : (o : Option Num) → is_some o ≡ true → option_map number o ≡ Some (number_or_float o)
 there None h = absurd cc
 there (Some n) h = refl
 

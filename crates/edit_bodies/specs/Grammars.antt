@@ -1,5 +1,5 @@
 -- The grammars of members: what a value states, or nothing where it is ill formed.
-use Rattle.std.specs.Prelude.{ℕ, Bool, true, ◌&&◌, nat_le, List, [], ◌∷◌, length, int_lt, ℤ, Option, Some, None, option_map, option_and_then, if◌then◌else◌}
+use Rattle.std.specs.Prelude.{ℕ, bytes_eq, codes, is_none, is_some, Bool, true, ◌&&◌, nat_le, List, [], ◌∷◌, length, int_lt, ℤ, Option, Some, None, option_map, option_and_then, if◌then◌else◌}
 use Rattle.std.specs.Result.{result_ok}
 use Rattle.civil_days.specs.Spelling.{stamp_of_text, only}
 use Rattle.curves.specs.Curve.{curve_of}
@@ -7,11 +7,14 @@ use Rattle.edit_bodies.specs.Texts.{are_initials, is_reference, is_name, is_arra
 use Rattle.edit_bodies.specs.Zones.{is_zone}
 use Rattle.edits.specs.Lawful.{most_gap, most_readings}
 use Rattle.fixed_units.specs.Decimals.{decimal_of}
-use Rattle.fixed_units.specs.Quantities.{SiteNumber, is_amount, is_stage}
+use Rattle.edits.specs.declared.measurements.Grade.{Grade}
+use Rattle.edits.specs.declared.measurements.Grade.TheVariants.{Excellent, Good, Fair, Poor}
+use Rattle.fixed_units.specs.Quantities.{SiteNumber, is_amount, is_discharge, is_stage}
 use Rattle.fixed_units.specs.declared.readings.Flag.TheVariants.{Usable}
 use Rattle.fixed_units.specs.declared.readings.Reading.{Reading}
+use Rattle.rating_tables.specs.Table.{table_fault}
 use Rattle.serde_json.specs.Data.{Data, Items, no_items, item}
-use Rattle.serde_json.specs.Find.{as_str, as_number, as_u64, as_array}
+use Rattle.serde_json.specs.Find.{as_str, as_number, as_u64, as_array, as_null}
 
 -- what is there, if it passes
 abbrev pub kept_if : {A : Type 0} → (A → Bool) → A → Option A
@@ -105,21 +108,22 @@ are_put readings = nat_le 1 (length readings) && nat_le (length readings) most_r
 abbrev pub readings_of : Data → Option (List Reading)
 readings_of value = option_and_then (kept_if are_put) (option_and_then (each_of reading_of) (as_array value))
 
--- a point of that stage and that amount
+-- two numbers that are both there
 abbrev pub pair_of : Option ℤ → Option ℤ → Option (ℤ × ℤ)
-pair_of None amount = None
-pair_of (Some stage) None = None
-pair_of (Some stage) (Some amount) = Some (stage, amount)
+pair_of None second = None
+pair_of (Some first) None = None
+pair_of (Some first) (Some second) = Some (first, second)
 
--- the point of a row: a stage and an amount, and nothing else
-abbrev pub point_of_row : Items → Option (ℤ × ℤ)
-point_of_row no_items = None
-point_of_row (item stage no_items) = None
-point_of_row (item stage (item amount no_items)) = pair_of (stage_of stage) (amount_of amount)
-point_of_row (item stage (item amount (item more rest))) = None
+-- what is read of two items, and nothing else
+abbrev pub pair_in : (Data → Option ℤ) → (Data → Option ℤ) → Items → Option (ℤ × ℤ)
+pair_in read_first read_second no_items = None
+pair_in read_first read_second (item first no_items) = None
+pair_in read_first read_second (item first (item second no_items)) = pair_of (read_first first) (read_second second)
+pair_in read_first read_second (item first (item second (item more rest))) = None
 
+-- the point of a row: a stage and an amount
 abbrev pub point_of : Data → Option (ℤ × ℤ)
-point_of value = option_and_then point_of_row (as_array value)
+point_of value = option_and_then (pair_in stage_of amount_of) (as_array value)
 
 -- points that are a curve: one to three of them, whose stages strictly rise
 abbrev pub curve_if : List (ℤ × ℤ) → Option (List (ℤ × ℤ))
@@ -127,3 +131,42 @@ curve_if points = result_ok (curve_of points)
 
 abbrev pub points_of : Data → Option (List (ℤ × ℤ))
 points_of value = option_and_then curve_if (option_and_then (each_of point_of) (as_array value))
+
+-- the number of a rating
+abbrev pub rating_number_of : Data → Option ℕ
+rating_number_of value = option_and_then (kept_within 1 999_999) (whole_of value)
+
+-- a discharge in millionths of a cubic foot per second
+abbrev pub discharge_of : Data → Option ℤ
+discharge_of value = only is_discharge (quantity_of value)
+
+-- the row of a rating: a stage and its discharge
+abbrev pub rating_row_of : Data → Option (ℤ × ℤ)
+rating_row_of value = option_and_then (pair_in stage_of discharge_of) (as_array value)
+
+-- rows that are a table: as many as one has, and in order
+abbrev pub table_if : List (ℤ × ℤ) → Option (List (ℤ × ℤ))
+table_if rows = kept_if (λ rows. is_none (table_fault rows)) rows
+
+abbrev pub table_of : Data → Option (List (ℤ × ℤ))
+table_of value = option_and_then table_if (option_and_then (each_of rating_row_of) (as_array value))
+
+-- the end of a period that begins at an instant: a stamp after it, or none
+abbrev pub until_of : ℤ → Data → Option (Option ℤ)
+until_of from value = if is_some (as_null value) then Some None else option_map Some (only (int_lt from) (instant_of value))
+
+-- the number of a measurement
+abbrev pub measurement_number_of : Data → Option ℕ
+measurement_number_of value = option_and_then (kept_within 1 4_294_967_295) (whole_of value)
+
+-- the grade of a measurement
+abbrev pub grade_of_text : List ℕ → Option Grade
+grade_of_text text =
+    if bytes_eq text (codes "excellent") then Some Excellent
+    else (if bytes_eq text (codes "good") then Some Good
+    else (if bytes_eq text (codes "fair") then Some Fair
+    else (if bytes_eq text (codes "poor") then Some Poor
+    else None)))
+
+abbrev pub grade_of : Data → Option Grade
+grade_of value = string_of grade_of_text value

@@ -2,13 +2,13 @@
 use Rattle.std.specs.Prelude.{ℕ, List, codes, bytes_eq, Option, Some, None, if◌then◌else◌}
 use Rattle.serde_json.specs.Data.{Data}
 use Rattle.serde_json.specs.Find.{as_bool}
-use Rattle.edit_bodies.specs.Grammars.{string_of, name_of, zone_of, gap_of, array_of, readings_of, set_of, instant_of, points_of}
+use Rattle.edit_bodies.specs.Grammars.{string_of, name_of, zone_of, gap_of, array_of, readings_of, set_of, instant_of, points_of, rating_number_of, table_of, until_of, measurement_number_of, stage_of, discharge_of, grade_of}
 use Rattle.edit_bodies.specs.Members.{Reader, ◌>>=◌, done, required}
 use Rattle.edit_bodies.specs.declared.kinds.Kind.{Kind}
 use Rattle.edit_bodies.specs.declared.kinds.Kind.TheVariants as kinds
-use Rattle.edit_bodies.specs.declared.members.Member.TheVariants.{Name, Zone, Gap, StageArray, DischargeArray, Readings, Set, At, Points, Prorate}
+use Rattle.edit_bodies.specs.declared.members.Member.TheVariants.{Name, Zone, Gap, StageArray, DischargeArray, Readings, Set, At, Points, Prorate, Rating, Rows, From, Until, Number, Gage, Discharge, Grade}
 use Rattle.edits.specs.declared.content.What.{What}
-use Rattle.edits.specs.declared.content.What.TheVariants.{AddStation, SetStation, PutReadings, PutCorrection, DropCorrection, PutShift, DropShift}
+use Rattle.edits.specs.declared.content.What.TheVariants.{AddStation, SetStation, PutReadings, PutCorrection, DropCorrection, PutShift, DropShift, AddRating, PutPeriod, DropPeriod, PutMeasurement, DropMeasurement}
 
 -- the kind of a name
 abbrev pub kind_of_text : List ℕ → Option Kind
@@ -20,7 +20,12 @@ kind_of_text text =
     else (if bytes_eq text (codes "DropCorrection") then Some kinds.DropCorrection
     else (if bytes_eq text (codes "PutShift") then Some kinds.PutShift
     else (if bytes_eq text (codes "DropShift") then Some kinds.DropShift
-    else None))))))
+    else (if bytes_eq text (codes "AddRating") then Some kinds.AddRating
+    else (if bytes_eq text (codes "PutPeriod") then Some kinds.PutPeriod
+    else (if bytes_eq text (codes "DropPeriod") then Some kinds.DropPeriod
+    else (if bytes_eq text (codes "PutMeasurement") then Some kinds.PutMeasurement
+    else (if bytes_eq text (codes "DropMeasurement") then Some kinds.DropMeasurement
+    else None)))))))))))
 
 abbrev pub kind_of : Data → Option Kind
 kind_of value = string_of kind_of_text value
@@ -61,3 +66,25 @@ row kinds.PutShift = do
 row kinds.DropShift = do
   at ← required At instant_of
   done (DropShift at)
+row kinds.AddRating = do
+  rating ← required Rating rating_number_of
+  table ← required Rows table_of
+  done (AddRating rating table)
+row kinds.PutPeriod = do
+  rating ← required Rating rating_number_of
+  from ← required From instant_of
+  until ← required Until (until_of from)
+  done (PutPeriod (record { from = from; until = until; rating = rating }))
+row kinds.DropPeriod = do
+  from ← required From instant_of
+  done (DropPeriod from)
+row kinds.PutMeasurement = do
+  number ← required Number measurement_number_of
+  at ← required At instant_of
+  gage ← required Gage stage_of
+  discharge ← required Discharge discharge_of
+  grade ← required Grade grade_of
+  done (PutMeasurement (record { number = number; at = at; gage = gage; discharge = discharge; grade = grade }))
+row kinds.DropMeasurement = do
+  number ← required Number measurement_number_of
+  done (DropMeasurement number)

@@ -1,25 +1,26 @@
 -- What serde_json states of a tree over borrowed text, where floats hold all its numbers.
 use Rattle.std.specs.Prelude.{◌≡◌, ℕ, ◌<◌, List, length, bytes_eq, All, Bool, true, false, ◌&&◌, Option, Some, None, is_some, Vec}
+use Rattle.std.specs.Float.{float_zero}
 use Rattle.std.specs.List.{AllWithin, HoldsAt}
 use Rattle.std.specs.Borrow.{Bor}
 use Rattle.std.specs.declared.alloc.Global.{Global}
 use Rattle.json.specs.Json as json
 use Rattle.json.specs.Value.{value_view, items_view, members_view}
 use Rattle.json.specs.declared.value.Value.{Value}
-use Rattle.serde_json.specs.Data.{Num, Data, null, boolean, number, string, array, object, Items, no_items, item, Members, no_members, put}
+use Rattle.serde_json.specs.Data.{Num, float, Data, null, boolean, number, string, array, object, Items, no_items, item, Members, no_members, put}
 use Rattle.serde_json.specs.Read.{number_of}
 
--- a number, if a float holds it
-abbrev pub number_or_null : Option Num → Data
-number_or_null (Some n) = number n
-number_or_null None = null
+-- a number, if a float holds it; where none does, it is told as a float: as no whole number, and as nothing else than a number
+abbrev pub number_or_float : Option Num → Data
+number_or_float (Some n) = number n
+number_or_float None = number (float float_zero)
 
 -- the value of a tree; of members of one name the last stays
 abbrev mutual
   pub data_of : json.Json → Data
   data_of json.null = null
   data_of (json.boolean b) = boolean b
-  data_of (json.number s) = number_or_null (number_of s)
+  data_of (json.number s) = number_or_float (number_of s)
   data_of (json.string s) = string s
   data_of (json.array js) = array (items_of js)
   data_of (json.object ms) = object (members_of ms no_members)

@@ -166,19 +166,19 @@ fn set_from(number: u64) -> Option<u8>
 }
 
 /// The whole number that a value states.
-fn whole_in(value: &Value<'_>) -> Option<u64>
+pub(crate) fn whole_in(value: &Value<'_>) -> Option<u64>
     ensures { result ≡ whole_of (stated value.now) }
 {
     number_in(value.as_number()?)?.as_u64()
 }
 
-/// Takes out the instant of an entry.
-pub(crate) fn take_at(fields: &mut Fields<'_>) -> Result<Second, BodyFault>
-    ensures read { IsTaken (required Member.At instant_of) fields.old result fields.new }
+/// Takes out an instant.
+pub(crate) fn take_instant(fields: &mut Fields<'_>, member: Member) -> Result<Second, BodyFault>
+    ensures read { IsTaken (required member instant_of) fields.old result fields.new }
     ensures stamp { IfOk result IsStamp }
 {
-    let text = take_text(fields, Member::At)?;
-    read_instant(text.as_bytes()).ok_or(BodyFault::Body(Member::At))
+    let text = take_text(fields, member)?;
+    read_instant(text.as_bytes()).ok_or(BodyFault::Body(member))
 }
 
 /// Takes out whether an entry goes over to the next one in a straight line.

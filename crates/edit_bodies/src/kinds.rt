@@ -9,11 +9,15 @@ ghost use Rattle.edits.specs.Lawful.{IsLawful};
 use crate::curve_points::take_points;
 use crate::faults::BodyFault;
 use crate::grammars::{
-    take_array, take_at, take_gap, take_name, take_prorate, take_set, take_text, take_zone,
+    take_array, take_gap, take_instant, take_name, take_prorate, take_set, take_text, take_zone,
 };
+use crate::measurements::{take_discharge, take_gage, take_grade, take_measurement_number};
 use crate::members::{Fields, Member};
+use crate::periods::take_until;
+use crate::rating_rows::{take_rating_number, take_table};
 use crate::reading_rows::take_readings;
-use edits::What;
+use edits::{Measurement, What};
+use ratings::Period;
 use std::alloc::Global;
 
 /// The kind of an edit.
@@ -33,6 +37,16 @@ pub enum Kind {
     PutShift,
     /// Takes out an entry of the shifts.
     DropShift,
+    /// Adds a rating.
+    AddRating,
+    /// Puts a period.
+    PutPeriod,
+    /// Takes out a period.
+    DropPeriod,
+    /// Puts a field measurement.
+    PutMeasurement,
+    /// Takes out a field measurement.
+    DropMeasurement,
 }
 
 /// Takes the kind out of the members.
@@ -61,6 +75,16 @@ fn kind_named(text: &[u8]) -> Option<Kind>
         Some(Kind::PutShift)
     } else if text == b"DropShift".as_slice() {
         Some(Kind::DropShift)
+    } else if text == b"AddRating".as_slice() {
+        Some(Kind::AddRating)
+    } else if text == b"PutPeriod".as_slice() {
+        Some(Kind::PutPeriod)
+    } else if text == b"DropPeriod".as_slice() {
+        Some(Kind::DropPeriod)
+    } else if text == b"PutMeasurement".as_slice() {
+        Some(Kind::PutMeasurement)
+    } else if text == b"DropMeasurement".as_slice() {
+        Some(Kind::DropMeasurement)
     } else {
         None
     }
@@ -83,6 +107,11 @@ pub(crate) fn take_what(
         Kind::DropCorrection => take_dropped_correction(fields),
         Kind::PutShift => take_shift(fields),
         Kind::DropShift => take_dropped_shift(fields),
+        Kind::AddRating => take_rating(alloc, fields),
+        Kind::PutPeriod => take_period(fields),
+        Kind::DropPeriod => take_dropped_period(fields),
+        Kind::PutMeasurement => take_measurement(fields),
+        Kind::DropMeasurement => take_dropped_measurement(fields),
     }
 }
 
@@ -137,7 +166,7 @@ fn take_correction(fields: &mut Fields<'_>) -> Result<What, BodyFault>
     ensures lawful { IfOk result IsLawful }
 {
     let set = take_set(fields)?;
-    let at = take_at(fields)?;
+    let at = take_instant(fields, Member::At)?;
     let curve = take_points(fields)?;
     let prorate = take_prorate(fields)?;
     Ok(What::PutCorrection {
@@ -154,7 +183,7 @@ fn take_dropped_correction(fields: &mut Fields<'_>) -> Result<What, BodyFault>
     ensures lawful { IfOk result IsLawful }
 {
     let set = take_set(fields)?;
-    let at = take_at(fields)?;
+    let at = take_instant(fields, Member::At)?;
     Ok(What::DropCorrection { set, at })
 }
 
@@ -163,7 +192,7 @@ fn take_shift(fields: &mut Fields<'_>) -> Result<What, BodyFault>
     ensures read { IsTaken (row Kind.PutShift) fields.old result fields.new }
     ensures lawful { IfOk result IsLawful }
 {
-    let at = take_at(fields)?;
+    let at = take_instant(fields, Member::At)?;
     let curve = take_points(fields)?;
     let prorate = take_prorate(fields)?;
     Ok(What::PutShift { at, curve, prorate })
@@ -174,6 +203,72 @@ fn take_dropped_shift(fields: &mut Fields<'_>) -> Result<What, BodyFault>
     ensures read { IsTaken (row Kind.DropShift) fields.old result fields.new }
     ensures lawful { IfOk result IsLawful }
 {
-    let at = take_at(fields)?;
+    let at = take_instant(fields, Member::At)?;
     Ok(What::DropShift { at })
+}
+
+/// The addition of a rating.
+fn take_rating(alloc: Global, fields: &mut Fields<'_>) -> Result<What, BodyFault>
+    ensures read { IsTaken (row Kind.AddRating) fields.old result fields.new }
+    ensures lawful { IfOk result IsLawful }
+{
+    let rating = take_rating_number(fields)?;
+    let table = take_table(alloc, fields)?;
+    Ok(What::AddRating { rating, table })
+}
+
+/// The put of a period.
+fn take_period(fields: &mut Fields<'_>) -> Result<What, BodyFault>
+    ensures read { IsTaken (row Kind.PutPeriod) fields.old result fields.new }
+    ensures lawful { IfOk result IsLawful }
+{
+    let rating = take_rating_number(fields)?;
+    let from = take_instant(fields, Member::From)?;
+    let until = take_until(fields, from)?;
+    Ok(What::PutPeriod {
+        period: Period {
+            from,
+            until,
+            rating,
+        },
+    })
+}
+
+/// The drop of a period.
+fn take_dropped_period(fields: &mut Fields<'_>) -> Result<What, BodyFault>
+    ensures read { IsTaken (row Kind.DropPeriod) fields.old result fields.new }
+    ensures lawful { IfOk result IsLawful }
+{
+    let from = take_instant(fields, Member::From)?;
+    Ok(What::DropPeriod { from })
+}
+
+/// The put of a field measurement.
+fn take_measurement(fields: &mut Fields<'_>) -> Result<What, BodyFault>
+    ensures read { IsTaken (row Kind.PutMeasurement) fields.old result fields.new }
+    ensures lawful { IfOk result IsLawful }
+{
+    let number = take_measurement_number(fields)?;
+    let at = take_instant(fields, Member::At)?;
+    let gage = take_gage(fields)?;
+    let discharge = take_discharge(fields)?;
+    let grade = take_grade(fields)?;
+    Ok(What::PutMeasurement {
+        measurement: Measurement {
+            number,
+            at,
+            gage,
+            discharge,
+            grade,
+        },
+    })
+}
+
+/// The drop of a field measurement.
+fn take_dropped_measurement(fields: &mut Fields<'_>) -> Result<What, BodyFault>
+    ensures read { IsTaken (row Kind.DropMeasurement) fields.old result fields.new }
+    ensures lawful { IfOk result IsLawful }
+{
+    let number = take_measurement_number(fields)?;
+    Ok(What::DropMeasurement { number })
 }

@@ -39,6 +39,22 @@ pub enum Member {
     Points,
     /// Whether an entry goes over to the next one in a straight line.
     Prorate,
+    /// The number of a rating.
+    Rating,
+    /// The rows of a rating.
+    Rows,
+    /// The start of a period.
+    From,
+    /// The end of a period.
+    Until,
+    /// The number of a field measurement.
+    Number,
+    /// The gage height of a field measurement.
+    Gage,
+    /// The discharge of a field measurement.
+    Discharge,
+    /// The grade of a field measurement.
+    Grade,
     /// A member that no such edit has.
     Further,
 }
@@ -63,6 +79,14 @@ impl Member {
             Member::At => "at",
             Member::Points => "points",
             Member::Prorate => "prorate",
+            Member::Rating => "rating",
+            Member::Rows => "rows",
+            Member::From => "from",
+            Member::Until => "until",
+            Member::Number => "number",
+            Member::Gage => "gage",
+            Member::Discharge => "discharge",
+            Member::Grade => "grade",
             Member::Further => "?",
         }
     }

@@ -1,13 +1,13 @@
 //! The items of an array, and the strings among them.
 
 ghost use Rattle.std.specs.Prelude.{◌≡◌, IfSome, option_map};
-ghost use Rattle.edit_bodies.specs.Grammars.{amount_of, instant_of, quantity_of, stage_of};
+ghost use Rattle.edit_bodies.specs.Grammars.{amount_of, discharge_of, instant_of, quantity_of, stage_of};
 ghost use Rattle.edit_bodies.specs.Trees.{items_stated, stated};
-ghost use Rattle.fixed_units.specs.Quantities.{IsAmount, IsStage, IsStamp};
+ghost use Rattle.fixed_units.specs.Quantities.{IsAmount, IsDischarge, IsStage, IsStamp};
 ghost use Rattle.serde_json.specs.Find.{as_array};
 
 use civil_days::read_instant;
-use fixed_units::{Micro, Second, is_amount, is_stage, read_decimal};
+use fixed_units::{Micro, Second, is_amount, is_discharge, is_stage, read_decimal};
 use json::Value;
 
 /// The items of an array.
@@ -49,6 +49,19 @@ pub(crate) fn amount_in(value: &Value<'_>) -> Option<Micro>
     let amount = quantity_in(value)?;
     if is_amount(amount.get()) {
         Some(amount)
+    } else {
+        None
+    }
+}
+
+/// The discharge that a string writes.
+pub(crate) fn discharge_in(value: &Value<'_>) -> Option<Micro>
+    ensures value { result ≡ discharge_of (stated value.now) }
+    ensures discharge { IfSome result IsDischarge }
+{
+    let discharge = quantity_in(value)?;
+    if is_discharge(discharge.get()) {
+        Some(discharge)
     } else {
         None
     }

@@ -8,7 +8,7 @@ use Rattle.matchit.specs.Route.{scan}
 use Rattle.matchit.specs.Seek.{slash, has_slash}
 use Rattle.http_api.specs.Routes.{Begins, IsSpelled, tokens_of, RoutesAreApart}
 use Rattle.http_api.specs.declared.routes.Route.{Route}
-use Rattle.http_api.specs.declared.routes.Route.TheVariants.{Edits, Turns, Settle, Status, Station, DayOf}
+use Rattle.http_api.specs.declared.routes.Route.TheVariants.{Edits, Rating, Turns, Settle, Status, Station, DayOf, Measurement}
 
 -- what is behind a parameter is nothing, or begins with a slash
 abbrev pub ends_part : List ℕ → Bool
@@ -109,41 +109,69 @@ AreToldApart one other = (one ≡ other) ⊎ (are_apart_by (tokens_of one) (toke
 told_apart : (one other : Route) → AreToldApart one other
 unfolding tokens_of scan
 told_apart Edits Edits = inl refl
+told_apart Rating Rating = inl refl
 told_apart Turns Turns = inl refl
 told_apart Settle Settle = inl refl
 told_apart Status Status = inl refl
 told_apart Station Station = inl refl
 told_apart DayOf DayOf = inl refl
+told_apart Measurement Measurement = inl refl
+told_apart Edits Rating = inr refl
 told_apart Edits Turns = inr refl
 told_apart Edits Settle = inr refl
 told_apart Edits Status = inr refl
 told_apart Edits Station = inr refl
 told_apart Edits DayOf = inr refl
+told_apart Edits Measurement = inr refl
+told_apart Rating Edits = inr refl
+told_apart Rating Turns = inr refl
+told_apart Rating Settle = inr refl
+told_apart Rating Status = inr refl
+told_apart Rating Station = inr refl
+told_apart Rating DayOf = inr refl
+told_apart Rating Measurement = inr refl
 told_apart Turns Edits = inr refl
+told_apart Turns Rating = inr refl
 told_apart Turns Settle = inr refl
 told_apart Turns Status = inr refl
 told_apart Turns Station = inr refl
 told_apart Turns DayOf = inr refl
+told_apart Turns Measurement = inr refl
 told_apart Settle Edits = inr refl
+told_apart Settle Rating = inr refl
 told_apart Settle Turns = inr refl
 told_apart Settle Status = inr refl
 told_apart Settle Station = inr refl
 told_apart Settle DayOf = inr refl
+told_apart Settle Measurement = inr refl
 told_apart Status Edits = inr refl
+told_apart Status Rating = inr refl
 told_apart Status Turns = inr refl
 told_apart Status Settle = inr refl
 told_apart Status Station = inr refl
 told_apart Status DayOf = inr refl
+told_apart Status Measurement = inr refl
 told_apart Station Edits = inr refl
+told_apart Station Rating = inr refl
 told_apart Station Turns = inr refl
 told_apart Station Settle = inr refl
 told_apart Station Status = inr refl
 told_apart Station DayOf = inr refl
+told_apart Station Measurement = inr refl
 told_apart DayOf Edits = inr refl
+told_apart DayOf Rating = inr refl
 told_apart DayOf Turns = inr refl
 told_apart DayOf Settle = inr refl
 told_apart DayOf Status = inr refl
 told_apart DayOf Station = inr refl
+told_apart DayOf Measurement = inr refl
+told_apart Measurement Edits = inr refl
+told_apart Measurement Rating = inr refl
+told_apart Measurement Turns = inr refl
+told_apart Measurement Settle = inr refl
+told_apart Measurement Status = inr refl
+told_apart Measurement Station = inr refl
+told_apart Measurement DayOf = inr refl
 
 pub are_apart : RoutesAreApart
 are_apart one other target h k =

@@ -1,9 +1,9 @@
 -- Asks of one question are the same.
-use Rattle.std.proofs.Common.{◌≡◌, ap}
+use Rattle.std.proofs.Common.{◌≡◌, ap, sym, ◌∙◌}
 use Rattle.edit_bodies.specs.Bodies.{Parts, parts}
 use Rattle.edits.proofs.EditLemmas.{same_edit}
 use Rattle.edits.specs.declared.content.Edit.{Edit}
-use Rattle.http_api.specs.Asks.{AreTold}
+use Rattle.http_api.specs.Asks.{AreTold, RatingsAreOneEdit, asked_edit, asked_rating}
 use Rattle.http_api.specs.declared.asks.Ask.TheVariants as asks
 
 same_parts : (one other : Edit) → parts one ≡ parts other → one ≡ other
@@ -17,36 +17,52 @@ are_told (asks.Edit one) (asks.Edit other) e =
     ap asks.Edit (same_parts one other same)
 are_told (asks.Edit one) (asks.Station other) e = cc
 are_told (asks.Edit one) (asks.DayOf other later) e = cc
+are_told (asks.Edit one) (asks.Measurement other later) e = cc
 are_told (asks.Edit one) (asks.Turns other) e = cc
 are_told (asks.Edit one) asks.Settle e = cc
 are_told (asks.Edit one) asks.Counts e = cc
 are_told (asks.Station one) (asks.Edit other) e = cc
 are_told (asks.Station one) (asks.Station other) e = cc
 are_told (asks.Station one) (asks.DayOf other later) e = cc
+are_told (asks.Station one) (asks.Measurement other later) e = cc
 are_told (asks.Station one) (asks.Turns other) e = cc
 are_told (asks.Station one) asks.Settle e = cc
 are_told (asks.Station one) asks.Counts e = cc
 are_told (asks.DayOf one day) (asks.Edit other) e = cc
 are_told (asks.DayOf one day) (asks.Station other) e = cc
 are_told (asks.DayOf one day) (asks.DayOf other later) e = cc
+are_told (asks.DayOf one day) (asks.Measurement other later) e = cc
 are_told (asks.DayOf one day) (asks.Turns other) e = cc
 are_told (asks.DayOf one day) asks.Settle e = cc
 are_told (asks.DayOf one day) asks.Counts e = cc
+are_told (asks.Measurement one number) (asks.Edit other) e = cc
+are_told (asks.Measurement one number) (asks.Station other) e = cc
+are_told (asks.Measurement one number) (asks.DayOf other later) e = cc
+are_told (asks.Measurement one number) (asks.Measurement other later) e = cc
+are_told (asks.Measurement one number) (asks.Turns other) e = cc
+are_told (asks.Measurement one number) asks.Settle e = cc
+are_told (asks.Measurement one number) asks.Counts e = cc
 are_told (asks.Turns one) (asks.Edit other) e = cc
 are_told (asks.Turns one) (asks.Station other) e = cc
 are_told (asks.Turns one) (asks.DayOf other later) e = cc
+are_told (asks.Turns one) (asks.Measurement other later) e = cc
 are_told (asks.Turns one) (asks.Turns other) e = cc
 are_told (asks.Turns one) asks.Settle e = cc
 are_told (asks.Turns one) asks.Counts e = cc
 are_told asks.Settle (asks.Edit other) e = cc
 are_told asks.Settle (asks.Station other) e = cc
 are_told asks.Settle (asks.DayOf other later) e = cc
+are_told asks.Settle (asks.Measurement other later) e = cc
 are_told asks.Settle (asks.Turns other) e = cc
 are_told asks.Settle asks.Settle e = cc
 are_told asks.Settle asks.Counts e = cc
 are_told asks.Counts (asks.Edit other) e = cc
 are_told asks.Counts (asks.Station other) e = cc
 are_told asks.Counts (asks.DayOf other later) e = cc
+are_told asks.Counts (asks.Measurement other later) e = cc
 are_told asks.Counts (asks.Turns other) e = cc
 are_told asks.Counts asks.Settle e = cc
 are_told asks.Counts asks.Counts e = cc
+
+pub ratings_are_one : RatingsAreOneEdit
+ratings_are_one site rating by reference json text rows e f = ap asked_edit e ∙ sym (ap (asked_rating site rating by reference) f)

@@ -3,6 +3,7 @@ mod AskLemmas
 mod FindingLemmas
 mod FittingLemmas
 mod NumberLemmas
+mod RdbLemmas
 mod ReplyLemmas
 mod RouteLemmas
 mod TextLemmas

@@ -2,7 +2,7 @@
 use Rattle.std.proofs.Common.{◌≡◌, List, ℕ, ◌++◌, append_assoc}
 use Rattle.json.specs.Print.{quoted}
 
--- two numbers, each behind the name of its member, and the end
+-- two values, each behind the name of its member, and the end
 pub numbers_joined : (out first one second other end w x z : List ℕ) → w ≡ out ++ (first ++ one) → x ≡ w ++ (second ++ other) → z ≡ x ++ end
     → z ≡ out ++ (first ++ one ++ second ++ other ++ end)
 numbers_joined out first one second other end w x z hw hx hz = rw (hz, hx, hw) (simp append_assoc)

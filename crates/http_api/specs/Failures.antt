@@ -1,12 +1,14 @@
 -- The failures: of each reply that is no answer, its status, its code and what it tells beside.
 use Rattle.std.specs.Prelude.{ℕ, List, [], ◌++◌, codes, decimal, Option, Some, None}
+use Rattle.civil_days.specs.Texts.{instant_text}
 use Rattle.edit_bodies.specs.Members.{member_text}
-use Rattle.office_inputs.specs.declared.refusals.Which.{Which}
-use Rattle.office_inputs.specs.declared.refusals.Which.TheVariants.{Stations, Readings, DayReadings, Entries}
-use Rattle.office_inputs.specs.declared.refusals.Full.{Full}
-use Rattle.office_inputs.specs.declared.refusals.Full.TheVariants.{Events, Cells}
-use Rattle.office_inputs.specs.declared.refusals.Refusal.{Refusal}
-use Rattle.office_inputs.specs.declared.refusals.Refusal.TheVariants as refusals
+use Rattle.rating_tables.specs.Rdb.{line_of}
+use Rattle.station_inputs.specs.declared.refusals.Which.{Which}
+use Rattle.station_inputs.specs.declared.refusals.Which.TheVariants.{Stations, Readings, DayReadings, Ratings, Entries, Periods, Measurements}
+use Rattle.station_inputs.specs.declared.refusals.Full.{Full}
+use Rattle.station_inputs.specs.declared.refusals.Full.TheVariants.{Events, Cells}
+use Rattle.station_inputs.specs.declared.refusals.Refusal.{Refusal}
+use Rattle.station_inputs.specs.declared.refusals.Refusal.TheVariants as refusals
 use Rattle.wire.specs.declared.messages.Verb.{Verb}
 use Rattle.wire.specs.declared.messages.Verb.TheVariants.{Get, Post, Other}
 use Rattle.http_api.specs.JsonTexts.{bool_text}
@@ -39,6 +41,7 @@ denial_row denials.NoRoute = row 404 (codes "NoRoute") details.Nothing
 denial_row (denials.NotAllowed verb) = not_allowed verb
 denial_row denials.Json = row 400 (codes "Json") details.Nothing
 denial_row (denials.Body member) = row 400 (codes "Body") (details.Member member)
+denial_row (denials.Rdb fault) = row 400 (codes "Rdb") (details.Line (line_of fault))
 denial_row denials.NoMemory = row 507 (codes "NoMemory") details.Nothing
 
 -- why an edit is refused
@@ -47,6 +50,9 @@ refusal_row (refusals.RefReused edit) = row 409 (codes "RefReused") (details.Edi
 refusal_row refusals.NoStation = row 409 (codes "NoStation") details.Nothing
 refusal_row refusals.StationExists = row 409 (codes "StationExists") details.Nothing
 refusal_row (refusals.Limit which) = row 409 (codes "Limit") (details.Limit which)
+refusal_row refusals.NoRating = row 409 (codes "NoRating") details.Nothing
+refusal_row refusals.RatingExists = row 409 (codes "RatingExists") details.Nothing
+refusal_row (refusals.PeriodOverlap from) = row 409 (codes "PeriodOverlap") (details.From from)
 refusal_row refusals.NoEntry = row 409 (codes "NoEntry") details.Nothing
 refusal_row (refusals.HistoryFull full) = row 409 (codes "HistoryFull") (details.Full full)
 refusal_row refusals.JournalFull = row 409 (codes "JournalFull") details.Nothing
@@ -60,7 +66,9 @@ failure_of (replies.Turned pending published) = None
 failure_of (replies.Counts edits pending) = None
 failure_of (replies.Station station) = None
 failure_of (replies.Day day) = None
+failure_of (replies.Measurement departure) = None
 failure_of replies.NoStation = Some (row 404 (codes "NoStation") details.Nothing)
+failure_of replies.NoMeasurement = Some (row 404 (codes "NoMeasurement") details.Nothing)
 failure_of (replies.Denied denied) = Some (denial_row denied)
 failure_of (replies.Refused refusal) = Some (refusal_row refusal)
 failure_of replies.NoLength = Some (row 411 (codes "NoLength") details.Nothing)
@@ -73,7 +81,10 @@ abbrev pub which_text : Which → List ℕ
 which_text Stations = codes "Stations"
 which_text Readings = codes "Readings"
 which_text DayReadings = codes "DayReadings"
+which_text Ratings = codes "Ratings"
 which_text Entries = codes "Entries"
+which_text Periods = codes "Periods"
+which_text Measurements = codes "Measurements"
 
 abbrev pub full_text : Full → List ℕ
 full_text Events = codes "Events"
@@ -83,6 +94,8 @@ full_text Cells = codes "Cells"
 abbrev pub detail_text : Detail → List ℕ
 detail_text details.Nothing = []
 detail_text (details.Edit edit) = codes ",\"edit\":" ++ decimal edit
+detail_text (details.From from) = codes ",\"from\":\"" ++ instant_text from ++ codes "\""
+detail_text (details.Line line) = codes ",\"line\":" ++ decimal line
 detail_text (details.Limit which) = codes ",\"limit\":\"" ++ which_text which ++ codes "\""
 detail_text (details.Full full) = codes ",\"full\":\"" ++ full_text full ++ codes "\""
 detail_text (details.Member member) = codes ",\"member\":\"" ++ member_text member ++ codes "\""

@@ -1,5 +1,6 @@
 pub mod Asks
 pub mod Days
+pub mod Departures
 pub mod Failures
 pub mod JsonTexts
 pub mod Parameters

@@ -5,7 +5,8 @@ use Rattle.std.specs.Char.{is_ascii_digit}
 use Rattle.std.specs.Str.Parse.{digits_value}
 use Rattle.matchit.specs.Params.{named}
 use Rattle.civil_days.specs.Spelling.{day_of_text}
-use Rattle.edit_bodies.specs.Texts.{site_of_text}
+use Rattle.edit_bodies.specs.Grammars.{kept_if, kept_within}
+use Rattle.edit_bodies.specs.Texts.{are_initials, is_reference, site_of_text}
 use Rattle.fixed_units.specs.Quantities.{SiteNumber}
 
 -- what the parameters of a target took: the name of each with its part of the target
@@ -27,6 +28,13 @@ turns_of count = if nat_le 1 count && nat_le count 1_000 then Some count else No
 abbrev pub count_of : List ℕ → Option ℕ
 count_of text = option_and_then turns_of (number_of text)
 
+-- the number of a rating, and that of a measurement
+abbrev pub rating_of : List ℕ → Option ℕ
+rating_of text = option_and_then (kept_within 1 999_999) (number_of text)
+
+abbrev pub measurement_of : List ℕ → Option ℕ
+measurement_of text = option_and_then (kept_within 1 999_999_999) (number_of text)
+
 -- how many turns are asked for, which site, and which day
 abbrev pub count_in : Parameters → Option ℕ
 count_in taken = option_and_then count_of (named (codes "count") taken)
@@ -36,3 +44,17 @@ site_in taken = option_and_then site_of_text (named (codes "site") taken)
 
 abbrev pub day_in : Parameters → Option ℤ
 day_in taken = option_and_then day_of_text (named (codes "day") taken)
+
+-- which rating is added, by whom and under which reference
+abbrev pub rating_in : Parameters → Option ℕ
+rating_in taken = option_and_then rating_of (named (codes "rating") taken)
+
+abbrev pub by_in : Parameters → Option (List ℕ)
+by_in taken = option_and_then (kept_if are_initials) (named (codes "by") taken)
+
+abbrev pub reference_in : Parameters → Option (List ℕ)
+reference_in taken = option_and_then (kept_if is_reference) (named (codes "ref") taken)
+
+-- which measurement
+abbrev pub measurement_in : Parameters → Option ℕ
+measurement_in taken = option_and_then measurement_of (named (codes "number") taken)

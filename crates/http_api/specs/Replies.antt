@@ -5,11 +5,12 @@ use Rattle.wire.specs.ReplyHead.{reply_bytes}
 use Rattle.wire.specs.declared.messages.Verb.{Verb}
 use Rattle.wire.specs.declared.replies.Kind.TheVariants.{Json}
 use Rattle.http_api.specs.Days.{day_text}
+use Rattle.http_api.specs.Departures.{departure_text}
 use Rattle.http_api.specs.Failures.{Row, failure_of, failure_text}
 use Rattle.http_api.specs.JsonTexts.{bool_text}
 use Rattle.http_api.specs.Stations.{station_text}
 use Rattle.http_api.specs.declared.replies.Reply.{Reply}
-use Rattle.http_api.specs.declared.replies.Reply.TheVariants.{Edit, Turned, Counts, Station, Day, NoStation, Denied, Refused, NoLength, TooLarge, Malformed, NoMemory}
+use Rattle.http_api.specs.declared.replies.Reply.TheVariants.{Edit, Turned, Counts, Station, Day, Measurement, NoStation, NoMeasurement, Denied, Refused, NoLength, TooLarge, Malformed, NoMemory}
 
 -- an accepted edit
 abbrev pub edit_text : ℕ → Bool → List ℕ
@@ -32,7 +33,9 @@ answer_text (Turned pending published) = turned_text pending published
 answer_text (Counts edits pending) = counts_text edits pending
 answer_text (Station station) = station_text station.now.station
 answer_text (Day day) = day_text day
+answer_text (Measurement departure) = departure_text departure
 answer_text NoStation = []
+answer_text NoMeasurement = []
 answer_text (Denied denied) = []
 answer_text (Refused refusal) = []
 answer_text NoLength = []

@@ -9,7 +9,9 @@ use Rattle.matchit.specs.Order.{placed}
 use Rattle.matchit.specs.Params.{walk}
 use Rattle.matchit.specs.Seek.{first, has_slash}
 use Rattle.matchit.specs.declared.error.InsertError.{InsertError}
-use Rattle.http_api.specs.Parameters.{Parameters, count_in, site_in, day_in}
+use Rattle.edits.specs.Lawful.{IsRatingNumber}
+use Rattle.fixed_units.specs.Quantities.{SiteNumber}
+use Rattle.http_api.specs.Parameters.{Parameters, by_in, count_in, day_in, measurement_in, rating_in, reference_in, site_in}
 use Rattle.wire.specs.declared.messages.Verb.{Verb}
 use Rattle.wire.specs.declared.messages.Verb.TheVariants.{Get, Post}
 use Rattle.http_api.specs.declared.routes.Route.{Route}
@@ -20,15 +22,18 @@ use Rattle.http_api.specs.declared.routes.Target.TheVariants as targets
 -- how the targets of a route are spelled, with each parameter in braces
 abbrev pub spelling : Route → List ℕ
 spelling routes.Edits = codes "/edits"
+spelling routes.Rating = codes "/ratings/{site}/{rating}/{by}/{ref}"
 spelling routes.Turns = codes "/turns/{count}"
 spelling routes.Settle = codes "/settle"
 spelling routes.Status = codes "/status"
 spelling routes.Station = codes "/stations/{site}"
 spelling routes.DayOf = codes "/stations/{site}/days/{day}"
+spelling routes.Measurement = codes "/stations/{site}/measurements/{number}"
 
 -- the routes that there are
 abbrev pub all_routes : List Route
-all_routes = routes.Edits ∷ routes.Turns ∷ routes.Settle ∷ routes.Status ∷ routes.Station ∷ routes.DayOf ∷ []
+all_routes =
+    routes.Edits ∷ routes.Rating ∷ routes.Turns ∷ routes.Settle ∷ routes.Status ∷ routes.Station ∷ routes.DayOf ∷ routes.Measurement ∷ []
 
 -- the rows of `matchit` with that of a route, where the spelling reads as one
 abbrev pub placed_by : Result Scan InsertError → Route → RowsOf (RouteOf Route) → RowsOf (RouteOf Route)
@@ -79,23 +84,47 @@ RowsAreThoseThatFit =
     (target : List ℕ) (route : Route)
     → option_map (λ (row : RouteOf Route). row.value) (first route_rows target) ≡ Some route ↔ Fits route target
 
+-- the rating of a number that a person adds to a station under a reference, if each is there
+abbrev pub rating_target : Option SiteNumber → Option ℕ → Option (List ℕ) → Option (List ℕ) → Option Target
+rating_target None rating by reference = None
+rating_target (Some site) None by reference = None
+rating_target (Some site) (Some rating) None reference = None
+rating_target (Some site) (Some rating) (Some by) None = None
+rating_target (Some site) (Some rating) (Some by) (Some reference) = Some (targets.Rating site rating by reference)
+
 -- what a target of a route names, if each of its parameters is of its grammar
 abbrev pub target_by : Route → Parameters → Option Target
 target_by routes.Edits taken = Some targets.Edits
+target_by routes.Rating taken = rating_target (site_in taken) (rating_in taken) (by_in taken) (reference_in taken)
 target_by routes.Turns taken = option_map targets.Turns (count_in taken)
 target_by routes.Settle taken = Some targets.Settle
 target_by routes.Status taken = Some targets.Status
 target_by routes.Station taken = option_map targets.Station (site_in taken)
 target_by routes.DayOf taken = option_and_then (λ site. option_map (targets.DayOf site) (day_in taken)) (site_in taken)
+target_by routes.Measurement taken =
+    option_and_then (λ site. option_map (targets.Measurement site) (measurement_in taken)) (site_in taken)
 
 -- the method of the requests for it
 abbrev pub verb_of : Target → Verb
 verb_of targets.Edits = Post
+verb_of (targets.Rating site rating by reference) = Post
 verb_of (targets.Turns count) = Post
 verb_of targets.Settle = Post
 verb_of targets.Status = Get
 verb_of (targets.Station site) = Get
 verb_of (targets.DayOf site day) = Get
+verb_of (targets.Measurement site number) = Get
+
+-- the number of a rating is one, wherever a target names it
+abbrev pub NamesRating : Target → Type 0
+NamesRating targets.Edits = Unit {0}
+NamesRating (targets.Rating site rating by reference) = IsRatingNumber rating
+NamesRating (targets.Turns count) = Unit {0}
+NamesRating targets.Settle = Unit {0}
+NamesRating targets.Status = Unit {0}
+NamesRating (targets.Station site) = Unit {0}
+NamesRating (targets.DayOf site day) = Unit {0}
+NamesRating (targets.Measurement site number) = Unit {0}
 
 -- what a target names by its row, whose parameters take their parts of it
 abbrev pub target_at : Option (RouteOf Route) → List ℕ → Option Target

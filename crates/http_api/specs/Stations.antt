@@ -1,7 +1,7 @@
 -- The body for a station: compact JSON, members in rising order of their names.
 use Rattle.std.specs.Prelude.{ℕ, List, ◌++◌, codes, decimal}
 use Rattle.json.specs.Print.{quoted}
-use Rattle.office_inputs.specs.Stations.{StationRecord}
+use Rattle.station_inputs.specs.Stations.{StationRecord}
 use Rattle.http_api.specs.JsonTexts.{site_text}
 
 -- the array of discharges and the gap

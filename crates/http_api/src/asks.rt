@@ -1,14 +1,17 @@
 //! What a request asks of the office.
 
 ghost use Rattle.std.specs.Prelude.{◌≡◌, IfOk, IfErr, Ok, Some};
-ghost use Rattle.http_api.specs.Asks.{ask_of, asked_at, asked_by, question, is_verb, IsDenial, IsDenialAt, IsDenialBy, AreTold};
+ghost use Rattle.http_api.specs.Asks.{ask_of, asked_at, asked_by, question, is_verb, IsDenial, IsDenialAt, IsDenialBy, AreTold, RatingsAreOneEdit};
+ghost use Rattle.http_api.specs.Routes.{NamesRating};
 ghost use Rattle.http_api.specs.declared.routes.Target.TheVariants as targets;
 
+use crate::rdb_bodies::rating_edit;
 use crate::routes::{Router, Target};
 use edit_bodies::{BodyFault, Member, read_edit};
 use edits::Edit;
 use fixed_units::{Day, Site};
 use json::Scratch;
+use ratings::RdbFault;
 use std::alloc::Global;
 use thiserror::Error;
 use wire::Verb;
@@ -22,6 +25,8 @@ pub enum Ask {
     Station(Site),
     /// What is known of a day of a station.
     DayOf(Site, Day),
+    /// What the field measurement of a number at a station says of the rating in force.
+    Measurement(Site, u32),
     /// To publish so many days, 1 to 1,000, as far as days are pending.
     Turns(u32),
     /// To publish every day that is pending.
@@ -45,6 +50,9 @@ pub enum Denied {
     /// This member of the body is the first that is missing or ill formed, or there is a further one.
     #[error("the member {0} is missing, ill formed or too many")]
     Body(Member),
+    /// The body is no rating in RDB.
+    #[error("the body is no rating in RDB: {0}")]
+    Rdb(RdbFault),
     /// There was no memory to read the body.
     #[error("there was no memory to read the body")]
     NoMemory,
@@ -56,7 +64,8 @@ impl Router {
     ///
     /// # Errors
     ///
-    /// Each cause exactly where it is the first; [`Denied::NoMemory`] only in place of what the body of an edit states.
+    /// Each cause exactly where it is the first; [`Denied::NoMemory`] only in place of what the body of an edit states, and of the
+    /// rating that a body in RDB states.
     #[tactic(auto, unfolding(crate::specs::Asks::ask_of))]
     pub fn read(
         &self,
@@ -84,6 +93,7 @@ fn ask_at(
     body: &[u8],
     scratch: &mut Scratch,
 ) -> Result<Ask, Denied>
+    requires { NamesRating target }
     ensures ask { IfOk result (λ ask. asked_at verb (Some target) body.now ≡ Ok (question ask)) }
     ensures denied { IfErr result (IsDenialAt verb target body.now) }
 {
@@ -107,16 +117,21 @@ fn is_verb(due: Verb, verb: Verb) -> bool
 
 /// What a request with the right method asks, by what its target names.
 fn ask_by(alloc: Global, target: Target, body: &[u8], scratch: &mut Scratch) -> Result<Ask, Denied>
+    requires { NamesRating target }
     ensures ask { IfOk result (λ ask. asked_by target body.now ≡ Ok (question ask)) }
     ensures denied { IfErr result (IsDenialBy target body.now) }
 {
     match target {
         Target::Edits => edit_in(alloc, body, scratch),
+        Target::Rating(site, rating, by, reference) => {
+            rating_edit(alloc, site, rating, by, reference, body)
+        }
         Target::Turns(count) => Ok(Ask::Turns(count)),
         Target::Settle => Ok(Ask::Settle),
         Target::Status => Ok(Ask::Counts),
         Target::Station(site) => Ok(Ask::Station(site)),
         Target::DayOf(site, day) => Ok(Ask::DayOf(site, day)),
+        Target::Measurement(site, number) => Ok(Ask::Measurement(site, number)),
     }
 }
 
@@ -136,4 +151,10 @@ fn edit_in(alloc: Global, body: &[u8], scratch: &mut Scratch) -> Result<Ask, Den
 /// Asks of one question are equal: a law, which does nothing.
 pub fn questions_tell_asks()
     ensures { AreTold }
+{}
+
+/// A rating whose body is JSON and one whose body is RDB are one edit, where all their values are equal: a law, which does
+/// nothing.
+pub fn ratings_are_one_edit()
+    ensures { RatingsAreOneEdit }
 {}

@@ -4,11 +4,11 @@ ghost use Rattle.std.specs.Prelude.{◌≡◌, ◌++◌, ◌∷◌, [], None, ta
 ghost use Rattle.http_api.specs.Failures.{denial_row, refusal_row, failure_of, failure_text, detail_text, which_text, full_text};
 
 use crate::asks::Denied;
-use crate::json_texts::write_flag;
+use crate::json_texts::{write_flag, write_time};
 use crate::replies::Reply;
 use edit_bodies::Member;
-use fixed_units::{NoMemory, Text};
-use office_inputs::{Full, Refusal, Which};
+use fixed_units::{NoMemory, Second, Text};
+use station_inputs::{Full, Refusal, Which};
 use std::marker::Model;
 use wire::Verb;
 
@@ -19,6 +19,10 @@ pub(crate) enum Detail {
     Nothing,
     /// The number of an edit.
     Edit(u64),
+    /// The start of a period.
+    From(Second),
+    /// The number of a line.
+    Line(u64),
     /// Which limit was met.
     Limit(Which),
     /// What is full.
@@ -68,6 +72,7 @@ pub(crate) fn failure_of(reply: &Reply<'_>) -> Option<Failure>
 {
     match reply {
         Reply::NoStation => Some(told(404, b"NoStation", Detail::Nothing)),
+        Reply::NoMeasurement => Some(told(404, b"NoMeasurement", Detail::Nothing)),
         Reply::Denied(denied) => Some(denial(*denied)),
         Reply::Refused(refusal) => Some(refusal_failure(*refusal)),
         Reply::NoLength => Some(told(411, b"NoLength", Detail::Nothing)),
@@ -78,7 +83,8 @@ pub(crate) fn failure_of(reply: &Reply<'_>) -> Option<Failure>
         | Reply::Turned { .. }
         | Reply::Counts { .. }
         | Reply::Station(_)
-        | Reply::Day(_) => None,
+        | Reply::Day(_)
+        | Reply::Measurement(_) => None,
     }
 }
 
@@ -97,6 +103,7 @@ fn denial(denied: Denied) -> Failure
         },
         Denied::Json => told(400, b"Json", Detail::Nothing),
         Denied::Body(member) => told(400, b"Body", Detail::Member(member)),
+        Denied::Rdb(fault) => told(400, b"Rdb", Detail::Line(fault.line())),
         Denied::NoMemory => told(507, b"NoMemory", Detail::Nothing),
     }
 }
@@ -110,6 +117,9 @@ fn refusal_failure(refusal: Refusal) -> Failure
         Refusal::NoStation => told(409, b"NoStation", Detail::Nothing),
         Refusal::StationExists => told(409, b"StationExists", Detail::Nothing),
         Refusal::Limit(which) => told(409, b"Limit", Detail::Limit(which)),
+        Refusal::NoRating => told(409, b"NoRating", Detail::Nothing),
+        Refusal::RatingExists => told(409, b"RatingExists", Detail::Nothing),
+        Refusal::PeriodOverlap(from) => told(409, b"PeriodOverlap", Detail::From(from)),
         Refusal::NoEntry => told(409, b"NoEntry", Detail::Nothing),
         Refusal::HistoryFull(full) => told(409, b"HistoryFull", Detail::Full(full)),
         Refusal::JournalFull => told(409, b"JournalFull", Detail::Nothing),
@@ -143,6 +153,15 @@ fn write_detail(detail: Detail, out: &mut Text) -> Result<(), NoMemory>
             out.push_slice(b",\"edit\":")?;
             out.push_number(edit)
         }
+        Detail::From(from) => {
+            out.push_slice(b",\"from\":\"")?;
+            write_time(from, out)?;
+            out.push_slice(b"\"")
+        }
+        Detail::Line(line) => {
+            out.push_slice(b",\"line\":")?;
+            out.push_number(line)
+        }
         Detail::Limit(which) => write_word(b",\"limit\":\"", which_name(which), out),
         Detail::Full(full) => write_word(b",\"full\":\"", full_name(full), out),
         Detail::Member(member) => write_word(b",\"member\":\"", member.text().as_bytes(), out),
@@ -170,7 +189,10 @@ fn which_name(which: Which) -> &'static [u8]
         Which::Stations => b"Stations",
         Which::Readings => b"Readings",
         Which::DayReadings => b"DayReadings",
+        Which::Ratings => b"Ratings",
         Which::Entries => b"Entries",
+        Which::Periods => b"Periods",
+        Which::Measurements => b"Measurements",
     }
 }
 

@@ -1,11 +1,13 @@
-//! Parts of JSON texts: flags, strings, sites.
+//! Parts of JSON texts: flags, instants, strings, sites.
 
 ghost use Rattle.std.specs.Prelude.{◌≡◌, ◌++◌, ◌∷◌, [], ◌<◌, ◌≤◌, ◌-◌, replicate, take, length, OnOk, OnErr};
 ghost use Rattle.std.specs.Char.{digit_char};
+ghost use Rattle.civil_days.specs.Texts.{instant_text};
 ghost use Rattle.json.specs.Print.{escape, escape_byte, escape_letter, quoted};
 ghost use Rattle.http_api.specs.JsonTexts.{bool_text, site_text};
 
-use fixed_units::{NoMemory, Site, Text};
+use civil_days::write_instant;
+use fixed_units::{NoMemory, Second, Site, Text};
 
 /// Adds a flag. After `NoMemory` the text is as before.
 pub(crate) fn write_flag(flag: bool, out: &mut Text) -> Result<(), NoMemory>
@@ -13,6 +15,14 @@ pub(crate) fn write_flag(flag: bool, out: &mut Text) -> Result<(), NoMemory>
     ensures err { OnErr result (out.new ≡ out.old) }
 {
     out.push_slice(if flag { b"true" } else { b"false" })
+}
+
+/// Adds an instant. After `NoMemory` the text is as before.
+pub(crate) fn write_time(at: Second, out: &mut Text) -> Result<(), NoMemory>
+    ensures ok { OnOk result (out.new ≡ out.old ++ instant_text at) }
+    ensures err { OnErr result (out.new ≡ out.old) }
+{
+    write_instant(at, out)
 }
 
 /// Adds a string in quotes, of which a part may be added where memory runs out.

@@ -3,9 +3,11 @@
 
 pub mod asks;
 mod days;
+mod departures;
 mod failures;
 mod json_texts;
 mod parameters;
+mod rdb_bodies;
 pub mod replies;
 pub mod routes;
 mod stations;

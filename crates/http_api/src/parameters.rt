@@ -5,10 +5,14 @@ ghost use Rattle.std.specs.List.{list_all};
 ghost use Rattle.std.specs.Char.{is_ascii_digit};
 ghost use Rattle.std.specs.Str.Parse.{digits_value};
 ghost use Rattle.matchit.specs.Params.{walk, named, AllText};
-ghost use Rattle.http_api.specs.Parameters.{is_number, number_of, turns_of, count_of, count_in, site_in, day_in};
+ghost use Rattle.edit_bodies.specs.Grammars.{kept_if, kept_within};
+ghost use Rattle.edit_bodies.specs.Texts.{are_initials, is_reference};
+ghost use Rattle.edits.specs.Lawful.{IsRatingNumber};
+ghost use Rattle.http_api.specs.Parameters.{by_in, count_in, count_of, day_in, is_number, measurement_in, measurement_of, number_of, rating_in, rating_of, reference_in, site_in, turns_of};
 
 use civil_days::read_day;
 use edit_bodies::read_site;
+use edits::{By, Ref, is_rating_number};
 use fixed_units::{Day, Site};
 use matchit::Params;
 
@@ -36,6 +40,39 @@ pub(crate) fn day_in(params: &Params<'_, '_>) -> Option<Day>
     read_day(part(params, "day")?)
 }
 
+/// The number of a rating among the parameters.
+pub(crate) fn rating_in(params: &Params<'_, '_>) -> Option<u32>
+    requires { AllText (walk params.now.pattern.now params.now.text.now params.now.path.now params.now.names.now 0 0) }
+    ensures value { result ≡ rating_in (walk params.now.pattern.now params.now.text.now params.now.path.now params.now.names.now 0 0) }
+    ensures number { IfSome result IsRatingNumber }
+{
+    rating_of(part(params, "rating")?)
+}
+
+/// Who adds the rating.
+pub(crate) fn by_in(params: &Params<'_, '_>) -> Option<By>
+    requires { AllText (walk params.now.pattern.now params.now.text.now params.now.path.now params.now.names.now 0 0) }
+    ensures { result ≡ by_in (walk params.now.pattern.now params.now.text.now params.now.path.now params.now.names.now 0 0) }
+{
+    by_of(part(params, "by")?)
+}
+
+/// The reference under which it is added.
+pub(crate) fn reference_in(params: &Params<'_, '_>) -> Option<Ref>
+    requires { AllText (walk params.now.pattern.now params.now.text.now params.now.path.now params.now.names.now 0 0) }
+    ensures { result ≡ reference_in (walk params.now.pattern.now params.now.text.now params.now.path.now params.now.names.now 0 0) }
+{
+    reference_of(part(params, "ref")?)
+}
+
+/// The number of a measurement among the parameters.
+pub(crate) fn measurement_in(params: &Params<'_, '_>) -> Option<u32>
+    requires { AllText (walk params.now.pattern.now params.now.text.now params.now.path.now params.now.names.now 0 0) }
+    ensures { result ≡ measurement_in (walk params.now.pattern.now params.now.text.now params.now.path.now params.now.names.now 0 0) }
+{
+    measurement_of(part(params, "number")?)
+}
+
 /// The part of a target that the parameter of a name took.
 fn part<'v>(params: &Params<'_, 'v>, name: &str) -> Option<&'v [u8]>
     requires { AllText (walk params.now.pattern.now params.now.text.now params.now.path.now params.now.names.now 0 0) }
@@ -60,6 +97,59 @@ fn turns_of(count: u64) -> Option<u32>
     } else {
         None
     }
+}
+
+/// The number of a rating that a text states: 1 to 9 digits that state 1 to 999,999.
+fn rating_of(text: &[u8]) -> Option<u32>
+    ensures value { result ≡ rating_of text.now }
+    ensures number { IfSome result IsRatingNumber }
+{
+    rating_from(number_of(text)?)
+}
+
+/// The rating of this number, or `None` exactly where there is none.
+fn rating_from(number: u64) -> Option<u32>
+    ensures value { result ≡ kept_within 1 999_999 number }
+    ensures number { IfSome result IsRatingNumber }
+{
+    let rating = u32::try_from(number).ok()?;
+    if is_rating_number(rating) {
+        Some(rating)
+    } else {
+        None
+    }
+}
+
+/// The number of a measurement that a text states: 1 to 9 digits, from 1.
+fn measurement_of(text: &[u8]) -> Option<u32>
+    ensures { result ≡ measurement_of text.now }
+{
+    measurement_from(number_of(text)?)
+}
+
+/// The measurement of this number, where it is written with 9 digits at most.
+fn measurement_from(number: u64) -> Option<u32>
+    ensures { result ≡ kept_within 1 999_999_999 number }
+{
+    if 1 <= number && number <= 999_999_999 {
+        Some(number as u32)
+    } else {
+        None
+    }
+}
+
+/// The initials that a text is.
+fn by_of(text: &[u8]) -> Option<By>
+    ensures { result ≡ kept_if are_initials text.now }
+{
+    By::new(text)
+}
+
+/// The reference that a text is.
+fn reference_of(text: &[u8]) -> Option<Ref>
+    ensures { result ≡ kept_if is_reference text.now }
+{
+    Ref::new(text)
 }
 
 /// The number that 1 to 9 digits state.

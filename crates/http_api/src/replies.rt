@@ -6,11 +6,13 @@ ghost use Rattle.http_api.specs.Replies.{answer_text, body_of, status_of, allow_
 
 use crate::asks::Denied;
 use crate::days::{DayReply, write_day_reply};
+use crate::departures::write_departure;
 use crate::failures::failure_of;
 use crate::json_texts::write_flag;
 use crate::stations::write_station;
 use fixed_units::{NoMemory, Text};
-use office_inputs::{Refusal, Station};
+use measurements::Departure;
+use station_inputs::{Refusal, Station};
 use wire::{Kind, MALFORMED_REPLY, NO_MEMORY_REPLY, Verb, write_head};
 
 /// What is replied to a message.
@@ -41,8 +43,12 @@ pub enum Reply<'a> {
     Station(&'a Station),
     /// What is known of a day.
     Day(DayReply<'a>),
+    /// What a field measurement says of the rating in force.
+    Measurement(Departure),
     /// The station that is asked for is not kept.
     NoStation,
+    /// The station that is asked for has no measurement of that number.
+    NoMeasurement,
     /// The request asks nothing.
     Denied(Denied),
     /// The edit is refused.
@@ -126,6 +132,7 @@ fn write_answer(reply: &Reply<'_>, out: &mut Text) -> Result<(), NoMemory>
         Reply::Counts { edits, pending } => write_counts(*edits, *pending, out),
         Reply::Station(station) => write_station(station, out),
         Reply::Day(day) => write_day_reply(day, out),
+        Reply::Measurement(departure) => write_departure(departure, out),
         _ => Ok(()),
     }
 }

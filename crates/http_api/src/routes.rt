@@ -1,12 +1,15 @@
 //! The routes: which targets there are, and what a target names.
 
-ghost use Rattle.std.specs.Prelude.{◌≡◌, true, false, OnOk, IfOk, MatchOption};
+ghost use Rattle.std.specs.Prelude.{◌≡◌, true, false, OnOk, IfOk, IfSome, MatchOption};
 ghost use Rattle.std.specs.List.{list_all};
 ghost use Rattle.std.specs.Char.{is_ascii};
 ghost use Rattle.matchit.specs.Params.{walk, AllText};
-ghost use Rattle.http_api.specs.Routes.{spelling, verb_of, with_route, route_rows, target_by, target_of, RoutesAreApart, RowsAreThoseThatFit};
+ghost use Rattle.http_api.specs.Routes.{spelling, verb_of, with_route, route_rows, target_by, target_of, NamesRating, RoutesAreApart, RowsAreThoseThatFit};
 
-use crate::parameters::{count_in, day_in, site_in};
+use crate::parameters::{
+    by_in, count_in, day_in, measurement_in, rating_in, reference_in, site_in,
+};
+use edits::{By, Ref};
 use fixed_units::{Day, NoMemory, Site};
 use matchit::{InsertError, Params};
 use std::alloc::Global;
@@ -18,6 +21,8 @@ use wire::Verb;
 pub(crate) enum Route {
     /// The edits.
     Edits,
+    /// A rating that is added.
+    Rating,
     /// So many turns.
     Turns,
     /// The settlement.
@@ -28,13 +33,17 @@ pub(crate) enum Route {
     Station,
     /// A day of a station.
     DayOf,
+    /// A field measurement of a station.
+    Measurement,
 }
 
 /// What a target names.
-#[derive(Clone, Copy, Debug, PartialEq, Eq)]
+#[derive(Debug, Drop)]
 pub(crate) enum Target {
     /// The edits.
     Edits,
+    /// The rating of a station of this number, 1 to 999,999, that a person adds under a reference.
+    Rating(Site, u32, By, Ref),
     /// So many turns, 1 to 1,000.
     Turns(u32),
     /// The settlement.
@@ -45,16 +54,20 @@ pub(crate) enum Target {
     Station(Site),
     /// A day of a station.
     DayOf(Site, Day),
+    /// The field measurement of a station of this number, from 1.
+    Measurement(Site, u32),
 }
 
 /// All routes.
-const ROUTES: [Route; 6] = [
+const ROUTES: [Route; 8] = [
     Route::Edits,
+    Route::Rating,
     Route::Turns,
     Route::Settle,
     Route::Status,
     Route::Station,
     Route::DayOf,
+    Route::Measurement,
 ];
 
 impl Route {
@@ -64,11 +77,13 @@ impl Route {
     {
         match self {
             Route::Edits => "/edits",
+            Route::Rating => "/ratings/{site}/{rating}/{by}/{ref}",
             Route::Turns => "/turns/{count}",
             Route::Settle => "/settle",
             Route::Status => "/status",
             Route::Station => "/stations/{site}",
             Route::DayOf => "/stations/{site}/days/{day}",
+            Route::Measurement => "/stations/{site}/measurements/{number}",
         }
     }
 }
@@ -79,8 +94,9 @@ impl Target {
         ensures { result ≡ verb_of self.now }
     {
         match self {
-            Target::Edits | Target::Turns(_) | Target::Settle => Verb::Post,
-            Target::Status | Target::Station(_) | Target::DayOf(_, _) => Verb::Get,
+            Target::Edits | Target::Rating(..) | Target::Turns(_) | Target::Settle => Verb::Post,
+            Target::Status | Target::Station(_) | Target::DayOf(_, _) | Target::Measurement(_, _) =>
+                Verb::Get,
         }
     }
 }
@@ -113,7 +129,8 @@ impl Router {
 
     /// What a target names.
     pub(crate) fn target(&self, target: &[u8]) -> Option<Target>
-        ensures { result ≡ target_of target.now }
+        ensures named { result ≡ target_of target.now }
+        ensures rating { IfSome result NamesRating }
     {
         let text = ascii(target)?;
         match self.rows.at(text) {
@@ -163,10 +180,12 @@ fn are_ascii(target: &[u8]) -> bool
 /// What a target of a route names by its parameters.
 fn target_by(route: Route, params: &Params<'_, '_>) -> Option<Target>
     requires { AllText (walk params.now.pattern.now params.now.text.now params.now.path.now params.now.names.now 0 0) }
-    ensures { result ≡ target_by route (walk params.now.pattern.now params.now.text.now params.now.path.now params.now.names.now 0 0) }
+    ensures named { result ≡ target_by route (walk params.now.pattern.now params.now.text.now params.now.path.now params.now.names.now 0 0) }
+    ensures rating { IfSome result NamesRating }
 {
     match route {
         Route::Edits => Some(Target::Edits),
+        Route::Rating => rating_target(params),
         Route::Turns => Some(Target::Turns(count_in(params)?)),
         Route::Settle => Some(Target::Settle),
         Route::Status => Some(Target::Status),
@@ -176,7 +195,25 @@ fn target_by(route: Route, params: &Params<'_, '_>) -> Option<Target>
             let day = day_in(params)?;
             Some(Target::DayOf(site, day))
         }
+        Route::Measurement => {
+            let site = site_in(params)?;
+            let number = measurement_in(params)?;
+            Some(Target::Measurement(site, number))
+        }
     }
+}
+
+/// The rating that the parameters name.
+fn rating_target(params: &Params<'_, '_>) -> Option<Target>
+    requires { AllText (walk params.now.pattern.now params.now.text.now params.now.path.now params.now.names.now 0 0) }
+    ensures named { result ≡ target_by Route.Rating (walk params.now.pattern.now params.now.text.now params.now.path.now params.now.names.now 0 0) }
+    ensures rating { IfSome result NamesRating }
+{
+    let site = site_in(params)?;
+    let rating = rating_in(params)?;
+    let by = by_in(params)?;
+    let reference = reference_in(params)?;
+    Some(Target::Rating(site, rating, by, reference))
 }
 
 /// A target fits one route at most, and has the row of the route that it fits, and no other: a law, which does nothing.

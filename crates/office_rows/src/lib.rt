@@ -12,6 +12,10 @@ mod journals;
 #[cfg(test)]
 mod limits;
 #[cfg(test)]
+mod measured;
+#[cfg(test)]
+mod rated_days;
+#[cfg(test)]
 mod repeats;
 #[cfg(test)]
 mod zones;

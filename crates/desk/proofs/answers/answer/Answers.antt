@@ -33,6 +33,18 @@ returns-in-DayOf-clause-passed g c =
     let h = c.args.office.now.register.history in
     passes_published g.D.Disk h h c.args.office.now.disk (only c.args.office.now.disk) c.an_office_stands_on_its_disk.ensures.images (publishes_none h)
 
+pub returns-in-Measurement-clause-answered : goal.returns-in-Measurement-clause-answered
+returns-in-Measurement-clause-answered g c =
+    let h = c.args.office.now.register.history in
+    rw c.in-Measurement.is (by_office c.tell_measurement.result c.told_by-in-Measurement.result h (asks.Measurement c.in-Measurement.site c.in-Measurement.number) c.tell_measurement.new.texts.reply h
+    c.tell_measurement.ensures (any_ok c.tell_measurement.result _ refl) (any_err c.tell_measurement.result _ refl) c.told_by-in-Measurement.ensures.made c.told_by-in-Measurement.ensures.not)
+
+pub returns-in-Measurement-clause-passed : goal.returns-in-Measurement-clause-passed
+returns-in-Measurement-clause-passed g c =
+    let only = (g.met.D.Disk g.world.𝓛 g.world.𝓜 g.world.𝓡 ((λ s x. x), (λ x. x), (λ x. x), λ x. x)).only_now in
+    let h = c.args.office.now.register.history in
+    passes_published g.D.Disk h h c.args.office.now.disk (only c.args.office.now.disk) c.an_office_stands_on_its_disk.ensures.images (publishes_none h)
+
 pub returns-in-Turns-clause-answered : goal.returns-in-Turns-clause-answered
 returns-in-Turns-clause-answered g c =
     rw c.in-Turns.is (by_office c.take_turns.result c.told_by-in-Turns.result c.args.office.now.register.history (asks.Turns c.in-Turns.count) c.take_turns.new.texts.reply

@@ -33,31 +33,31 @@ returns-in_err-set-clause-read c =
 pub returns-in_err-at-clause-read : goal.returns-in_err-at-clause-read
 returns-in_err-at-clause-read c =
     let same : c.from_residual-in_err-at.result ≡ Err c.in_err-at.field-0.0 = search rules in
-    same_answer (row kinds.PutCorrection) (left c.args.fields.now) (left c.take_at.new.fields) c.in_err-at.field-0.0 c.from_residual-in_err-at.result same
-    (read_on (required Set set_of) after_set (left c.args.fields.now) (left c.take_set.new.fields) (left c.take_at.new.fields) c.in_ok-set.set (Err c.in_err-at.field-0.0) c.in_ok-set.ensures.read
-    (stopped (required At instant_of) (after_at c.in_ok-set.set) (left c.take_set.new.fields) (left c.take_at.new.fields) (left c.take_at.new.fields) c.in_err-at.field-0.0 c.in_err-at.ensures.read))
+    same_answer (row kinds.PutCorrection) (left c.args.fields.now) (left c.take_instant.new.fields) c.in_err-at.field-0.0 c.from_residual-in_err-at.result same
+    (read_on (required Set set_of) after_set (left c.args.fields.now) (left c.take_set.new.fields) (left c.take_instant.new.fields) c.in_ok-set.set (Err c.in_err-at.field-0.0) c.in_ok-set.ensures.read
+    (stopped (required At instant_of) (after_at c.in_ok-set.set) (left c.take_set.new.fields) (left c.take_instant.new.fields) (left c.take_instant.new.fields) c.in_err-at.field-0.0 c.in_err-at.ensures.read))
 
 pub returns-in_err-curve-clause-read : goal.returns-in_err-curve-clause-read
 returns-in_err-curve-clause-read c =
     let same : c.from_residual-in_err-curve.result ≡ Err c.in_err-curve.field-0.0 = search rules in
     same_answer (row kinds.PutCorrection) (left c.args.fields.now) (left c.take_points.new.fields) c.in_err-curve.field-0.0 c.from_residual-in_err-curve.result same
     (read_on (required Set set_of) after_set (left c.args.fields.now) (left c.take_set.new.fields) (left c.take_points.new.fields) c.in_ok-set.set (Err c.in_err-curve.field-0.0) c.in_ok-set.ensures.read
-    (read_on (required At instant_of) (after_at c.in_ok-set.set) (left c.take_set.new.fields) (left c.take_at.new.fields) (left c.take_points.new.fields) c.in_ok-at.at (Err c.in_err-curve.field-0.0) c.in_ok-at.ensures.read
-    (stopped (required Points points_of) (after_curve c.in_ok-set.set c.in_ok-at.at) (left c.take_at.new.fields) (left c.take_points.new.fields) (left c.take_points.new.fields) c.in_err-curve.field-0.0 c.in_err-curve.ensures.read)))
+    (read_on (required At instant_of) (after_at c.in_ok-set.set) (left c.take_set.new.fields) (left c.take_instant.new.fields) (left c.take_points.new.fields) c.in_ok-at.at (Err c.in_err-curve.field-0.0) c.in_ok-at.ensures.read
+    (stopped (required Points points_of) (after_curve c.in_ok-set.set c.in_ok-at.at) (left c.take_instant.new.fields) (left c.take_points.new.fields) (left c.take_points.new.fields) c.in_err-curve.field-0.0 c.in_err-curve.ensures.read)))
 
 pub returns-in_err-prorate-clause-read : goal.returns-in_err-prorate-clause-read
 returns-in_err-prorate-clause-read c =
     let same : c.from_residual-in_err-prorate.result ≡ Err c.in_err-prorate.field-0.0 = search rules in
     same_answer (row kinds.PutCorrection) (left c.args.fields.now) (left c.take_prorate.new.fields) c.in_err-prorate.field-0.0 c.from_residual-in_err-prorate.result same
     (read_on (required Set set_of) after_set (left c.args.fields.now) (left c.take_set.new.fields) (left c.take_prorate.new.fields) c.in_ok-set.set (Err c.in_err-prorate.field-0.0) c.in_ok-set.ensures.read
-    (read_on (required At instant_of) (after_at c.in_ok-set.set) (left c.take_set.new.fields) (left c.take_at.new.fields) (left c.take_prorate.new.fields) c.in_ok-at.at (Err c.in_err-prorate.field-0.0) c.in_ok-at.ensures.read
-    (read_on (required Points points_of) (after_curve c.in_ok-set.set c.in_ok-at.at) (left c.take_at.new.fields) (left c.take_points.new.fields) (left c.take_prorate.new.fields) c.in_ok-curve.curve (Err c.in_err-prorate.field-0.0) c.in_ok-curve.ensures.read
+    (read_on (required At instant_of) (after_at c.in_ok-set.set) (left c.take_set.new.fields) (left c.take_instant.new.fields) (left c.take_prorate.new.fields) c.in_ok-at.at (Err c.in_err-prorate.field-0.0) c.in_ok-at.ensures.read
+    (read_on (required Points points_of) (after_curve c.in_ok-set.set c.in_ok-at.at) (left c.take_instant.new.fields) (left c.take_points.new.fields) (left c.take_prorate.new.fields) c.in_ok-curve.curve (Err c.in_err-prorate.field-0.0) c.in_ok-curve.ensures.read
     (stopped (required Prorate as_bool) (after_prorate c.in_ok-set.set c.in_ok-at.at c.in_ok-curve.curve) (left c.take_points.new.fields) (left c.take_prorate.new.fields) (left c.take_prorate.new.fields) c.in_err-prorate.field-0.0 c.in_err-prorate.ensures))))
 
 pub returns-clause-read : goal.returns-clause-read
 returns-clause-read c =
     (read_on (required Set set_of) after_set (left c.args.fields.now) (left c.take_set.new.fields) (left c.take_prorate.new.fields) c.in_ok-set.set (Ok (PutCorrection c.in_ok-set.set c.in_ok-at.at c.in_ok-curve.curve c.in_ok-prorate.prorate)) c.in_ok-set.ensures.read
-    (read_on (required At instant_of) (after_at c.in_ok-set.set) (left c.take_set.new.fields) (left c.take_at.new.fields) (left c.take_prorate.new.fields) c.in_ok-at.at (Ok (PutCorrection c.in_ok-set.set c.in_ok-at.at c.in_ok-curve.curve c.in_ok-prorate.prorate)) c.in_ok-at.ensures.read
-    (read_on (required Points points_of) (after_curve c.in_ok-set.set c.in_ok-at.at) (left c.take_at.new.fields) (left c.take_points.new.fields) (left c.take_prorate.new.fields) c.in_ok-curve.curve (Ok (PutCorrection c.in_ok-set.set c.in_ok-at.at c.in_ok-curve.curve c.in_ok-prorate.prorate)) c.in_ok-curve.ensures.read
+    (read_on (required At instant_of) (after_at c.in_ok-set.set) (left c.take_set.new.fields) (left c.take_instant.new.fields) (left c.take_prorate.new.fields) c.in_ok-at.at (Ok (PutCorrection c.in_ok-set.set c.in_ok-at.at c.in_ok-curve.curve c.in_ok-prorate.prorate)) c.in_ok-at.ensures.read
+    (read_on (required Points points_of) (after_curve c.in_ok-set.set c.in_ok-at.at) (left c.take_instant.new.fields) (left c.take_points.new.fields) (left c.take_prorate.new.fields) c.in_ok-curve.curve (Ok (PutCorrection c.in_ok-set.set c.in_ok-at.at c.in_ok-curve.curve c.in_ok-prorate.prorate)) c.in_ok-curve.ensures.read
     (read_on (required Prorate as_bool) (after_prorate c.in_ok-set.set c.in_ok-at.at c.in_ok-curve.curve) (left c.take_points.new.fields) (left c.take_prorate.new.fields) (left c.take_prorate.new.fields) c.in_ok-prorate.prorate (Ok (PutCorrection c.in_ok-set.set c.in_ok-at.at c.in_ok-curve.curve c.in_ok-prorate.prorate)) c.in_ok-prorate.ensures
     refl))))

@@ -26,12 +26,12 @@ returns-in_err-set-clause-read c =
 pub returns-in_err-at-clause-read : goal.returns-in_err-at-clause-read
 returns-in_err-at-clause-read c =
     let same : c.from_residual-in_err-at.result ≡ Err c.in_err-at.field-0.0 = search rules in
-    same_answer (row kinds.DropCorrection) (left c.args.fields.now) (left c.take_at.new.fields) c.in_err-at.field-0.0 c.from_residual-in_err-at.result same
-    (read_on (required Set set_of) after_set (left c.args.fields.now) (left c.take_set.new.fields) (left c.take_at.new.fields) c.in_ok-set.set (Err c.in_err-at.field-0.0) c.in_ok-set.ensures.read
-    (stopped (required At instant_of) (after_at c.in_ok-set.set) (left c.take_set.new.fields) (left c.take_at.new.fields) (left c.take_at.new.fields) c.in_err-at.field-0.0 c.in_err-at.ensures.read))
+    same_answer (row kinds.DropCorrection) (left c.args.fields.now) (left c.take_instant.new.fields) c.in_err-at.field-0.0 c.from_residual-in_err-at.result same
+    (read_on (required Set set_of) after_set (left c.args.fields.now) (left c.take_set.new.fields) (left c.take_instant.new.fields) c.in_ok-set.set (Err c.in_err-at.field-0.0) c.in_ok-set.ensures.read
+    (stopped (required At instant_of) (after_at c.in_ok-set.set) (left c.take_set.new.fields) (left c.take_instant.new.fields) (left c.take_instant.new.fields) c.in_err-at.field-0.0 c.in_err-at.ensures.read))
 
 pub returns-clause-read : goal.returns-clause-read
 returns-clause-read c =
-    (read_on (required Set set_of) after_set (left c.args.fields.now) (left c.take_set.new.fields) (left c.take_at.new.fields) c.in_ok-set.set (Ok (DropCorrection c.in_ok-set.set c.in_ok-at.at)) c.in_ok-set.ensures.read
-    (read_on (required At instant_of) (after_at c.in_ok-set.set) (left c.take_set.new.fields) (left c.take_at.new.fields) (left c.take_at.new.fields) c.in_ok-at.at (Ok (DropCorrection c.in_ok-set.set c.in_ok-at.at)) c.in_ok-at.ensures.read
+    (read_on (required Set set_of) after_set (left c.args.fields.now) (left c.take_set.new.fields) (left c.take_instant.new.fields) c.in_ok-set.set (Ok (DropCorrection c.in_ok-set.set c.in_ok-at.at)) c.in_ok-set.ensures.read
+    (read_on (required At instant_of) (after_at c.in_ok-set.set) (left c.take_set.new.fields) (left c.take_instant.new.fields) (left c.take_instant.new.fields) c.in_ok-at.at (Ok (DropCorrection c.in_ok-set.set c.in_ok-at.at)) c.in_ok-at.ensures.read
     refl))

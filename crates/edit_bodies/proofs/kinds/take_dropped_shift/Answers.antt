@@ -17,10 +17,10 @@ after_at at = done (DropShift at)
 pub returns-in_err-at-clause-read : goal.returns-in_err-at-clause-read
 returns-in_err-at-clause-read c =
     let same : c.from_residual.result ≡ Err c.in_err-at.field-0.0 = search rules in
-    same_answer (row kinds.DropShift) (left c.args.fields.now) (left c.take_at.new.fields) c.in_err-at.field-0.0 c.from_residual.result same
-    (stopped (required At instant_of) after_at (left c.args.fields.now) (left c.take_at.new.fields) (left c.take_at.new.fields) c.in_err-at.field-0.0 c.in_err-at.ensures.read)
+    same_answer (row kinds.DropShift) (left c.args.fields.now) (left c.take_instant.new.fields) c.in_err-at.field-0.0 c.from_residual.result same
+    (stopped (required At instant_of) after_at (left c.args.fields.now) (left c.take_instant.new.fields) (left c.take_instant.new.fields) c.in_err-at.field-0.0 c.in_err-at.ensures.read)
 
 pub returns-clause-read : goal.returns-clause-read
 returns-clause-read c =
-    (read_on (required At instant_of) after_at (left c.args.fields.now) (left c.take_at.new.fields) (left c.take_at.new.fields) c.in_ok-at.at (Ok (DropShift c.in_ok-at.at)) c.in_ok-at.ensures.read
+    (read_on (required At instant_of) after_at (left c.args.fields.now) (left c.take_instant.new.fields) (left c.take_instant.new.fields) c.in_ok-at.at (Ok (DropShift c.in_ok-at.at)) c.in_ok-at.ensures.read
     refl)

@@ -24,27 +24,27 @@ after_at at = required Points points_of >>= after_curve at
 pub returns-in_err-at-clause-read : goal.returns-in_err-at-clause-read
 returns-in_err-at-clause-read c =
     let same : c.from_residual.result ≡ Err c.in_err-at.field-0.0 = search rules in
-    same_answer (row kinds.PutShift) (left c.args.fields.now) (left c.take_at.new.fields) c.in_err-at.field-0.0 c.from_residual.result same
-    (stopped (required At instant_of) after_at (left c.args.fields.now) (left c.take_at.new.fields) (left c.take_at.new.fields) c.in_err-at.field-0.0 c.in_err-at.ensures.read)
+    same_answer (row kinds.PutShift) (left c.args.fields.now) (left c.take_instant.new.fields) c.in_err-at.field-0.0 c.from_residual.result same
+    (stopped (required At instant_of) after_at (left c.args.fields.now) (left c.take_instant.new.fields) (left c.take_instant.new.fields) c.in_err-at.field-0.0 c.in_err-at.ensures.read)
 
 pub returns-in_err-curve-clause-read : goal.returns-in_err-curve-clause-read
 returns-in_err-curve-clause-read c =
     let same : c.from_residual-in_err-curve.result ≡ Err c.in_err-curve.field-0.0 = search rules in
     same_answer (row kinds.PutShift) (left c.args.fields.now) (left c.take_points.new.fields) c.in_err-curve.field-0.0 c.from_residual-in_err-curve.result same
-    (read_on (required At instant_of) after_at (left c.args.fields.now) (left c.take_at.new.fields) (left c.take_points.new.fields) c.in_ok-at.at (Err c.in_err-curve.field-0.0) c.in_ok-at.ensures.read
-    (stopped (required Points points_of) (after_curve c.in_ok-at.at) (left c.take_at.new.fields) (left c.take_points.new.fields) (left c.take_points.new.fields) c.in_err-curve.field-0.0 c.in_err-curve.ensures.read))
+    (read_on (required At instant_of) after_at (left c.args.fields.now) (left c.take_instant.new.fields) (left c.take_points.new.fields) c.in_ok-at.at (Err c.in_err-curve.field-0.0) c.in_ok-at.ensures.read
+    (stopped (required Points points_of) (after_curve c.in_ok-at.at) (left c.take_instant.new.fields) (left c.take_points.new.fields) (left c.take_points.new.fields) c.in_err-curve.field-0.0 c.in_err-curve.ensures.read))
 
 pub returns-in_err-prorate-clause-read : goal.returns-in_err-prorate-clause-read
 returns-in_err-prorate-clause-read c =
     let same : c.from_residual-in_err-prorate.result ≡ Err c.in_err-prorate.field-0.0 = search rules in
     same_answer (row kinds.PutShift) (left c.args.fields.now) (left c.take_prorate.new.fields) c.in_err-prorate.field-0.0 c.from_residual-in_err-prorate.result same
-    (read_on (required At instant_of) after_at (left c.args.fields.now) (left c.take_at.new.fields) (left c.take_prorate.new.fields) c.in_ok-at.at (Err c.in_err-prorate.field-0.0) c.in_ok-at.ensures.read
-    (read_on (required Points points_of) (after_curve c.in_ok-at.at) (left c.take_at.new.fields) (left c.take_points.new.fields) (left c.take_prorate.new.fields) c.in_ok-curve.curve (Err c.in_err-prorate.field-0.0) c.in_ok-curve.ensures.read
+    (read_on (required At instant_of) after_at (left c.args.fields.now) (left c.take_instant.new.fields) (left c.take_prorate.new.fields) c.in_ok-at.at (Err c.in_err-prorate.field-0.0) c.in_ok-at.ensures.read
+    (read_on (required Points points_of) (after_curve c.in_ok-at.at) (left c.take_instant.new.fields) (left c.take_points.new.fields) (left c.take_prorate.new.fields) c.in_ok-curve.curve (Err c.in_err-prorate.field-0.0) c.in_ok-curve.ensures.read
     (stopped (required Prorate as_bool) (after_prorate c.in_ok-at.at c.in_ok-curve.curve) (left c.take_points.new.fields) (left c.take_prorate.new.fields) (left c.take_prorate.new.fields) c.in_err-prorate.field-0.0 c.in_err-prorate.ensures)))
 
 pub returns-clause-read : goal.returns-clause-read
 returns-clause-read c =
-    (read_on (required At instant_of) after_at (left c.args.fields.now) (left c.take_at.new.fields) (left c.take_prorate.new.fields) c.in_ok-at.at (Ok (PutShift c.in_ok-at.at c.in_ok-curve.curve c.in_ok-prorate.prorate)) c.in_ok-at.ensures.read
-    (read_on (required Points points_of) (after_curve c.in_ok-at.at) (left c.take_at.new.fields) (left c.take_points.new.fields) (left c.take_prorate.new.fields) c.in_ok-curve.curve (Ok (PutShift c.in_ok-at.at c.in_ok-curve.curve c.in_ok-prorate.prorate)) c.in_ok-curve.ensures.read
+    (read_on (required At instant_of) after_at (left c.args.fields.now) (left c.take_instant.new.fields) (left c.take_prorate.new.fields) c.in_ok-at.at (Ok (PutShift c.in_ok-at.at c.in_ok-curve.curve c.in_ok-prorate.prorate)) c.in_ok-at.ensures.read
+    (read_on (required Points points_of) (after_curve c.in_ok-at.at) (left c.take_instant.new.fields) (left c.take_points.new.fields) (left c.take_prorate.new.fields) c.in_ok-curve.curve (Ok (PutShift c.in_ok-at.at c.in_ok-curve.curve c.in_ok-prorate.prorate)) c.in_ok-curve.ensures.read
     (read_on (required Prorate as_bool) (after_prorate c.in_ok-at.at c.in_ok-curve.curve) (left c.take_points.new.fields) (left c.take_prorate.new.fields) (left c.take_prorate.new.fields) c.in_ok-prorate.prorate (Ok (PutShift c.in_ok-at.at c.in_ok-curve.curve c.in_ok-prorate.prorate)) c.in_ok-prorate.ensures
     refl)))

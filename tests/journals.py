@@ -1,7 +1,7 @@
 """Journals of one station, read and written apart from the program: what the scripts beside this compare with.
 
-Edit 1 adds the station, every later one puts a reading, and each tenth one a datum correction instead, each under a
-reference of its own."""
+Edit 1 adds the station, every later one puts a reading, and each tenth one a datum correction instead; some add a rating, put a
+period of the rating before it, or put a field measurement. Each is under a reference of its own."""
 import datetime
 import json
 import struct
@@ -27,13 +27,45 @@ def correction_set(number):
     return 1 + number // 10 % 3
 
 
+def is_rating(number):
+    """Whether an edit adds a rating, under its own number: 160 of the first 4,000 edits, since a station has at most 200."""
+    return number % 25 == 13 and number < 4_000
+
+
+def is_period(number):
+    """Whether an edit puts a period of a minute, of the rating that was added last."""
+    return number % 50 == 17 and number < 4_000
+
+
+def is_measurement(number):
+    """Whether an edit puts a field measurement, under its own number."""
+    return number % 20 == 15 and number < 4_000
+
+
+ROWS = [(0, 0), (1_000_000, 10_000_000), (2_000_000, 30_500_000)]
+
+
+def decimal(millionths):
+    return "%d.%06d" % (millionths // 1_000_000, millionths % 1_000_000)
+
+
+def text_of(seconds):
+    return datetime.datetime.fromtimestamp(seconds, datetime.timezone.utc).strftime("%Y-%m-%dT%H:%M:%SZ")
+
+
 def content(number, raw):
     """The members of an edit behind those that every edit has, and its kind."""
     if number == 1:
         names = ["name", "zone", "gap", "stage_array", "discharge_array"]
         return "AddStation", dict(zip(names, [NAME, ZONE, GAP, STAGES, DISCHARGES]))
-    at = datetime.datetime.fromtimestamp(instant(number), datetime.timezone.utc).strftime("%Y-%m-%dT%H:%M:%SZ")
-    stage = "%d.%06d" % (raw // 1_000_000, raw % 1_000_000)
+    at = text_of(instant(number))
+    stage = decimal(raw)
+    if is_rating(number):
+        return "AddRating", {"rating": number, "rows": [[decimal(row[0]), decimal(row[1])] for row in ROWS]}
+    if is_period(number):
+        return "PutPeriod", {"rating": number - 4, "from": at, "until": text_of(instant(number) + 60)}
+    if is_measurement(number):
+        return "PutMeasurement", {"number": number, "at": at, "gage": stage, "discharge": "10.5", "grade": "good"}
     if number % 10 == 0:
         points = [["0", "0.10"], ["1.50", stage]]
         return "PutCorrection", {"set": correction_set(number), "at": at, "points": points, "prorate": number % 20 == 0}
@@ -61,6 +93,13 @@ def payload(number, raw=STAGE):
     head = short("AB") + short(reference(number)) + struct.pack("<BQ", 8, 1_646_500)
     if number == 1:
         return b"\x01" + head + short(NAME) + short(ZONE) + struct.pack("<I", GAP) + (STAGES + DISCHARGES).encode()
+    if is_rating(number):
+        rows = b"".join(struct.pack("<qq", *row) for row in ROWS)
+        return b"\x0a" + head + struct.pack("<II", number, len(ROWS)) + rows
+    if is_period(number):
+        return b"\x0b" + head + struct.pack("<IqBq", number - 4, instant(number), 1, instant(number) + 60)
+    if is_measurement(number):
+        return b"\x0f" + head + struct.pack("<IqqqB", number, instant(number), raw, 10_500_000, 1)
     if number % 10 == 0:
         points = struct.pack("<Bqqqq", 2, 0, 100_000, 1_500_000, raw)
         return b"\x06" + head + struct.pack("<Bq", correction_set(number), instant(number)) + points + bytes([number % 20 == 0])

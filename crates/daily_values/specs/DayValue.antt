@@ -1,6 +1,7 @@
 -- The value of a day: the means of its corrected stages and of its discharges, as trapezoids between neighbouring unit values that
 -- are cut to the day (after the mean of unit values in Water-Supply Paper 2175; trapezoids and cuts are this project's choice).
-use Rattle.std.specs.Prelude.{ℕ, ◌*◌, Bool, false, ◌&&◌, ◌==◌, if◌then◌else◌, List, [], ◌∷◌, map, sum_by, count_by, Option, None, Some, Result, Ok, Err, ℤ, pos, negsuc, ◌+ℤ◌, ◌-ℤ◌, ◌*ℤ◌, int_le, int_lt}
+use Rattle.std.specs.List.{list_any}
+use Rattle.std.specs.Prelude.{ℕ, ◌*◌, Bool, false, not, ◌&&◌, ◌==◌, if◌then◌else◌, List, [], ◌∷◌, map, filter, find, sum_by, count_by, Option, None, Some, is_some, Result, Ok, Err, ℤ, pos, negsuc, ◌+ℤ◌, ◌-ℤ◌, ◌*ℤ◌, int_le, int_lt}
 use Rattle.std.specs.Int.{int_max, int_min}
 use Rattle.std.specs.Result.{result_ok}
 use Rattle.fixed_units.specs.Lines.{line_at}
@@ -13,6 +14,9 @@ use Rattle.day_inputs.specs.declared.day_inputs.DayInputs.{DayInputs}
 use Rattle.day_inputs.specs.declared.day_inputs.DayInputs.TheVariants as inputs
 use Rattle.daily_values.specs.declared.counts.Counts.{Counts}
 use Rattle.daily_values.specs.declared.day_values.DayValue.{DayValue}
+use Rattle.daily_values.specs.declared.extremes.Extremes.{Extremes}
+use Rattle.daily_values.specs.declared.extremes.Quantity.{Quantity}
+use Rattle.daily_values.specs.declared.extremes.Quantity.TheVariants as quantities
 use Rattle.daily_values.specs.declared.day_values.DayValue.TheVariants as values
 use Rattle.daily_values.specs.declared.sums.Sum.{Sum}
 use Rattle.daily_values.specs.Figures.{DayFigures}
@@ -128,6 +132,47 @@ counts_of day = record {
   above = count_by (is_missing day missing.Above) (units_of day);
 }
 
+-- of two values that are both there, the one is less
+abbrev pub is_less : Option ℤ → Option ℤ → Bool
+is_less None w = false
+is_less (Some v) None = false
+is_less (Some v) (Some w) = int_lt v w
+
+-- the first unit value with a value that none of the others exceeds, and the first whose value exceeds none of theirs
+abbrev pub greatest : (Unit → Option ℤ) → List Unit → Option Unit
+greatest value units = find (λ u. is_some (value u) && not (list_any (λ v. is_less (value u) (value v)) units)) units
+
+abbrev pub least : (Unit → Option ℤ) → List Unit → Option Unit
+least value units = find (λ u. is_some (value u) && not (list_any (λ v. is_less (value v) (value u)) units)) units
+
+-- what is compared: the stage of a unit value, which is always there, and its discharge
+abbrev pub stage_of : Unit → Option ℤ
+stage_of u = Some u.stage
+
+abbrev pub discharge_of : Unit → Option ℤ
+discharge_of u = result_ok u.discharge
+
+abbrev pub value_of : Quantity → Unit → Option ℤ
+value_of quantities.Stage = stage_of
+value_of quantities.Discharge = discharge_of
+
+-- the greatest and the least stage and discharge among unit values; of equal ones the earliest counts
+abbrev pub extremes_among : List Unit → Extremes
+extremes_among units = record {
+  max_stage = greatest stage_of units;
+  min_stage = least stage_of units;
+  max_discharge = greatest discharge_of units;
+  min_discharge = least discharge_of units;
+}
+
+-- the unit values of the day itself, without those of its neighbours
+abbrev pub own_units : DayParts → List Unit
+own_units day = filter (is_of_day day) (units_of day)
+
+-- the greatest and the least stage and discharge among the used readings of the day
+abbrev pub extremes_of : DayParts → Extremes
+extremes_of day = extremes_among (own_units day)
+
 -- the figures of a day
 abbrev pub figures_of : DayParts → DayFigures
 figures_of day = record {
@@ -135,6 +180,8 @@ figures_of day = record {
   counts = counts_of day;
   stage = sum_of stage_point day;
   discharge = sum_of discharge_point day;
+  extremes = extremes_of day;
+  estimate = day.estimate;
   stage_array = day.stage_array;
   discharge_array = day.discharge_array;
 }

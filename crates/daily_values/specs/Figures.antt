@@ -1,10 +1,12 @@
--- The figures of a day: its length, its counts, the sums for its stage and its discharge, and how their means are published.
+-- The figures of a day: its length, its counts, the sums for its stage and its discharge, its extremes, its estimate, and what is
+-- published of them.
 use Rattle.std.specs.Prelude.{ℕ, ℤ, List, ◌+◌, ◌*◌, ◌≤◌, ◌==◌, if◌then◌else◌, Option, Some, None, IfSome, pos, neg_ℤ}
 use Rattle.unit_discharge.specs.Unit.{most_corrected}
 use Rattle.fixed_units.specs.Published.{published}
-use Rattle.fixed_units.specs.Quantities.{IsWithin, most_discharge}
+use Rattle.fixed_units.specs.Quantities.{IsDischarge, IsWithin, most_discharge}
 use Rattle.fixed_units.specs.declared.published.Published.{Published}
 use Rattle.daily_values.specs.declared.counts.Counts.{Counts}
+use Rattle.daily_values.specs.declared.extremes.Extremes.{Extremes}
 use Rattle.daily_values.specs.declared.sums.Sum.{Sum}
 use Rattle.day_inputs.specs.DayInputs.{shortest_day, longest_day}
 
@@ -14,6 +16,8 @@ pub record DayFigures : Type 0 where
   pub counts : Counts
   pub stage : Sum
   pub discharge : Sum
+  pub extremes : Extremes
+  pub estimate : Option ℤ
   pub stage_array : List ℕ
   pub discharge_array : List ℕ
 
@@ -34,7 +38,7 @@ pub record AreCounts (seconds : ℕ) (counts : Counts) : Type 0 where
   pub missing : counts.affected + counts.no_rating + counts.below + counts.above ≤ counts.readings
 
 -- what every day's figures keep to: a day of 20 to 28 hours, no more readings than it has seconds, no more covered than it is long,
--- a sum of corrected stages, and one of discharges
+-- a sum of corrected stages, and one of discharges, and an estimate that is a discharge
 pub record AreFigures (figures : DayFigures) : Type 0 where
   pub shortest : shortest_day ≤ figures.length
   pub longest : figures.length ≤ longest_day
@@ -43,6 +47,7 @@ pub record AreFigures (figures : DayFigures) : Type 0 where
   pub discharge_covered : figures.discharge.covered ≤ figures.length
   pub stage : IsSumWithin most_corrected most_corrected figures.stage
   pub discharge : IsSumWithin 0 most_discharge figures.discharge
+  pub estimate : IfSome figures.estimate IsDischarge
 
 -- a mean, published by a rounding array, which is there exactly where the whole day is covered: the area over the length
 abbrev pub mean : List ℕ → Sum → ℕ → Option Published
@@ -53,3 +58,11 @@ mean_stage figures = mean figures.stage_array figures.stage figures.length
 
 abbrev pub mean_discharge : DayFigures → Option Published
 mean_discharge figures = mean figures.discharge_array figures.discharge figures.length
+
+-- the published discharge: the estimate where one stands, else the mean
+abbrev pub discharge_by : List ℕ → Option ℤ → Option Published → Option Published
+discharge_by array None mean = mean
+discharge_by array (Some estimate) mean = Some (published array estimate (pos 1))
+
+abbrev pub published_discharge : DayFigures → Option Published
+published_discharge figures = discharge_by figures.discharge_array figures.estimate (mean_discharge figures)

@@ -84,7 +84,7 @@ pub(crate) fn add_unit(counts: Counts, parts: &DayParts, unit: &Unit) -> Counts
 }
 
 /// Whether an instant is within the day.
-fn is_within(parts: &DayParts, at: Second) -> bool
+pub(crate) fn is_within(parts: &DayParts, at: Second) -> bool
     ensures { result ≡ (int_le parts.now.from at && int_lt at parts.now.until) }
 {
     parts.from <= at && at < parts.until

@@ -7,15 +7,16 @@ ghost use Rattle.daily_values.specs.DayValue as values;
 ghost use Rattle.day_inputs.specs.declared.day_inputs.DayParts.{DayParts};
 
 use crate::counts::Counts;
+use crate::extremes::Extremes;
 use crate::sums::{Sum, day_length};
 use crate::totals::totals_of;
 use day_inputs::{DayInputs, DayParts};
-use fixed_units::{Published, RoundingArray, publish};
+use fixed_units::{Micro, Published, RoundingArray, publish};
 use std::marker::Model;
 use std::sync::ledger::Ledger;
 use steps::Steps;
 
-/// The figures of a day that has a window.
+/// The figures of a day that has a window or an estimate.
 #[derive(Clone, Copy, Debug, PartialEq, Eq)]
 pub struct Figures {
     /// How many seconds the day has, 72,000 to 100,800.
@@ -26,6 +27,10 @@ pub struct Figures {
     stage: Sum,
     /// The sum for the discharge, which covers at most the day.
     discharge: Sum,
+    /// The greatest and the least stage and discharge of the day.
+    extremes: Extremes,
+    /// The mean discharge as a person estimates it, where an estimate stands.
+    estimate: Option<Micro>,
     /// The rounding array for stages.
     stage_array: RoundingArray,
     /// The rounding array for discharges.
@@ -37,17 +42,17 @@ impl Model for Figures {
 
     ghost Value = { DayFigures };
 
-    ghost view = { λ f. record { length = f.length; counts = f.counts; stage = f.stage; discharge = f.discharge; stage_array = f.stage_array; discharge_array = f.discharge_array } };
+    ghost view = { λ f. record { length = f.length; counts = f.counts; stage = f.stage; discharge = f.discharge; extremes = f.extremes; estimate = f.estimate; stage_array = f.stage_array; discharge_array = f.discharge_array } };
 
-    ghost invariant = { λ f. AreFigures (record { length = f.length; counts = f.counts; stage = f.stage; discharge = f.discharge; stage_array = f.stage_array; discharge_array = f.discharge_array }) };
+    ghost invariant = { λ f. AreFigures (record { length = f.length; counts = f.counts; stage = f.stage; discharge = f.discharge; extremes = f.extremes; estimate = f.estimate; stage_array = f.stage_array; discharge_array = f.discharge_array }) };
 
-    ghost inverse = { λ f. record { length = f.length; counts = f.counts; stage = f.stage; discharge = f.discharge; stage_array = f.stage_array; discharge_array = f.discharge_array } };
+    ghost inverse = { λ f. record { length = f.length; counts = f.counts; stage = f.stage; discharge = f.discharge; extremes = f.extremes; estimate = f.estimate; stage_array = f.stage_array; discharge_array = f.discharge_array } };
 }
 
 /// The value of a day.
 #[derive(Clone, Copy, Debug, PartialEq, Eq)]
 pub enum DayValue {
-    /// The day has no reading that is used.
+    /// The day has no reading that is used, and no estimate.
     Empty,
     /// The day has figures.
     Day(Figures),
@@ -77,12 +82,14 @@ fn figures_of(parts: &DayParts) -> Figures
         counts: totals.counts,
         stage: totals.stage,
         discharge: totals.discharge,
+        extremes: totals.extremes,
+        estimate: parts.estimate,
         stage_array: parts.stage_array,
         discharge_array: parts.discharge_array,
     }
 }
 
-/// A day without a window has no figures.
+/// A day without inputs has no figures.
 pub fn values_of_empty_inputs()
     ensures { day_value DayInputs.Empty ≡ DayValue.Empty }
 {}
@@ -96,25 +103,29 @@ pub fn covers_at_most_the_day()
 
 impl Figures {
     ghost use Rattle.std.specs.Prelude.{◌≡◌};
-    ghost use Rattle.daily_values.specs.Figures.{mean_stage, mean_discharge, AreFigures};
+    ghost use Rattle.daily_values.specs.Figures.{mean_stage, mean_discharge, published_discharge, AreFigures};
 
-    /// The figures of a day of so many seconds with these counts and sums.
+    /// The figures of a day of so many seconds with these counts, sums and extremes, and this estimate.
     pub(crate) fn new(
         length: u32,
         counts: Counts,
         stage: Sum,
         discharge: Sum,
+        extremes: Extremes,
+        estimate: Option<Micro>,
         stage_array: RoundingArray,
         discharge_array: RoundingArray,
     ) -> Figures
-        requires { AreFigures (record { length = length; counts = counts; stage = stage; discharge = discharge; stage_array = stage_array; discharge_array = discharge_array }) }
-        ensures { result ≡ record { length = length; counts = counts; stage = stage; discharge = discharge; stage_array = stage_array; discharge_array = discharge_array } }
+        requires { AreFigures (record { length = length; counts = counts; stage = stage; discharge = discharge; extremes = extremes; estimate = estimate; stage_array = stage_array; discharge_array = discharge_array }) }
+        ensures { result ≡ record { length = length; counts = counts; stage = stage; discharge = discharge; extremes = extremes; estimate = estimate; stage_array = stage_array; discharge_array = discharge_array } }
     {
         Figures {
             length,
             counts,
             stage,
             discharge,
+            extremes,
+            estimate,
             stage_array,
             discharge_array,
         }
@@ -151,6 +162,22 @@ impl Figures {
         self.discharge
     }
 
+    /// The unit values with the greatest and the least stage and discharge of the day.
+    pub fn extremes(&self) -> Extremes
+        ensures { result ≡ self.now.extremes }
+    {
+        self.extremes
+    }
+
+    /// The mean discharge as a person estimates it, in millionths of a cubic foot per second, where an estimate stands: 0 to
+    /// 10,000,000 cubic feet per second.
+    pub fn estimate(&self) -> Option<Micro>
+        ensures estimate { result ≡ self.now.estimate }
+        ensures figures { AreFigures self.now }
+    {
+        self.estimate
+    }
+
     /// The published mean stage, exactly where the stages cover the whole day.
     pub fn stage_text(&self) -> Option<Published>
         ensures { result ≡ mean_stage self.now }
@@ -165,8 +192,18 @@ impl Figures {
         ))
     }
 
-    /// The published mean discharge, exactly where the discharges cover the whole day.
+    /// The published discharge: the estimate where one stands, else the mean.
     pub fn discharge_text(&self) -> Option<Published>
+        ensures { result ≡ published_discharge self.now }
+    {
+        match self.estimate {
+            Some(estimate) => Some(publish(i128::from(estimate.get()), 1, &self.discharge_array)),
+            None => self.mean_discharge(),
+        }
+    }
+
+    /// The published mean of the discharges, exactly where they cover the whole day.
+    fn mean_discharge(&self) -> Option<Published>
         ensures { result ≡ mean_discharge self.now }
     {
         if self.discharge.covered != self.length {

@@ -1,8 +1,9 @@
 //! The value of a day from a station's whole list of readings: a plain and slow program, one step after another,
 //! to compare what is kept with.
 
-ghost use Rattle.std.specs.Prelude.{◌≡◌, ◌*◌, ◌≤◌, ◌++◌, ◌&&◌, ℕ, pos, ◌-ℤ◌, ◌≤ℤ◌, ◌<ℤ◌, int_lt, map, sum_by, int_le, All, find, reverse, option_to_list, IfOk, OnOk};
-ghost use Rattle.fixed_units.specs.Quantities.{IsStage, IsStamp, most_discharge};
+ghost use Rattle.std.specs.List.{list_any};
+ghost use Rattle.std.specs.Prelude.{◌≡◌, ◌*◌, ◌≤◌, ◌++◌, ◌&&◌, ℕ, pos, ◌-ℤ◌, ◌≤ℤ◌, ◌<ℤ◌, int_lt, map, sum_by, int_le, not, is_some, All, find, reverse, option_to_list, IfOk, IfSome, OnOk};
+ghost use Rattle.fixed_units.specs.Quantities.{IsDischarge, IsStage, IsStamp, most_discharge};
 ghost use Rattle.unit_discharge.specs.Unit.{most_corrected};
 ghost use Rattle.curves.specs.Entries.{IsSeries};
 ghost use Rattle.curves.specs.Corrections.{AreCorrections, entries_of};
@@ -13,38 +14,40 @@ ghost use Rattle.readings.specs.Window as windows;
 ghost use Rattle.day_inputs.specs.DayInputs as inputs;
 ghost use Rattle.day_inputs.specs.DayInputs.{AreParts, shortest_day, longest_day, most_gap};
 ghost use Rattle.daily_values.specs.DayValue as values;
-ghost use Rattle.daily_values.specs.DayValue.{counts_of, pair_seconds, sum_of, twice_areas};
+ghost use Rattle.daily_values.specs.DayValue.{counts_of, extremes_of, own_units, pair_seconds, sum_of, twice_areas, value_of};
 ghost use Rattle.daily_values.specs.Figures.{AreCounts, IsSumWithin, IsValueWithin};
 ghost use Rattle.ratings.specs.Numbered.{AreRatings};
 
-use crate::counts::{Counts, add_unit};
+use crate::counts::{Counts, add_unit, is_within};
 use crate::day_values::{DayValue, Figures};
+use crate::extremes::{Extremes, Quantity, is_less};
 use crate::sums::{
     Point, Sum, add_pair, day_length, discharge_point, seconds_between, stage_point,
 };
 use crate::totals::unit_of;
 use curves::{CorrectionSets, Shifts};
-use day_inputs::{DayInputs, DayParts, with_window};
-use fixed_units::{Flag, NoMemory, Reading, RoundingArray, Second};
+use day_inputs::{DayInputs, DayParts, Settings, with_window};
+use fixed_units::{Flag, Micro, NoMemory, Reading, Second};
 use ratings::Ratings;
 use std::alloc::Global;
+use unit_discharge::Unit;
 
 /// The value of the day from `from` until `until`, 20 to 28 hours later, of a station with a gap tolerance of 1 to 720
-/// minutes, these rounding arrays, correction sets, shifts, ratings and readings at stamps, rising by instant.
+/// minutes, these rounding arrays, correction sets, shifts, ratings and readings at stamps, rising by instant, and with this
+/// estimate of its mean discharge, if one stands.
 pub fn day_value(
     alloc: Global,
-    gap: u32,
-    stage_array: RoundingArray,
-    discharge_array: RoundingArray,
+    settings: Settings,
     from: Second,
     until: Second,
     corrections: &CorrectionSets,
     shifts: &Shifts,
     ratings: &Ratings,
     readings: &[Reading],
+    estimate: Option<Micro>,
 ) -> Result<DayValue, NoMemory>
-    requires gap_low { 1 ≤ gap }
-    requires gap_high { gap ≤ most_gap }
+    requires gap_low { 1 ≤ settings.gap }
+    requires gap_high { settings.gap ≤ most_gap }
     requires shortest { pos shortest_day ≤ℤ (until -ℤ from) }
     requires longest { (until -ℤ from) ≤ℤ pos longest_day }
     requires corrections { AreCorrections (entries_of corrections.now) }
@@ -53,20 +56,20 @@ pub fn day_value(
     requires rising { IsRising readings.now }
     requires stamps { All (λ r. IsStamp r.at) readings.now }
     requires stages { All (λ r. IsStage r.raw) readings.now }
-    ensures { IfOk result (λ v. v ≡ values.day_value (inputs.day_inputs gap stage_array discharge_array from until (entries_of corrections.now) shifts.now.series.entries ratings.now.ratings readings.now)) }
+    requires estimate { IfSome estimate IsDischarge }
+    ensures { IfOk result (λ v. v ≡ values.day_value (inputs.day_inputs settings.gap settings.stage_array settings.discharge_array from until (entries_of corrections.now) shifts.now.series.entries ratings.now.ratings readings.now estimate)) }
 {
-    let window = window(alloc, gap, from, until, readings)?;
+    let window = window(alloc, settings.gap, from, until, readings)?;
     let inputs = with_window(
         alloc,
-        gap,
-        stage_array,
-        discharge_array,
+        settings,
         from,
         until,
         corrections,
         shifts,
         ratings,
         window,
+        estimate,
     )?;
     match inputs {
         DayInputs::Empty => Ok(DayValue::Empty),
@@ -84,6 +87,8 @@ fn value_of_parts(alloc: Global, parts: &DayParts) -> Result<DayValue, NoMemory>
         count_units(parts),
         sum_stages(alloc, parts)?,
         sum_discharges(alloc, parts)?,
+        find_extremes(parts),
+        parts.estimate,
         parts.stage_array,
         parts.discharge_array,
     )))
@@ -109,6 +114,94 @@ fn sum_discharges(alloc: Global, parts: &DayParts) -> Result<Sum, NoMemory>
     let points = discharge_points(alloc, parts)?;
     let pairs = neighbours(alloc, &points)?;
     Ok(add_areas(parts, &pairs))
+}
+
+/// The greatest and the least stage and discharge.
+fn find_extremes(parts: &DayParts) -> Extremes
+    requires { AreParts parts.now }
+    ensures { result ≡ extremes_of parts.now }
+{
+    Extremes {
+        max_stage: find_greatest(parts, Quantity::Stage),
+        min_stage: find_least(parts, Quantity::Stage),
+        max_discharge: find_greatest(parts, Quantity::Discharge),
+        min_discharge: find_least(parts, Quantity::Discharge),
+    }
+}
+
+/// The first unit value of the day with a value that none exceeds.
+fn find_greatest(parts: &DayParts, quantity: Quantity) -> Option<Unit>
+    requires { AreParts parts.now }
+    ensures { result ≡ values.greatest (value_of quantity) (own_units parts.now) }
+{
+    for reading in parts.window.as_slice() {
+        let unit = unit_of(parts, reading);
+        if is_greatest(parts, &unit, quantity) {
+            return Some(unit);
+        }
+    }
+    None
+}
+
+/// Whether a unit value is of the day and has a value that none exceeds.
+fn is_greatest(parts: &DayParts, unit: &Unit, quantity: Quantity) -> bool
+    requires { AreParts parts.now }
+    ensures { result ≡ (values.is_of_day parts.now unit.now && (is_some (value_of quantity unit.now)
+        && not (list_any (λ v. values.is_less (value_of quantity unit.now) (value_of quantity v)) (own_units parts.now)))) }
+{
+    is_within(parts, unit.at)
+        && (quantity.value(unit).is_some() && !is_exceeded(parts, unit, quantity))
+}
+
+/// Whether the value of a unit value is exceeded.
+fn is_exceeded(parts: &DayParts, unit: &Unit, quantity: Quantity) -> bool
+    requires { AreParts parts.now }
+    ensures { result ≡ list_any (λ v. values.is_less (value_of quantity unit.now) (value_of quantity v)) (own_units parts.now) }
+{
+    for reading in parts.window.as_slice() {
+        let other = unit_of(parts, reading);
+        if is_within(parts, other.at) && is_less(quantity.value(unit), quantity.value(&other)) {
+            return true;
+        }
+    }
+    false
+}
+
+/// The first unit value of the day with a value that exceeds none.
+fn find_least(parts: &DayParts, quantity: Quantity) -> Option<Unit>
+    requires { AreParts parts.now }
+    ensures { result ≡ values.least (value_of quantity) (own_units parts.now) }
+{
+    for reading in parts.window.as_slice() {
+        let unit = unit_of(parts, reading);
+        if is_least(parts, &unit, quantity) {
+            return Some(unit);
+        }
+    }
+    None
+}
+
+/// Whether a unit value is of the day and has a value that exceeds none.
+fn is_least(parts: &DayParts, unit: &Unit, quantity: Quantity) -> bool
+    requires { AreParts parts.now }
+    ensures { result ≡ (values.is_of_day parts.now unit.now && (is_some (value_of quantity unit.now)
+        && not (list_any (λ v. values.is_less (value_of quantity v) (value_of quantity unit.now)) (own_units parts.now)))) }
+{
+    is_within(parts, unit.at) && (quantity.value(unit).is_some() && !exceeds(parts, unit, quantity))
+}
+
+/// Whether the value of a unit value exceeds another one.
+fn exceeds(parts: &DayParts, unit: &Unit, quantity: Quantity) -> bool
+    requires { AreParts parts.now }
+    ensures { result ≡ list_any (λ v. values.is_less (value_of quantity v) (value_of quantity unit.now)) (own_units parts.now) }
+{
+    for reading in parts.window.as_slice() {
+        let other = unit_of(parts, reading);
+        if is_within(parts, other.at) && is_less(quantity.value(&other), quantity.value(unit)) {
+            return true;
+        }
+    }
+    false
 }
 
 /// The stages of the readings of a day's window.

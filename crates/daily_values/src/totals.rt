@@ -5,16 +5,17 @@ ghost use Rattle.fixed_units.specs.Quantities.{IsDischarge, IsStage, most_discha
 ghost use Rattle.unit_discharge.specs.Unit.{IsCorrected, most_corrected};
 ghost use Rattle.day_inputs.specs.DayInputs.{AreParts};
 ghost use Rattle.daily_values.specs.DayValue as values;
-ghost use Rattle.daily_values.specs.DayValue.{counts_of, day_length, discharge_point, stage_point, sum_of};
+ghost use Rattle.daily_values.specs.DayValue.{counts_of, day_length, discharge_point, extremes_of, stage_point, sum_of};
 ghost use Rattle.daily_values.specs.Figures.{AreCounts, IsSumWithin};
 
 use crate::counts::{Counts, add_unit};
+use crate::extremes::{Extremes, add_extremes};
 use crate::sums::{Sum, add_pair, discharge_point, seconds_between, stage_point};
 use day_inputs::DayParts;
 use fixed_units::Reading;
 use unit_discharge::{Unit, unit};
 
-/// The sums and counts of a day.
+/// The sums, counts and extremes of a day.
 #[derive(Clone, Copy, Drop)]
 pub(crate) struct Totals {
     /// The sum for the stage.
@@ -23,14 +24,17 @@ pub(crate) struct Totals {
     pub(crate) discharge: Sum,
     /// The readings of the day.
     pub(crate) counts: Counts,
+    /// The greatest and the least of them.
+    pub(crate) extremes: Extremes,
 }
 
-/// The sums and counts of a day, of which each unit value is made once.
+/// The sums, counts and extremes of a day, of which each unit value is made once.
 pub(crate) fn totals_of(parts: &DayParts) -> Totals
     requires { AreParts parts.now }
     ensures stage { result.stage ≡ sum_of stage_point parts.now }
     ensures discharge { result.discharge ≡ sum_of discharge_point parts.now }
     ensures counts { result.counts ≡ counts_of parts.now }
+    ensures extremes { result.extremes ≡ extremes_of parts.now }
     ensures counts_within { AreCounts (day_length parts.now) result.counts }
     ensures stage_covered { result.stage.covered ≤ day_length parts.now }
     ensures discharge_covered { result.discharge.covered ≤ day_length parts.now }
@@ -43,17 +47,19 @@ pub(crate) fn totals_of(parts: &DayParts) -> Totals
             stage: Sum::none(),
             discharge: Sum::none(),
             counts: Counts::none(),
+            extremes: Extremes::none(),
         },
     }
 }
 
-/// The sums and counts along the readings of a day's window, of which the first one is given.
+/// The sums, counts and extremes along the readings of a day's window, of which the first one is given.
 fn totals_along(parts: &DayParts, first: Reading, rest: &[Reading]) -> Totals
     requires parts { AreParts parts.now }
     requires window { parts.now.window ≡ first ∷ rest.now }
     ensures stage { result.stage ≡ sum_of stage_point parts.now }
     ensures discharge { result.discharge ≡ sum_of discharge_point parts.now }
     ensures counts { result.counts ≡ counts_of parts.now }
+    ensures extremes { result.extremes ≡ extremes_of parts.now }
     ensures counts_within { AreCounts (day_length parts.now) result.counts }
     ensures stage_covered { result.stage.covered ≤ day_length parts.now }
     ensures discharge_covered { result.discharge.covered ≤ day_length parts.now }
@@ -64,6 +70,7 @@ fn totals_along(parts: &DayParts, first: Reading, rest: &[Reading]) -> Totals
     let mut stage = Sum::none();
     let mut discharge = Sum::none();
     let mut counts = add_unit(Counts::none(), parts, &left);
+    let mut extremes = add_extremes(Extremes::none(), parts, &left);
     for reading in rest {
         let right = unit_of(parts, reading);
         let seconds = seconds_between(parts, left.at, right.at);
@@ -82,12 +89,14 @@ fn totals_along(parts: &DayParts, first: Reading, rest: &[Reading]) -> Totals
             seconds,
         );
         counts = add_unit(counts, parts, &right);
+        extremes = add_extremes(extremes, parts, &right);
         left = right;
     }
     Totals {
         stage,
         discharge,
         counts,
+        extremes,
     }
 }
 

@@ -1,8 +1,7 @@
 -- The test of equality decides it. A further member is a line in each of `AreSame`, `from_parts`, `to_parts` and
--- `Decides-same_members`: a list by `pointwise` and `slice_eq-Decides`, one that may be missing by `option_eq` and `options_decide`.
-use Rattle.std.specs.Prelude.{◌≡◌, Bool, Option, Some, None}
+-- `Decides-same_members`.
+use Rattle.std.specs.Prelude.{◌≡◌, Bool, Option, Some, None, ℤ}
 use Rattle.std.specs.Bool.{Decides}
-use Rattle.std.specs.Option.{option_eq}
 use Rattle.std.proofs.Common.{refl, ap, sym, subst}
 use Rattle.std.proofs.lemmas.Slice.Eq.{bytes_eq-Decides}
 use Rattle.std.proofs.lemmas.Bool.Decides.{Decides-eqb, Decides-int_eq, Decides-and, Decides-like}
@@ -12,30 +11,30 @@ use Rattle.ratings.proofs.PartEqualityLemmas.{lists_decide as periods_decide}
 use Rattle.day_inputs.specs.declared.day_inputs.DayInputs.{DayInputs}
 use Rattle.day_inputs.specs.declared.day_inputs.DayInputs.TheVariants.{Empty, Day}
 use Rattle.day_inputs.specs.declared.day_inputs.DayParts.{DayParts}
-use Rattle.day_inputs.specs.Equality.{same_members, same_inputs}
+use Rattle.day_inputs.specs.Equality.{same_estimate, same_members, same_inputs}
 
--- values that may be missing are equal where the test of values tells so
-pub options_decide : {A : Type 0} {E : A → A → Bool} → ((a b : A) → Decides (E a b) (a ≡ b)) → (x y : Option A) → Decides (option_eq E x y) (x ≡ y)
-options_decide h None None = (λ k. refl, λ e. refl)
-options_decide h None (Some b) = (λ k. absurd (cc), λ e. absurd (cc))
-options_decide h (Some a) None = (λ k. absurd (cc), λ e. absurd (cc))
-options_decide h (Some a) (Some b) = Decides-like _ (λ e. ap Some e) (λ e. cc) (h a b)
+-- one estimate, or none, is another
+pub estimates_decide : (x y : Option ℤ) → Decides (same_estimate x y) (x ≡ y)
+estimates_decide None None = (λ k. refl, λ e. refl)
+estimates_decide None (Some b) = (λ k. absurd (cc), λ e. absurd (cc))
+estimates_decide (Some a) None = (λ k. absurd (cc), λ e. absurd (cc))
+estimates_decide (Some a) (Some b) = Decides-like _ (λ e. ap Some e) (λ e. cc) (Decides-int_eq a b)
 
 -- the parts in their order
 abbrev pub AreSame : DayParts → DayParts → Type 0
 AreSame p q =
-    (p.gap ≡ q.gap) × ((p.stage_array ≡ q.stage_array) × ((p.discharge_array ≡ q.discharge_array) × ((p.from ≡ q.from) × ((p.until ≡ q.until) × ((p.window ≡ q.window) × ((p.first ≡ q.first) × ((p.second ≡ q.second) × ((p.third ≡ q.third) × ((p.shifts ≡ q.shifts) × (p.periods ≡ q.periods))))))))))
+    (p.gap ≡ q.gap) × ((p.stage_array ≡ q.stage_array) × ((p.discharge_array ≡ q.discharge_array) × ((p.from ≡ q.from) × ((p.until ≡ q.until) × ((p.window ≡ q.window) × ((p.first ≡ q.first) × ((p.second ≡ q.second) × ((p.third ≡ q.third) × ((p.shifts ≡ q.shifts) × ((p.periods ≡ q.periods) × (p.estimate ≡ q.estimate)))))))))))
 
 pub from_parts : (p q : DayParts) → AreSame p q → p ≡ q
 from_parts p q h =
     let e : ◌≡◌ {A = DayParts}
-    (record { gap = p.gap; stage_array = p.stage_array; discharge_array = p.discharge_array; from = p.from; until = p.until; window = p.window; first = p.first; second = p.second; third = p.third; shifts = p.shifts; periods = p.periods })
-    (record { gap = q.gap; stage_array = q.stage_array; discharge_array = q.discharge_array; from = q.from; until = q.until; window = q.window; first = q.first; second = q.second; third = q.third; shifts = q.shifts; periods = q.periods }) =
-    rw (h.0, h.1.0, h.1.1.0, h.1.1.1.0, h.1.1.1.1.0, h.1.1.1.1.1.0, h.1.1.1.1.1.1.0, h.1.1.1.1.1.1.1.0, h.1.1.1.1.1.1.1.1.0, h.1.1.1.1.1.1.1.1.1.0, h.1.1.1.1.1.1.1.1.1.1) refl in
+    (record { gap = p.gap; stage_array = p.stage_array; discharge_array = p.discharge_array; from = p.from; until = p.until; window = p.window; first = p.first; second = p.second; third = p.third; shifts = p.shifts; periods = p.periods; estimate = p.estimate })
+    (record { gap = q.gap; stage_array = q.stage_array; discharge_array = q.discharge_array; from = q.from; until = q.until; window = q.window; first = q.first; second = q.second; third = q.third; shifts = q.shifts; periods = q.periods; estimate = q.estimate }) =
+    rw (h.0, h.1.0, h.1.1.0, h.1.1.1.0, h.1.1.1.1.0, h.1.1.1.1.1.0, h.1.1.1.1.1.1.0, h.1.1.1.1.1.1.1.0, h.1.1.1.1.1.1.1.1.0, h.1.1.1.1.1.1.1.1.1.0, h.1.1.1.1.1.1.1.1.1.1.0, h.1.1.1.1.1.1.1.1.1.1.1) refl in
     e
 
 pub to_parts : (p q : DayParts) → p ≡ q → AreSame p q
-to_parts p q e = (ap (λ (x : DayParts). x.gap) e, (ap (λ (x : DayParts). x.stage_array) e, (ap (λ (x : DayParts). x.discharge_array) e, (ap (λ (x : DayParts). x.from) e, (ap (λ (x : DayParts). x.until) e, (ap (λ (x : DayParts). x.window) e, (ap (λ (x : DayParts). x.first) e, (ap (λ (x : DayParts). x.second) e, (ap (λ (x : DayParts). x.third) e, (ap (λ (x : DayParts). x.shifts) e, ap (λ (x : DayParts). x.periods) e))))))))))
+to_parts p q e = (ap (λ (x : DayParts). x.gap) e, (ap (λ (x : DayParts). x.stage_array) e, (ap (λ (x : DayParts). x.discharge_array) e, (ap (λ (x : DayParts). x.from) e, (ap (λ (x : DayParts). x.until) e, (ap (λ (x : DayParts). x.window) e, (ap (λ (x : DayParts). x.first) e, (ap (λ (x : DayParts). x.second) e, (ap (λ (x : DayParts). x.third) e, (ap (λ (x : DayParts). x.shifts) e, (ap (λ (x : DayParts). x.periods) e, ap (λ (x : DayParts). x.estimate) e)))))))))))
 
 pub Decides-same_members : (p q : DayParts) → Decides (same_members p q) (p ≡ q)
 Decides-same_members p q =
@@ -50,7 +49,8 @@ Decides-same_members p q =
     (Decides-and _ _ (entries_decide p.second q.second)
     (Decides-and _ _ (entries_decide p.third q.third)
     (Decides-and _ _ (entries_decide p.shifts q.shifts)
-    (periods_decide p.periods q.periods)))))))))))
+    (Decides-and _ _ (periods_decide p.periods q.periods)
+    (estimates_decide p.estimate q.estimate))))))))))))
 
 day_from : (p q : DayParts) → p ≡ q → Day p ≡ Day q
 day_from p q e = ap Day e

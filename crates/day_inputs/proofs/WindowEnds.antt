@@ -1,5 +1,5 @@
 -- The ends of a window, and the inputs of a day by them.
-use Rattle.std.specs.Prelude.{◌≡◌, ℕ, ◌≤◌, List, [], ◌∷◌, All, Option, Some, None, option_map, ℤ, pos, ◌-ℤ◌, ◌<ℤ◌, ◌≤ℤ◌}
+use Rattle.std.specs.Prelude.{◌≡◌, Bool, true, false, ◌&&◌, ℕ, ◌≤◌, List, [], ◌∷◌, All, IfSome, Option, Some, None, is_none, option_map, ℤ, pos, ◌-ℤ◌, ◌<ℤ◌, ◌≤ℤ◌}
 use Rattle.std.proofs.Common.{arith, refl, ap, sym, subst, ◌∙◌}
 use Rattle.std.proofs.lemmas.Int.{ints}
 use Rattle.std.proofs.lemmas.List.Elements.{All-head, All-tail}
@@ -7,19 +7,18 @@ use Rattle.fixed_units.specs.declared.readings.Reading.{Reading}
 use Rattle.rising.specs.Ends.{first, last}
 use Rattle.rising.proofs.Ends.{last-cons}
 use Rattle.curves.specs.declared.entries.Entry.{Entry}
-use Rattle.curves.specs.Bearing.{bearing}
 use Rattle.curves.specs.Corrections.{Corrections, AreCorrections}
 use Rattle.curves.specs.Entries.{IsSeries}
 use Rattle.curves.proofs.SeriesLemmas.{bearing_series}
-use Rattle.fixed_units.specs.Quantities.{IsStage, IsStamp}
+use Rattle.fixed_units.specs.Quantities.{IsDischarge, IsStage, IsStamp}
 use Rattle.ratings.specs.Numbered.{StationRatings, AreRatings}
 use Rattle.ratings.specs.Parts as rating_parts
 use Rattle.ratings.proofs.CuttingLemmas.{parts_are}
 use Rattle.rising.proofs.Selecting.{AllPairs-head, AllPairs-tail}
 use Rattle.readings.specs.Readings.{IsRising}
-use Rattle.day_inputs.specs.declared.day_inputs.DayInputs.{DayInputs}
+use Rattle.day_inputs.specs.declared.day_inputs.DayParts.{DayParts}
 use Rattle.day_inputs.specs.declared.day_inputs.DayInputs.TheVariants.{Empty, Day}
-use Rattle.day_inputs.specs.DayInputs.{last_at, window_ends, ends_of, with_window, AreInputs, most_gap, shortest_day, longest_day}
+use Rattle.day_inputs.specs.DayInputs.{bearing_on, parts_on, last_at, window_ends, ends_of, with_window, AreInputs, most_gap, shortest_day, longest_day}
 
 last_told : (r : Reading) (rs : List Reading) → option_map (λ (x : Reading). x.at) (last (r ∷ rs)) ≡ Some (last_at r rs)
 last_told r [] = refl
@@ -45,46 +44,54 @@ last_stamp : (r : Reading) (rs : List Reading) → All (λ r. IsStamp r.at) (r �
 last_stamp r [] h = All-head (λ (x : Reading). IsStamp x.at) r [] h
 last_stamp r (s ∷ rs) h = last_stamp s rs (All-tail (λ (x : Reading). IsStamp x.at) r (s ∷ rs) h)
 
-pub end_stamp : (w : List Reading) (span : ℤ × ℤ) → All (λ r. IsStamp r.at) w → window_ends w ≡ Some span → IsStamp span.1
-end_stamp [] span h e = absurd (cc)
-end_stamp (r ∷ rs) span h e =
-    let p : ◌≡◌ {A = ℤ × ℤ} (r.at, last_at r rs) span = cc in
-    subst IsStamp (ap (λ (x : ℤ × ℤ). x.1) p) (last_stamp r rs h)
+pub end_stamp : (w : List Reading) → All (λ r. IsStamp r.at) w → IfSome (window_ends w) (λ span. IsStamp span.1)
+end_stamp [] h = tt
+end_stamp (r ∷ rs) h = last_stamp r rs h
 
-module _ (gap : ℕ) (stages discharges : List ℕ) (from until : ℤ) (c : Corrections) (shifts : List Entry) (ratings : StationRatings) where
-  -- the inputs of a day whose window has these ends
-  pub between_ends : List Reading → ℤ → ℤ → DayInputs
-  between_ends w lo hi = Day (record {
+-- without entries and parts there is nothing to keep to
+no_entries : IsSeries []
+no_entries = record { rising = λ i j d u v. absurd (omega arith); amounts = λ i d u. absurd (omega arith) }
+
+no_parts : rating_parts.AreParts []
+no_parts = record { tables = λ i d u. absurd (omega arith); ordered = λ i d u. absurd (omega arith); apart = λ i j d u v. absurd (omega arith) }
+
+pub and_false : (b : Bool) → (b && false) ≡ false
+and_false true = refl
+and_false false = refl
+
+module _ (gap : ℕ) (stages discharges : List ℕ) (from until : ℤ) (c : Corrections) (shifts : List Entry) (ratings : StationRatings) (estimate : Option ℤ) where
+  -- the inputs of a day of this window, with what counts for this time
+  abbrev pub parts_with : List Reading → Option (ℤ × ℤ) → DayParts
+  parts_with w span = record {
     gap = gap;
     stage_array = stages;
     discharge_array = discharges;
     from = from;
     until = until;
     window = w;
-    first = bearing lo hi c.first;
-    second = bearing lo hi c.second;
-    third = bearing lo hi c.third;
-    shifts = bearing lo hi shifts;
-    periods = rating_parts.parts lo hi ratings.tables ratings.periods;
-  })
+    first = bearing_on span c.first;
+    second = bearing_on span c.second;
+    third = bearing_on span c.third;
+    shifts = bearing_on span shifts;
+    periods = parts_on span ratings;
+    estimate = estimate;
+  }
 
-  pub no_ends : (w : List Reading) → window_ends w ≡ None → Empty ≡ with_window gap stages discharges from until c shifts ratings w
-  no_ends [] e = refl
-  no_ends (r ∷ rs) e = absurd (cc)
+  pub no_inputs : (w : List Reading) → window_ends w ≡ None → estimate ≡ None → Empty ≡ with_window gap stages discharges from until c shifts ratings w estimate
+  no_inputs [] e f = rw f refl
+  no_inputs (r ∷ rs) e f = absurd (cc)
 
-  pub by_ends : (w : List Reading) (lo hi : ℤ) → window_ends w ≡ Some (lo, hi) → between_ends w lo hi ≡ with_window gap stages discharges from until c shifts ratings w
-  unfolding between_ends
-  by_ends [] lo hi e = absurd (cc)
-  by_ends (r ∷ rs) lo hi e =
-      let p : ◌≡◌ {A = ℤ × ℤ} (r.at, last_at r rs) (lo, hi) = cc in
-      let f : lo ≡ r.at = sym (ap (λ (x : ℤ × ℤ). x.0) p) in
-      let g : hi ≡ last_at r rs = sym (ap (λ (x : ℤ × ℤ). x.1) p) in
-      rw (f, g) refl
+  pub by_ends : (w : List Reading) → (is_none (window_ends w) && is_none estimate) ≡ false → Day (parts_with w (window_ends w)) ≡ with_window gap stages discharges from until c shifts ratings w estimate
+  by_ends (r ∷ rs) h = refl
+  by_ends [] h = without estimate refl h
+    where
+      without : (q : Option ℤ) → estimate ≡ q → is_none q ≡ false → Day (parts_with [] None) ≡ with_window gap stages discharges from until c shifts ratings [] estimate
+      without None e h = absurd (cc)
+      without (Some q) e h = rw e refl
 
   -- the same with the lists that were copied from the series
-  pub made : (w v : List Reading) (span : ℤ × ℤ) (one two three four first second third fourth : List Entry) (kept : StationRatings) (periods : List rating_parts.Part) → window_ends w ≡ Some span → v ≡ w
-      → first ≡ bearing span.0 span.1 one → second ≡ bearing span.0 span.1 two → third ≡ bearing span.0 span.1 three → fourth ≡ bearing span.0 span.1 four → periods ≡ rating_parts.parts span.0 span.1 kept.tables kept.periods
-      → one ≡ c.first → two ≡ c.second → three ≡ c.third → four ≡ shifts → kept ≡ ratings
+  pub made : (w v : List Reading) (span : Option (ℤ × ℤ)) (first second third fourth : List Entry) (periods : List rating_parts.Part) → span ≡ window_ends w → (is_none span && is_none estimate) ≡ false → v ≡ w
+      → first ≡ bearing_on span c.first → second ≡ bearing_on span c.second → third ≡ bearing_on span c.third → fourth ≡ bearing_on span shifts → periods ≡ parts_on span ratings
       → Day (record {
         gap = gap;
         stage_array = stages;
@@ -97,16 +104,33 @@ module _ (gap : ℕ) (stages discharges : List ℕ) (from until : ℤ) (c : Corr
         third = third;
         shifts = fourth;
         periods = periods;
-      }) ≡ with_window gap stages discharges from until c shifts ratings w
-  unfolding between_ends
-  made w v span one two three four first second third fourth kept periods h e f g i j o k l m n q =
-      rw (e, f, g, i, j, o, k, l, m, n, q) (by_ends w span.0 span.1 h)
+        estimate = estimate;
+      }) ≡ with_window gap stages discharges from until c shifts ratings w estimate
+  made w v span first second third fourth periods s h e f g i j k =
+      rw (e, f, g, i, j, k, s) (by_ends w (sym (ap (λ (x : Option (ℤ × ℤ)). is_none x && is_none estimate) s) ∙ h))
 
-  -- the inputs of a day keep to what they must, where the window and the series do
-  pub inputs_kept : 1 ≤ gap → gap ≤ most_gap → pos shortest_day ≤ℤ (until -ℤ from) → (until -ℤ from) ≤ℤ pos longest_day → AreCorrections c → IsSeries shifts → AreRatings ratings
-      → (w : List Reading) → IsRising w → All (λ r. IsStage r.raw) w → AreInputs (with_window gap stages discharges from until c shifts ratings w)
-  inputs_kept low high short long corrections series rated [] rising stage = tt
-  inputs_kept low high short long corrections series rated (r ∷ rs) rising stage = record {
+  -- the inputs of a day keep to what they must, where the window, the series and the estimate do
+  pub inputs_kept : 1 ≤ gap → gap ≤ most_gap → pos shortest_day ≤ℤ (until -ℤ from) → (until -ℤ from) ≤ℤ pos longest_day → AreCorrections c → IsSeries shifts → AreRatings ratings → IfSome estimate IsDischarge
+      → (w : List Reading) → IsRising w → All (λ r. IsStage r.raw) w → AreInputs (with_window gap stages discharges from until c shifts ratings w estimate)
+  inputs_kept low high short long corrections series rated estimated [] rising stage = kept estimate refl
+    where
+      kept : (q : Option ℤ) → estimate ≡ q → AreInputs (with_window gap stages discharges from until c shifts ratings [] estimate)
+      kept None e = rw e tt
+      kept (Some q) e = rw e (record {
+        gap_low = low;
+        gap_high = high;
+        shortest = short;
+        longest = long;
+        rising = rising;
+        stages = stage;
+        first = no_entries;
+        second = no_entries;
+        third = no_entries;
+        shifts = no_entries;
+        periods = no_parts;
+        estimate = subst (λ (x : Option ℤ). IfSome x IsDischarge) e estimated;
+      })
+  inputs_kept low high short long corrections series rated estimated (r ∷ rs) rising stage = record {
     gap_low = low;
     gap_high = high;
     shortest = short;
@@ -118,4 +142,5 @@ module _ (gap : ℕ) (stages discharges : List ℕ) (from until : ℤ) (c : Corr
     third = bearing_series r.at (last_at r rs) c.third corrections.third;
     shifts = bearing_series r.at (last_at r rs) shifts series;
     periods = parts_are r.at (last_at r rs) ratings rated (first_to_last r rs rising);
+    estimate = estimated;
   }

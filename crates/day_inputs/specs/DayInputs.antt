@@ -1,6 +1,6 @@
 -- The inputs of a day: all that its value depends on.
-use Rattle.std.specs.Prelude.{ℕ, ◌*◌, ◌≤◌, List, [], ◌∷◌, All, Option, Some, None, ℤ, pos, ◌-ℤ◌, ◌≤ℤ◌, ⊤}
-use Rattle.fixed_units.specs.Quantities.{IsStage}
+use Rattle.std.specs.Prelude.{ℕ, ◌*◌, ◌≤◌, List, [], ◌∷◌, All, IfSome, Option, Some, None, ℤ, pos, ◌-ℤ◌, ◌≤ℤ◌, ⊤}
+use Rattle.fixed_units.specs.Quantities.{IsDischarge, IsStage}
 use Rattle.fixed_units.specs.declared.readings.Reading.{Reading}
 use Rattle.readings.specs.Readings.{IsRising}
 use Rattle.readings.specs.Window.{window}
@@ -29,12 +29,40 @@ ends_of None last = None
 ends_of (Some first) None = None
 ends_of (Some first) (Some last) = Some (first.at, last.at)
 
--- the inputs of a day [from, until) with this window: none where the window is empty, and else with the entries of these
--- correction sets and shifts that bear on the time from its first reading to its last one, and the parts of the rating periods
--- that meet it
-abbrev pub with_window : ℕ → List ℕ → List ℕ → ℤ → ℤ → Corrections → List Entry → StationRatings → List Reading → DayInputs
-with_window gap stage_array discharge_array from until corrections shifts ratings [] = Empty
-with_window gap stage_array discharge_array from until corrections shifts ratings (r ∷ rs) = Day (record {
+-- the entries of a series that bear on the time between two instants, and the parts of the rating periods that meet it: none without
+-- that time
+abbrev pub bearing_on : Option (ℤ × ℤ) → List Entry → List Entry
+bearing_on None entries = []
+bearing_on (Some span) entries = bearing span.0 span.1 entries
+
+abbrev pub parts_on : Option (ℤ × ℤ) → StationRatings → List rating_parts.Part
+parts_on None ratings = []
+parts_on (Some span) ratings = rating_parts.parts span.0 span.1 ratings.tables ratings.periods
+
+-- the inputs of a day [from, until) without a window: none, but where an estimate stands; then no entry and no period counts
+abbrev pub without_window : ℕ → List ℕ → List ℕ → ℤ → ℤ → Option ℤ → DayInputs
+without_window gap stage_array discharge_array from until None = Empty
+without_window gap stage_array discharge_array from until (Some discharge) = Day (record {
+  gap = gap;
+  stage_array = stage_array;
+  discharge_array = discharge_array;
+  from = from;
+  until = until;
+  window = [];
+  first = [];
+  second = [];
+  third = [];
+  shifts = [];
+  periods = [];
+  estimate = Some discharge;
+})
+
+-- the inputs of a day [from, until) with this window and this estimate, if there is one: with the entries of these correction sets
+-- and shifts that bear on the time from the window's first reading to its last one, and the parts of the rating periods that meet it
+abbrev pub with_window : ℕ → List ℕ → List ℕ → ℤ → ℤ → Corrections → List Entry → StationRatings → List Reading → Option ℤ → DayInputs
+with_window gap stage_array discharge_array from until corrections shifts ratings [] estimate =
+    without_window gap stage_array discharge_array from until estimate
+with_window gap stage_array discharge_array from until corrections shifts ratings (r ∷ rs) estimate = Day (record {
   gap = gap;
   stage_array = stage_array;
   discharge_array = discharge_array;
@@ -46,13 +74,14 @@ with_window gap stage_array discharge_array from until corrections shifts rating
   third = bearing r.at (last_at r rs) corrections.third;
   shifts = bearing r.at (last_at r rs) shifts;
   periods = rating_parts.parts r.at (last_at r rs) ratings.tables ratings.periods;
+  estimate = estimate;
 })
 
 -- the inputs of the day [from, until) of a station with this gap tolerance, in minutes, these rounding arrays, correction sets,
--- shifts, ratings and readings
-abbrev pub day_inputs : ℕ → List ℕ → List ℕ → ℤ → ℤ → Corrections → List Entry → StationRatings → List Reading → DayInputs
-day_inputs gap stage_array discharge_array from until corrections shifts ratings readings =
-    with_window gap stage_array discharge_array from until corrections shifts ratings (window from until (pos (60 * gap)) readings)
+-- shifts, ratings and readings, and this estimate of the day
+abbrev pub day_inputs : ℕ → List ℕ → List ℕ → ℤ → ℤ → Corrections → List Entry → StationRatings → List Reading → Option ℤ → DayInputs
+day_inputs gap stage_array discharge_array from until corrections shifts ratings readings estimate =
+    with_window gap stage_array discharge_array from until corrections shifts ratings (window from until (pos (60 * gap)) readings) estimate
 
 -- a day has 20 to 28 hours, in seconds
 abbrev pub shortest_day : ℕ
@@ -66,7 +95,7 @@ abbrev pub most_gap : ℕ
 most_gap = 720
 
 -- what the inputs of a day keep to: a gap tolerance of 1 to 720 minutes, a day of 20 to 28 hours, rising readings of stages,
--- series of entries, and parts of rating periods
+-- series of entries, parts of rating periods, and an estimate that is a discharge
 pub record AreParts (parts : DayParts) : Type 0 where
   pub gap_low : 1 ≤ parts.gap
   pub gap_high : parts.gap ≤ most_gap
@@ -79,6 +108,7 @@ pub record AreParts (parts : DayParts) : Type 0 where
   pub third : IsSeries parts.third
   pub shifts : IsSeries parts.shifts
   pub periods : rating_parts.AreParts parts.periods
+  pub estimate : IfSome parts.estimate IsDischarge
 
 abbrev pub AreInputs : DayInputs → Type 0
 AreInputs Empty = ⊤

@@ -3,26 +3,35 @@ use Rattle.std.specs.Prelude.{Bool, true, false, ◌&&◌, ◌==◌, bytes_eq, L
 use Rattle.std.specs.Ordering.{int_eq}
 use Rattle.readings.specs.Equality.{same_readings}
 use Rattle.curves.specs.declared.entries.Entry.{Entry}
-use Rattle.curves.specs.Bearing.{bearing}
 use Rattle.curves.specs.Corrections.{Corrections}
 use Rattle.curves.specs.Equality.{same_entries}
 use Rattle.ratings.specs.Numbered.{StationRatings}
 use Rattle.ratings.specs.PartEquality.{same_parts}
-use Rattle.ratings.specs.Parts as rating_parts
-use Rattle.day_inputs.specs.DayInputs.{window_ends}
+use Rattle.day_inputs.specs.DayInputs.{bearing_on, parts_on, window_ends}
 use Rattle.day_inputs.specs.declared.day_inputs.DayInputs.{DayInputs}
 use Rattle.day_inputs.specs.declared.day_inputs.DayInputs.TheVariants.{Empty, Day}
 use Rattle.day_inputs.specs.declared.day_inputs.DayParts.{DayParts}
+
+-- the estimates are one, or there is none
+abbrev pub same_estimate : Option ℤ → Option ℤ → Bool
+same_estimate None None = true
+same_estimate (Some q) (Some r) = int_eq q r
+same_estimate _ _ = false
+
+-- the windows, the entries, the rating periods and the estimates are the same
+abbrev pub same_contents : DayParts → DayParts → Bool
+same_contents p q =
+    same_readings p.window q.window && (same_entries p.first q.first && (same_entries p.second q.second
+    && (same_entries p.third q.third && (same_entries p.shifts q.shifts && (same_parts p.periods q.periods
+    && same_estimate p.estimate q.estimate)))))
 
 -- each member is the same
 abbrev pub same_members : DayParts → DayParts → Bool
 same_members p q =
     p.gap == q.gap && (bytes_eq p.stage_array q.stage_array && (bytes_eq p.discharge_array q.discharge_array
-    && (int_eq p.from q.from && (int_eq p.until q.until && (same_readings p.window q.window
-    && (same_entries p.first q.first && (same_entries p.second q.second
-    && (same_entries p.third q.third && (same_entries p.shifts q.shifts && same_parts p.periods q.periods)))))))))
+    && (int_eq p.from q.from && (int_eq p.until q.until && same_contents p q))))
 
--- both days have no window, or both have one and their parts are the same
+-- both days have no inputs, or both have some and their parts are the same
 abbrev pub same_inputs : DayInputs → DayInputs → Bool
 same_inputs Empty Empty = true
 same_inputs Empty (Day q) = false
@@ -30,16 +39,13 @@ same_inputs (Day p) Empty = false
 same_inputs (Day p) (Day q) = same_members p q
 
 -- the entries of a day are those of the series that bear on the time between two instants, and its rating periods are those of the
--- station that meet it, cut to it
-abbrev pub has_rules_between : Corrections → List Entry → StationRatings → DayParts → Option (ℤ × ℤ) → Bool
-has_rules_between corrections shifts ratings p None = false
-has_rules_between corrections shifts ratings p (Some span) =
-    same_entries p.first (bearing span.0 span.1 corrections.first)
-    && (same_entries p.second (bearing span.0 span.1 corrections.second)
-    && (same_entries p.third (bearing span.0 span.1 corrections.third)
-    && (same_entries p.shifts (bearing span.0 span.1 shifts)
-    && same_parts p.periods (rating_parts.parts span.0 span.1 ratings.tables ratings.periods))))
+-- station that meet it, cut to it; without that time there are none
+abbrev pub has_rules_on : Corrections → List Entry → StationRatings → DayParts → Option (ℤ × ℤ) → Bool
+has_rules_on corrections shifts ratings p span =
+    same_entries p.first (bearing_on span corrections.first) && (same_entries p.second (bearing_on span corrections.second)
+    && (same_entries p.third (bearing_on span corrections.third) && (same_entries p.shifts (bearing_on span shifts)
+    && same_parts p.periods (parts_on span ratings))))
 
--- the entries and rating periods of a day are those that count for its window, which is not empty
+-- the entries and rating periods of a day are those that count for its window
 abbrev pub has_rules : Corrections → List Entry → StationRatings → DayParts → Bool
-has_rules corrections shifts ratings p = has_rules_between corrections shifts ratings p (window_ends p.window)
+has_rules corrections shifts ratings p = has_rules_on corrections shifts ratings p (window_ends p.window)

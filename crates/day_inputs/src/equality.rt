@@ -2,7 +2,7 @@
 
 ghost use Rattle.std.specs.Prelude.{◌≡◌, true, ◌↔◌};
 ghost use Rattle.std.specs.Bool.{Decides};
-ghost use Rattle.day_inputs.specs.Equality.{same_inputs, same_members};
+ghost use Rattle.day_inputs.specs.Equality.{same_contents, same_inputs, same_members};
 ghost use Rattle.day_inputs.specs.declared.day_inputs.DayInputs.{DayInputs};
 
 use crate::day_inputs::{DayInputs, DayParts};
@@ -33,10 +33,18 @@ fn are_same_parts(parts: &DayParts, others: &DayParts) -> bool
         && parts.discharge_array == others.discharge_array
         && parts.from == others.from
         && parts.until == others.until
-        && readings::are_same(parts.window.as_slice(), others.window.as_slice())
+        && are_same_contents(parts, others)
+}
+
+/// Whether the windows, the entries, the rating periods and the estimates of two days are equal.
+fn are_same_contents(parts: &DayParts, others: &DayParts) -> bool
+    ensures { result ≡ same_contents parts.now others.now }
+{
+    readings::are_same(parts.window.as_slice(), others.window.as_slice())
         && curves::are_same(parts.first.as_slice(), others.first.as_slice())
         && curves::are_same(parts.second.as_slice(), others.second.as_slice())
         && curves::are_same(parts.third.as_slice(), others.third.as_slice())
         && curves::are_same(parts.shifts.as_slice(), others.shifts.as_slice())
         && ratings::are_same(parts.periods.as_slice(), others.periods.as_slice())
+        && parts.estimate == others.estimate
 }

@@ -7,5 +7,5 @@ pub mod making;
 
 pub use day_inputs::{DayInputs, DayParts};
 pub use equality::are_same;
-pub use making::{ends, has_rules, with_window};
+pub use making::{Settings, ends, has_rules, with_window};
 pub use readings::window_is;

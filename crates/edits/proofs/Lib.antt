@@ -1,3 +1,4 @@
 pub mod EditLemmas
+pub mod ReadingLemmas
 pub mod TestLemmas
 pub mod TextLemmas

@@ -1,7 +1,7 @@
 -- Why there is no such edit.
 use Rattle.edits.specs.Lawful.{IsLawful}
 use Rattle.edits.specs.declared.content.What.{What}
-use Rattle.edits.specs.declared.content.What.TheVariants.{AddStation, SetStation, PutReadings, PutCorrection, DropCorrection, PutShift, DropShift, AddRating, PutPeriod, DropPeriod, PutMeasurement, DropMeasurement}
+use Rattle.edits.specs.declared.content.What.TheVariants.{AddStation, SetStation, PutReadings, DropReadings, FlagReadings, PutCorrection, DropCorrection, PutShift, DropShift, AddRating, PutPeriod, DropPeriod, PutEstimate, DropEstimate, PutMeasurement, DropMeasurement}
 use Rattle.edits.specs.declared.faults.EditFault.{EditFault}
 use Rattle.edits.specs.declared.faults.EditFault.TheVariants.{NotLawful, NoMemory}
 
@@ -10,6 +10,8 @@ abbrev pub AddsStation : What → Type 0
 AddsStation (AddStation name zone gap stage_array discharge_array) = Unit {0}
 AddsStation (SetStation name gap stage_array discharge_array) = ⊥
 AddsStation (PutReadings readings) = ⊥
+AddsStation (DropReadings from to) = ⊥
+AddsStation (FlagReadings from to flag) = ⊥
 AddsStation (PutCorrection set at curve prorate) = ⊥
 AddsStation (DropCorrection set at) = ⊥
 AddsStation (PutShift at curve prorate) = ⊥
@@ -17,6 +19,8 @@ AddsStation (DropShift at) = ⊥
 AddsStation (AddRating rating table) = ⊥
 AddsStation (PutPeriod period) = ⊥
 AddsStation (DropPeriod from) = ⊥
+AddsStation (PutEstimate estimate) = ⊥
+AddsStation (DropEstimate day) = ⊥
 AddsStation (PutMeasurement measurement) = ⊥
 AddsStation (DropMeasurement number) = ⊥
 

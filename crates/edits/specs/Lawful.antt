@@ -1,14 +1,14 @@
 -- What an edit keeps to, by its kind.
-use Rattle.std.specs.Prelude.{◌≡◌, ℕ, ◌≤◌, List, length, All, IfSome, ℤ}
+use Rattle.std.specs.Prelude.{ℕ, ◌≤◌, ◌≤ℤ◌, List, length, All, IfSome, ℤ}
 use Rattle.civil_days.specs.Starts.{IsZone}
 use Rattle.curves.specs.Curve.{stage_of}
 use Rattle.edits.specs.Texts.{IsName}
 use Rattle.edits.specs.declared.content.What.{What}
-use Rattle.edits.specs.declared.content.What.TheVariants.{AddStation, SetStation, PutReadings, PutCorrection, DropCorrection, PutShift, DropShift, AddRating, PutPeriod, DropPeriod, PutMeasurement, DropMeasurement}
+use Rattle.edits.specs.declared.content.What.TheVariants.{AddStation, SetStation, PutReadings, DropReadings, FlagReadings, PutCorrection, DropCorrection, PutShift, DropShift, AddRating, PutPeriod, DropPeriod, PutEstimate, DropEstimate, PutMeasurement, DropMeasurement}
+use Rattle.edits.specs.declared.estimates.Estimate.{Estimate}
 use Rattle.edits.specs.declared.measurements.Measurement.{Measurement}
-use Rattle.fixed_units.specs.Quantities.{IsAmount, IsDischarge, IsStage, IsStamp}
+use Rattle.fixed_units.specs.Quantities.{IsAmount, IsDay, IsDischarge, IsStage, IsStamp}
 use Rattle.fixed_units.specs.RoundingArray.{IsRoundingArray}
-use Rattle.fixed_units.specs.declared.readings.Flag.TheVariants.{Usable}
 use Rattle.fixed_units.specs.declared.readings.Reading.{Reading}
 use Rattle.readings.specs.Readings.{IsRising}
 use Rattle.rating_tables.specs.Table.{IsRating}
@@ -37,13 +37,12 @@ pub record IsStationZone (text : List ℕ) : Type 0 where
 
 -- how many readings one edit puts at most
 abbrev pub most_readings : ℕ
-most_readings = 1
+most_readings = 100_000
 
--- a reading that is put: a usable stage at a stamp
+-- a reading that is put: a stage at a stamp, of any flag
 pub record IsPutReading (reading : Reading) : Type 0 where
   pub stamp : IsStamp reading.at
   pub stage : IsStage reading.raw
-  pub usable : reading.flag ≡ Usable
 
 -- readings that are put rise by instant
 pub record ArePutReadings (readings : List Reading) : Type 0 where
@@ -51,6 +50,12 @@ pub record ArePutReadings (readings : List Reading) : Type 0 where
   pub most : length readings ≤ most_readings
   pub rising : IsRising readings
   pub each : All IsPutReading readings
+
+-- the span of a drop or of a flagging: from a stamp to one that is not before it
+pub record IsReadingSpan (from to : ℤ) : Type 0 where
+  pub begins : IsStamp from
+  pub ends : IsStamp to
+  pub ordered : from ≤ℤ to
 
 -- the number of a correction set: 1 to 3
 pub record IsSetNumber (set : ℕ) : Type 0 where
@@ -81,6 +86,11 @@ pub record IsPutPeriod (period : Span) : Type 0 where
   pub ends : IfSome period.until IsStamp
   pub ordered : EndsLater period
 
+-- an estimate that is put: a discharge of a day
+pub record IsPutEstimate (estimate : Estimate) : Type 0 where
+  pub day : IsDay estimate.day
+  pub discharge : IsDischarge estimate.discharge
+
 -- the number of a measurement: from 1, in 32 bits
 pub record IsMeasurementNumber (number : ℕ) : Type 0 where
   pub least : 1 ≤ number
@@ -99,6 +109,8 @@ IsLawful (AddStation name zone gap stage_array discharge_array) =
     AreSettings name gap stage_array discharge_array × IsStationZone zone
 IsLawful (SetStation name gap stage_array discharge_array) = AreSettings name gap stage_array discharge_array
 IsLawful (PutReadings readings) = ArePutReadings readings
+IsLawful (DropReadings from to) = IsReadingSpan from to
+IsLawful (FlagReadings from to flag) = IsReadingSpan from to
 IsLawful (PutCorrection set at curve prorate) = IsSetNumber set × IsStamp at × IsPutCurve curve
 IsLawful (DropCorrection set at) = IsSetNumber set × IsStamp at
 IsLawful (PutShift at curve prorate) = IsStamp at × IsPutCurve curve
@@ -106,5 +118,7 @@ IsLawful (DropShift at) = IsStamp at
 IsLawful (AddRating rating table) = IsRatingNumber rating × IsRating table
 IsLawful (PutPeriod period) = IsPutPeriod period
 IsLawful (DropPeriod from) = IsStamp from
+IsLawful (PutEstimate estimate) = IsPutEstimate estimate
+IsLawful (DropEstimate day) = IsDay day
 IsLawful (PutMeasurement measurement) = IsPutMeasurement measurement
 IsLawful (DropMeasurement number) = IsMeasurementNumber number

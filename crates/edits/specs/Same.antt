@@ -5,13 +5,14 @@ use Rattle.curves.specs.Entries.{entry_of}
 use Rattle.curves.specs.Equality.{same_entry}
 use Rattle.edits.specs.declared.content.Edit.{Edit}
 use Rattle.edits.specs.declared.content.What.{What}
-use Rattle.edits.specs.declared.content.What.TheVariants.{AddStation, SetStation, PutReadings, PutCorrection, DropCorrection, PutShift, DropShift, AddRating, PutPeriod, DropPeriod, PutMeasurement, DropMeasurement}
+use Rattle.edits.specs.declared.content.What.TheVariants.{AddStation, SetStation, PutReadings, DropReadings, FlagReadings, PutCorrection, DropCorrection, PutShift, DropShift, AddRating, PutPeriod, DropPeriod, PutEstimate, DropEstimate, PutMeasurement, DropMeasurement}
 use Rattle.edits.specs.Grades.{grade_number}
+use Rattle.edits.specs.declared.estimates.Estimate.{Estimate}
 use Rattle.edits.specs.declared.measurements.Measurement.{Measurement}
 use Rattle.fixed_units.specs.Quantities.{same_site}
 use Rattle.rating_tables.specs.RowEquality.{same_rows}
 use Rattle.ratings.specs.Spans.{Span}
-use Rattle.readings.specs.Equality.{same_readings}
+use Rattle.readings.specs.Equality.{same_flag, same_readings}
 
 -- sent by the same person, under the same reference and about the same site
 abbrev pub are_sent_alike : Edit → Edit → Bool
@@ -26,6 +27,14 @@ same_end _ _ = false
 -- the starts, the ends and the numbers of the ratings are
 abbrev pub same_period : Span → Span → Bool
 same_period p q = int_eq p.from q.from && (same_end p.until q.until && p.rating == q.rating)
+
+-- the first and the last instants are
+abbrev pub same_span : ℤ → ℤ → ℤ → ℤ → Bool
+same_span from to its_from its_to = int_eq from its_from && int_eq to its_to
+
+-- the days and the discharges are
+abbrev pub same_estimate : Estimate → Estimate → Bool
+same_estimate a b = int_eq a.day b.day && int_eq a.discharge b.discharge
 
 -- the numbers, the instants, the gage heights, the discharges and the grades are
 abbrev pub same_measurement : Measurement → Measurement → Bool
@@ -42,6 +51,8 @@ is_same_what (AddStation name zone gap stages discharges) (AddStation its_name i
 is_same_what (SetStation name gap stages discharges) (SetStation its_name its_gap its_stages its_discharges) =
     bytes_eq name its_name && (gap == its_gap && (bytes_eq stages its_stages && bytes_eq discharges its_discharges))
 is_same_what (PutReadings readings) (PutReadings its_readings) = same_readings readings its_readings
+is_same_what (DropReadings from to) (DropReadings its_from its_to) = same_span from to its_from its_to
+is_same_what (FlagReadings from to flag) (FlagReadings its_from its_to its_flag) = same_span from to its_from its_to && same_flag flag its_flag
 is_same_what (PutCorrection set at curve prorate) (PutCorrection its_set its_at its_curve its_prorate) =
     set == its_set && same_entry (entry_of at curve prorate) (entry_of its_at its_curve its_prorate)
 is_same_what (DropCorrection set at) (DropCorrection its_set its_at) = set == its_set && int_eq at its_at
@@ -50,6 +61,8 @@ is_same_what (DropShift at) (DropShift its_at) = int_eq at its_at
 is_same_what (AddRating rating table) (AddRating its_rating its_table) = rating == its_rating && same_rows table its_table
 is_same_what (PutPeriod period) (PutPeriod its_period) = same_period period its_period
 is_same_what (DropPeriod from) (DropPeriod its_from) = int_eq from its_from
+is_same_what (PutEstimate estimate) (PutEstimate its_estimate) = same_estimate estimate its_estimate
+is_same_what (DropEstimate day) (DropEstimate its_day) = int_eq day its_day
 is_same_what (PutMeasurement measurement) (PutMeasurement its_measurement) = same_measurement measurement its_measurement
 is_same_what (DropMeasurement number) (DropMeasurement its_number) = number == its_number
 is_same_what _ _ = false

@@ -4,11 +4,12 @@ use Rattle.std.proofs.Common.{ap, ◌∙◌}
 use Rattle.std.proofs.Props.{props}
 use Rattle.civil_days.specs.Starts.{IsZone}
 use Rattle.civil_days.proofs.ZoneLemmas.{IsZone-prop}
-use Rattle.edits.specs.Lawful.{IsLawful, AreSettings, ArePutReadings, IsMeasurementNumber, IsPutCurve, IsPutMeasurement, IsPutPeriod, IsRatingNumber, IsSetNumber, IsStationZone}
+use Rattle.edits.specs.Lawful.{IsLawful, AreSettings, ArePutReadings, IsMeasurementNumber, IsPutCurve, IsPutEstimate, IsPutMeasurement, IsPutPeriod, IsRatingNumber, IsReadingSpan, IsSetNumber, IsStationZone}
 use Rattle.edits.specs.Texts.{IsName}
 use Rattle.edits.specs.declared.content.What.{What}
-use Rattle.edits.specs.declared.content.What.TheVariants.{AddStation, SetStation, PutReadings, PutCorrection, DropCorrection, PutShift, DropShift, AddRating, PutPeriod, DropPeriod, PutMeasurement, DropMeasurement}
-use Rattle.fixed_units.specs.Quantities.{IsStamp}
+use Rattle.edits.specs.declared.content.What.TheVariants.{AddStation, SetStation, PutReadings, DropReadings, FlagReadings, PutCorrection, DropCorrection, PutShift, DropShift, AddRating, PutPeriod, DropPeriod, PutEstimate, DropEstimate, PutMeasurement, DropMeasurement}
+use Rattle.fixed_units.specs.Quantities.{IsDay, IsStamp}
+use Rattle.edits.specs.declared.estimates.Estimate.{Estimate}
 use Rattle.edits.specs.declared.measurements.Measurement.{Measurement}
 use Rattle.fixed_units.specs.declared.readings.Reading.{Reading}
 use Rattle.rating_tables.specs.Table.{Row, IsRating}
@@ -30,6 +31,9 @@ settings_prop name gap stages discharges = Prim.hlevel props
 readings_prop : (readings : List Reading) → IsProp (ArePutReadings readings)
 readings_prop readings = Prim.hlevel props
 
+span_prop : (from to : ℤ) → IsProp (IsReadingSpan from to)
+span_prop from to = Prim.hlevel props
+
 put_correction_prop : (set : ℕ) (at : ℤ) (curve : List (ℤ × ℤ)) → IsProp (IsSetNumber set × IsStamp at × IsPutCurve curve)
 put_correction_prop set at curve = Prim.hlevel props
 
@@ -48,6 +52,12 @@ add_rating_prop rating table = Prim.hlevel props
 period_prop : (period : Span) → IsProp (IsPutPeriod period)
 period_prop period = Prim.hlevel props
 
+estimate_prop : (estimate : Estimate) → IsProp (IsPutEstimate estimate)
+estimate_prop estimate = Prim.hlevel props
+
+day_prop : (day : ℤ) → IsProp (IsDay day)
+day_prop day = Prim.hlevel props
+
 measurement_prop : (measurement : Measurement) → IsProp (IsPutMeasurement measurement)
 measurement_prop measurement = Prim.hlevel props
 
@@ -59,6 +69,8 @@ IsLawful-prop (AddStation name zone gap stages discharges) a b =
     ap (λ (x : AreSettings name gap stages discharges). (x, a.1)) (settings_prop name gap stages discharges a.0 b.0) ∙ ap (λ (x : IsStationZone zone). (b.0, x)) (IsStationZone-prop zone a.1 b.1)
 IsLawful-prop (SetStation name gap stages discharges) a b = settings_prop name gap stages discharges a b
 IsLawful-prop (PutReadings readings) a b = readings_prop readings a b
+IsLawful-prop (DropReadings from to) a b = span_prop from to a b
+IsLawful-prop (FlagReadings from to flag) a b = span_prop from to a b
 IsLawful-prop (PutCorrection set at curve prorate) a b = put_correction_prop set at curve a b
 IsLawful-prop (DropCorrection set at) a b = drop_correction_prop set at a b
 IsLawful-prop (PutShift at curve prorate) a b = put_shift_prop at curve a b
@@ -66,5 +78,7 @@ IsLawful-prop (DropShift at) a b = stamp_prop at a b
 IsLawful-prop (AddRating rating table) a b = add_rating_prop rating table a b
 IsLawful-prop (PutPeriod period) a b = period_prop period a b
 IsLawful-prop (DropPeriod from) a b = stamp_prop from a b
+IsLawful-prop (PutEstimate estimate) a b = estimate_prop estimate a b
+IsLawful-prop (DropEstimate day) a b = day_prop day a b
 IsLawful-prop (PutMeasurement measurement) a b = measurement_prop measurement a b
 IsLawful-prop (DropMeasurement number) a b = number_prop number a b

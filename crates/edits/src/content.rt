@@ -3,11 +3,12 @@
 ghost use Rattle.edits.specs.Lawful.{IsLawful};
 ghost use Rattle.edits.specs.Single.{IsLawful-prop};
 
+use crate::estimates::Estimate;
 use crate::measurements::Measurement;
 use crate::names::Name;
 use crate::senders::{By, Ref};
 use curves::Curve;
-use fixed_units::{RoundingArray, Second, Site};
+use fixed_units::{Day, Flag, RoundingArray, Second, Site};
 use ratings::{Period, SharedTable};
 use readings::ReadingList;
 
@@ -38,10 +39,26 @@ pub enum What {
         /// The rounding array for discharges.
         discharge_array: RoundingArray,
     },
-    /// Puts each reading in place of the one at its instant.
+    /// Puts each reading in place of the one at its instant, with its flag.
     PutReadings {
-        /// The readings, rising by instant: one usable stage at a stamp.
+        /// The readings, 1 to 100,000, rising by instant: stages at stamps, of any flag.
         readings: ReadingList,
+    },
+    /// Takes out every reading from an instant to another, both included.
+    DropReadings {
+        /// The first instant: a stamp.
+        from: Second,
+        /// The last instant: a stamp that is not before the first.
+        to: Second,
+    },
+    /// Flags every reading from an instant to another, both included.
+    FlagReadings {
+        /// The first instant: a stamp.
+        from: Second,
+        /// The last instant: a stamp that is not before the first.
+        to: Second,
+        /// The flag that each of them has then.
+        flag: Flag,
     },
     /// Puts an entry of a correction set in place of the one at its instant.
     PutCorrection {
@@ -91,6 +108,16 @@ pub enum What {
     DropPeriod {
         /// The start of the period: a stamp.
         from: Second,
+    },
+    /// Puts an estimate of a day's mean discharge in place of the one of its day.
+    PutEstimate {
+        /// The estimate.
+        estimate: Estimate,
+    },
+    /// Takes out the estimate of a day.
+    DropEstimate {
+        /// The day.
+        day: Day,
     },
     /// Puts a field measurement in place of the one of its number.
     PutMeasurement {

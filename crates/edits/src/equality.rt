@@ -2,13 +2,14 @@
 
 ghost use Rattle.std.specs.Prelude.{◌≡◌, ◌↔◌, true};
 ghost use Rattle.edits.specs.Same.{are_sent_alike, is_same, is_same_what, same_period};
-ghost use Rattle.edits.specs.declared.content.What.TheVariants.{AddStation, SetStation, PutReadings, PutCorrection, DropCorrection, PutShift, DropShift, AddRating, PutPeriod, DropPeriod, PutMeasurement, DropMeasurement};
+ghost use Rattle.edits.specs.declared.content.What.TheVariants.{AddStation, SetStation, PutReadings, DropReadings, FlagReadings, PutCorrection, DropCorrection, PutShift, DropShift, AddRating, PutPeriod, DropPeriod, PutEstimate, DropEstimate, PutMeasurement, DropMeasurement};
 
 use crate::content::{Edit, What};
+use crate::estimates::Estimate;
 use crate::measurements::Measurement;
 use crate::names::Name;
 use curves::{Entry, is_same_entry};
-use fixed_units::{Reading, RoundingArray, Second};
+use fixed_units::{Day, Flag, Reading, RoundingArray, Second};
 use ratings::{Period, SharedTable};
 use readings::are_same;
 
@@ -53,6 +54,8 @@ fn is_same_what(what: &What, other: &What) -> bool
             discharge_array,
         } => is_setting(other, name, *gap, *stage_array, *discharge_array),
         What::PutReadings { readings } => is_put(other, readings.as_slice()),
+        What::DropReadings { from, to } => is_dropped_span(other, *from, *to),
+        What::FlagReadings { from, to, flag } => is_flagged_span(other, *from, *to, *flag),
         What::PutCorrection {
             set,
             at,
@@ -67,6 +70,8 @@ fn is_same_what(what: &What, other: &What) -> bool
         What::AddRating { rating, table } => is_added_rating(other, *rating, table),
         What::PutPeriod { period } => is_put_period(other, period),
         What::DropPeriod { from } => is_dropped_period(other, *from),
+        What::PutEstimate { estimate } => is_put_estimate(other, estimate),
+        What::DropEstimate { day } => is_dropped_estimate(other, *day),
         What::PutMeasurement { measurement } => is_put_measurement(other, measurement),
         What::DropMeasurement { number } => is_dropped_measurement(other, *number),
     }
@@ -136,6 +141,35 @@ fn is_put(what: &What, readings: &[Reading]) -> bool
 {
     match what {
         What::PutReadings { readings: own } => are_same(readings, own.as_slice()),
+        _ => false,
+    }
+}
+
+/// Whether this takes out the readings from an instant to another.
+fn is_dropped_span(what: &What, from: Second, to: Second) -> bool
+    ensures same { result ≡ is_same_what (DropReadings from to) what.now }
+    ensures equal { result ≡ true ↔ what.now ≡ DropReadings from to }
+{
+    match what {
+        What::DropReadings {
+            from: own_from,
+            to: own_to,
+        } => from == *own_from && to == *own_to,
+        _ => false,
+    }
+}
+
+/// Whether this flags the readings from an instant to another.
+fn is_flagged_span(what: &What, from: Second, to: Second, flag: Flag) -> bool
+    ensures same { result ≡ is_same_what (FlagReadings from to flag) what.now }
+    ensures equal { result ≡ true ↔ what.now ≡ FlagReadings from to flag }
+{
+    match what {
+        What::FlagReadings {
+            from: own_from,
+            to: own_to,
+            flag: own_flag,
+        } => from == *own_from && to == *own_to && flag == *own_flag,
         _ => false,
     }
 }
@@ -238,6 +272,28 @@ fn is_dropped_period(what: &What, from: Second) -> bool
 {
     match what {
         What::DropPeriod { from: own_from } => from == *own_from,
+        _ => false,
+    }
+}
+
+/// Whether this puts the estimate.
+fn is_put_estimate(what: &What, estimate: &Estimate) -> bool
+    ensures same { result ≡ is_same_what (PutEstimate estimate.now) what.now }
+    ensures equal { result ≡ true ↔ what.now ≡ PutEstimate estimate.now }
+{
+    match what {
+        What::PutEstimate { estimate: own } => estimate.is_same(own),
+        _ => false,
+    }
+}
+
+/// Whether this takes out the estimate of a day.
+fn is_dropped_estimate(what: &What, day: Day) -> bool
+    ensures same { result ≡ is_same_what (DropEstimate day) what.now }
+    ensures equal { result ≡ true ↔ what.now ≡ DropEstimate day }
+{
+    match what {
+        What::DropEstimate { day: own_day } => day == *own_day,
         _ => false,
     }
 }

@@ -4,6 +4,7 @@
 
 pub mod content;
 pub mod equality;
+pub mod estimates;
 pub mod faults;
 pub mod making;
 pub mod measurements;
@@ -11,10 +12,12 @@ pub mod names;
 pub mod senders;
 
 pub use content::{Edit, What};
+pub use estimates::Estimate;
 pub use faults::EditFault;
 pub use making::{
-    are_put_readings, are_settings, is_gap, is_measurement_number, is_put_curve,
-    is_put_measurement, is_put_period, is_put_point, is_rating_number, is_set_number, is_zone,
+    are_put_readings, are_settings, is_gap, is_measurement_number, is_put_curve, is_put_estimate,
+    is_put_measurement, is_put_period, is_put_point, is_put_reading, is_rating_number,
+    is_reading_count, is_reading_span, is_set_number, is_zone,
 };
 pub use measurements::{Grade, Measurement};
 pub use names::{Name, is_name};

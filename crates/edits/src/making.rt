@@ -1,23 +1,26 @@
 //! How an edit is made: whether what it changes is lawful is tested here, whole and by its members.
 
-ghost use Rattle.std.specs.Prelude.{◌≡◌, ◌↔◌, true, IfOk, IfErr, IfSome, OnErr, All};
+ghost use Rattle.std.specs.Prelude.{◌≡◌, ◌↔◌, true, ◌≤◌, ◌&&◌, int_lt, length, IfOk, IfErr, IfSome, OnErr, All};
 ghost use Rattle.civil_days.specs.Starts.{IsZone};
 ghost use Rattle.edits.specs.Faults.{AddsStation, IsEditFault};
-ghost use Rattle.edits.specs.Lawful.{IsLawful, AreSettings, ArePutReadings, IsGap, IsMeasurementNumber, IsPutCurve, IsPutMeasurement, IsPutPeriod, IsPutPoint, IsPutReading, IsRatingNumber, IsSetNumber, IsStationZone};
-ghost use Rattle.fixed_units.specs.Quantities.{IsStamp};
+ghost use Rattle.edits.specs.Lawful.{IsLawful, AreSettings, ArePutReadings, IsGap, IsMeasurementNumber, IsPutCurve, IsPutEstimate, IsPutMeasurement, IsPutPeriod, IsPutPoint, IsPutReading, IsRatingNumber, IsReadingSpan, IsSetNumber, IsStationZone, most_readings};
+ghost use Rattle.fixed_units.specs.Quantities.{IsDay, IsStamp, is_stage, is_stamp};
+ghost use Rattle.rating_tables.specs.Table.{IsRating};
+ghost use Rattle.readings.specs.Readings.{IsRising};
 
 use crate::content::{Edit, What};
+use crate::estimates::Estimate;
 use crate::faults::EditFault;
 use crate::measurements::Measurement;
-use crate::names::is_name;
+use crate::names::{Name, is_name};
 use crate::senders::{By, Ref};
 use civil_days::{StationZone, ZoneFault};
 use curves::Curve;
 use fixed_units::{
-    Flag, Micro, NoMemory, Reading, RoundingArray, Second, Site, is_amount, is_discharge, is_stage,
+    Day, Micro, NoMemory, Reading, RoundingArray, Second, Site, is_amount, is_discharge, is_stage,
     is_stamp,
 };
-use ratings::Period;
+use ratings::{Period, SharedTable};
 use std::alloc::Global;
 
 impl Edit {
@@ -63,43 +66,63 @@ fn is_lawful(alloc: Global, what: &What) -> Result<bool, NoMemory>
             gap,
             stage_array,
             discharge_array,
-        } => {
-            if !are_settings(
-                name.as_slice(),
-                *gap,
-                &stage_array.digits(),
-                &discharge_array.digits(),
-            ) {
-                return Ok(false);
-            }
-            is_zone(alloc, zone.as_slice())
-        }
+        } => is_added_station(alloc, name, zone, *gap, *stage_array, *discharge_array),
         What::SetStation {
             name,
             gap,
             stage_array,
             discharge_array,
-        } => Ok(are_settings(
-            name.as_slice(),
-            *gap,
-            &stage_array.digits(),
-            &discharge_array.digits(),
-        )),
+        } => Ok(is_set_station(name, *gap, *stage_array, *discharge_array)),
         What::PutReadings { readings } => Ok(are_put_readings(readings.as_slice())),
-        What::PutCorrection { set, at, curve, .. } => {
-            Ok(is_set_number(*set) && is_stamp(at.get()) && is_put_curve(curve))
-        }
+        What::DropReadings { from, to } => Ok(is_reading_span(*from, *to)),
+        What::FlagReadings { from, to, .. } => Ok(is_reading_span(*from, *to)),
+        What::PutCorrection { set, at, curve, .. } => Ok(is_put_correction(*set, *at, curve)),
         What::DropCorrection { set, at } => Ok(is_set_number(*set) && is_stamp(at.get())),
         What::PutShift { at, curve, .. } => Ok(is_stamp(at.get()) && is_put_curve(curve)),
         What::DropShift { at } => Ok(is_stamp(at.get())),
-        What::AddRating { rating, table } => {
-            Ok(is_rating_number(*rating) && table.table().is_rating())
-        }
+        What::AddRating { rating, table } => Ok(is_added_rating(*rating, table)),
         What::PutPeriod { period } => Ok(is_put_period(period)),
         What::DropPeriod { from } => Ok(is_stamp(from.get())),
+        What::PutEstimate { estimate } => Ok(is_put_estimate(estimate)),
+        What::DropEstimate { day } => Ok(is_calendar_day(*day)),
         What::PutMeasurement { measurement } => Ok(is_put_measurement(measurement)),
         What::DropMeasurement { number } => Ok(is_measurement_number(*number)),
     }
+}
+
+/// Whether a station of these parts may be added. `NoMemory` comes only where it may.
+fn is_added_station(
+    alloc: Global,
+    name: &Name,
+    zone: &Name,
+    gap: u32,
+    stage_array: RoundingArray,
+    discharge_array: RoundingArray,
+) -> Result<bool, NoMemory>
+    ensures told { IfOk result (λ lawful. lawful ≡ true ↔ AreSettings name.now gap stage_array discharge_array × IsStationZone zone.now) }
+    ensures memory { OnErr result (AreSettings name.now gap stage_array discharge_array × IsStationZone zone.now) }
+{
+    if !is_set_station(name, gap, stage_array, discharge_array) {
+        return Ok(false);
+    }
+    is_zone(alloc, zone.as_slice())
+}
+
+/// Whether these parts of a station may be set.
+fn is_set_station(
+    name: &Name,
+    gap: u32,
+    stage_array: RoundingArray,
+    discharge_array: RoundingArray,
+) -> bool
+    ensures { result ≡ true ↔ AreSettings name.now gap stage_array discharge_array }
+{
+    are_settings(
+        name.as_slice(),
+        gap,
+        &stage_array.digits(),
+        &discharge_array.digits(),
+    )
 }
 
 /// Whether these can be set of a station: a name, a gap tolerance in minutes, and two rounding arrays in digits.
@@ -137,23 +160,48 @@ pub fn is_zone(alloc: Global, text: &[u8]) -> Result<bool, NoMemory>
     }
 }
 
-/// Whether an edit may put these readings.
+/// Whether an edit may put these readings: one pass over them, without memory.
 pub fn are_put_readings(readings: &[Reading]) -> bool
     ensures { result ≡ true ↔ ArePutReadings readings.now }
 {
-    match readings {
-        [reading] => is_put_reading(reading),
-        _ => false,
-    }
+    is_reading_count(readings.len()) && are_rising_readings(readings)
+}
+
+/// Whether an edit may put so many readings: 1 to 100,000.
+pub fn is_reading_count(count: usize) -> bool
+    ensures { result ≡ true ↔ (1 ≤ count) × (count ≤ most_readings) }
+{
+    (1..=100_000).contains(&count)
+}
+
+/// Whether these readings rise by instant, and an edit may put each.
+fn are_rising_readings(readings: &[Reading]) -> bool
+    requires { 1 ≤ length readings.now }
+    ensures { result ≡ true ↔ IsRising readings.now × All IsPutReading readings.now }
+{
+    is_put_reading(&readings[0]) && readings.is_sorted_by(is_put_behind)
 }
 
 /// Whether an edit may put this reading.
-fn is_put_reading(reading: &Reading) -> bool
-    ensures { result ≡ true ↔ IsPutReading reading.now }
+pub fn is_put_reading(reading: &Reading) -> bool
+    ensures test { result ≡ (is_stamp reading.now.at && is_stage reading.now.raw) }
+    ensures range { result ≡ true ↔ IsPutReading reading.now }
 {
-    is_stamp(reading.at.get())
-        && is_stage(reading.raw.get())
-        && matches!(reading.flag, Flag::Usable)
+    is_stamp(reading.at.get()) && is_stage(reading.raw.get())
+}
+
+/// Whether an edit may put a reading behind another one, which is of an earlier instant.
+fn is_put_behind(reading: &Reading, next: &Reading) -> bool
+    ensures { result ≡ (int_lt reading.now.at next.now.at && (is_stamp next.now.at && is_stage next.now.raw)) }
+{
+    reading.at < next.at && is_put_reading(next)
+}
+
+/// Whether an edit may drop or flag the readings from an instant to another: a stamp and one that is not before it.
+pub fn is_reading_span(from: Second, to: Second) -> bool
+    ensures { result ≡ true ↔ IsReadingSpan from to }
+{
+    is_stamp(from.get()) && is_stamp(to.get()) && from <= to
 }
 
 /// Whether the number is that of a correction set: 1 to 3.
@@ -161,6 +209,13 @@ pub fn is_set_number(set: u8) -> bool
     ensures { result ≡ true ↔ IsSetNumber set }
 {
     (1..=3).contains(&set)
+}
+
+/// Whether an edit may put a curve into the correction set of a number from an instant on.
+fn is_put_correction(set: u8, at: Second, curve: &Curve) -> bool
+    ensures { result ≡ true ↔ IsSetNumber set × IsStamp at × IsPutCurve curve.now }
+{
+    is_set_number(set) && is_stamp(at.get()) && is_put_curve(curve)
 }
 
 /// Whether an edit may put this curve.
@@ -191,6 +246,13 @@ pub fn is_rating_number(rating: u32) -> bool
     (1..=999_999).contains(&rating)
 }
 
+/// Whether an edit may add the rating of a number and a table.
+fn is_added_rating(rating: u32, table: &SharedTable) -> bool
+    ensures { result ≡ true ↔ IsRatingNumber rating × IsRating table.now }
+{
+    is_rating_number(rating) && table.table().is_rating()
+}
+
 /// Whether an edit may put this period, which ends after it begins.
 pub fn is_put_period(period: &Period) -> bool
     ensures { result ≡ true ↔ IsPutPeriod period.now }
@@ -206,6 +268,22 @@ fn is_stamp_or_none(until: Option<Second>) -> bool
         Some(until) => is_stamp(until.get()),
         None => true,
     }
+}
+
+/// Whether an edit may put this estimate.
+pub fn is_put_estimate(estimate: &Estimate) -> bool
+    ensures { result ≡ true ↔ IsPutEstimate estimate.now }
+{
+    is_calendar_day(estimate.day) && is_discharge(estimate.discharge.get())
+}
+
+/// Whether the day is one of the calendar: each is.
+fn is_calendar_day(day: Day) -> bool
+    ensures always { result ≡ true }
+    ensures range { IsDay day }
+{
+    let _number = day.get();
+    true
 }
 
 /// Whether the number is that of a measurement: from 1.

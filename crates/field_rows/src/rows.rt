@@ -5,6 +5,7 @@ mod day_inputs_rows;
 mod day_values;
 mod days;
 mod discharges;
+mod extremes;
 mod fixtures;
 mod quantities;
 mod ratings_rows;

@@ -1,7 +1,9 @@
 pub mod CuttingLemmas
+pub mod OverlapLemmas
 pub mod PartEqualityLemmas
 pub mod PartLemmas
 pub mod PeriodChangeLemmas
+pub mod PeriodChanges
 pub mod PeriodLawLemmas
 pub mod PeriodLemmas
 pub mod RatingsLemmas

@@ -11,10 +11,10 @@ use Rattle.rising.specs.Lists as lists
 use Rattle.rising.specs.Lists.{IsRising, before, after, put, without}
 use Rattle.rising.proofs.Placing.{at_put_other}
 use Rattle.rising.proofs.Splitting.{whole, at_is_at}
-use Rattle.ratings.specs.Numbered.{Numbered, StationRatings, AreRatings, number_of, period_from, rating_of, rows_found, rows_of, with_table}
+use Rattle.ratings.specs.Numbered.{KeptRatings, Numbered, StationRatings, AreRatings, number_of, period_from, rating_of, rows_found, rows_of, with_table}
 use Rattle.ratings.specs.PartEquality.{same_parts}
 use Rattle.ratings.specs.Parts.{Part, cut_end, meets, part_of, parts}
-use Rattle.ratings.specs.PeriodChanges.{cut_alike, stays_in_place, stays_with, stays_with_period, stays_without, stays_without_period}
+use Rattle.ratings.proofs.PeriodChanges.{cut_alike, stays_in_place, stays_with, stays_with_period, stays_without, stays_without_period}
 use Rattle.ratings.specs.Periods.{begin}
 use Rattle.ratings.specs.Spans.{Span}
 use Rattle.rating_tables.specs.Table.{Row}
@@ -89,6 +89,38 @@ module _ (lo hi : ℤ) (tables : List Numbered) where
   without_decides None = (λ h. refl, λ h. refl)
   without_decides (Some q) = left_decides (meets lo hi q) q
 
+  -- the parts stay with a period put among others, and without one, where its own stay
+  pub put_framed : (p : Span) (periods : List Span) → IsRising begin periods
+      → same_parts (parts_in periods) (parts_in (put begin p periods)) ≡ same_parts (own (period_from p.from periods)) (own (Some p))
+  put_framed p periods h =
+      let o = period_from p.from periods in
+      framed_decides (before begin p.from periods) (after begin p.from periods) periods (put begin p periods) o (Some p) (same_parts (own o) (own (Some p)))
+      (whole begin p.from periods h) refl (lists_decide (own o) (own (Some p)))
+
+  pub taken_framed : (from : ℤ) (periods : List Span) → IsRising begin periods
+      → same_parts (parts_in periods) (parts_in (without begin from periods)) ≡ same_parts (own (period_from from periods)) []
+  taken_framed from periods h =
+      let o = period_from from periods in
+      framed_decides (before begin from periods) (after begin from periods) periods (without begin from periods) o None (same_parts (own o) [])
+      (whole begin from periods h) refl (lists_decide (own o) [])
+
+  pub missed : (p : Span) → same_parts [] (own (Some p)) ≡ not (meets lo hi p)
+  missed p = same_from_decides (same_parts [] (own (Some p))) (not (meets lo hi p)) (lists_decide [] (own (Some p))) (missed_decides (meets lo hi p) p)
+
+  pub left : (p : Span) → same_parts (own (Some p)) [] ≡ not (meets lo hi p)
+  left p = same_from_decides (same_parts (own (Some p)) []) (not (meets lo hi p)) (lists_decide (own (Some p)) []) (left_decides (meets lo hi p) p)
+
+  pub in_place : (p q : Span) → p.from ≡ q.from → same_parts (own (Some p)) (own (Some q)) ≡ stays_in_place lo hi (meets lo hi p) (meets lo hi q) p q
+  in_place p q e =
+      same_from_decides (same_parts (own (Some p)) (own (Some q))) (stays_in_place lo hi (meets lo hi p) (meets lo hi q) p q) (lists_decide (own (Some p)) (own (Some q)))
+      (in_place_decides (meets lo hi p) (meets lo hi q) p q e)
+
+  -- two periods of one start that meet the time
+  pub both_met : (p q : Span) (b : Bool) → true ≡ meets lo hi p → true ≡ meets lo hi q → p.from ≡ q.from → b ≡ cut_alike hi p q
+      → b ≡ same_parts (own (Some p)) (own (Some q))
+  both_met p q b h k e f =
+      f ∙ (ap (λ (x : Bool). stays_in_place lo hi x true p q) h ∙ (ap (λ (x : Bool). stays_in_place lo hi (meets lo hi p) x p q) k ∙ sym (in_place p q e)))
+
   pub put_changes : (p : Span) (periods : List Span) → IsRising begin periods → same_parts (parts_in periods) (parts_in (put begin p periods)) ≡ stays_with_period lo hi p periods
   put_changes p periods h =
       framed_decides (before begin p.from periods) (after begin p.from periods) periods (put begin p periods) (period_from p.from periods) (Some p) (stays_with_period lo hi p periods)
@@ -98,6 +130,49 @@ module _ (lo hi : ℤ) (tables : List Numbered) where
   taken_changes from periods h =
       framed_decides (before begin from periods) (after begin from periods) periods (without begin from periods) (period_from from periods) None (stays_without_period lo hi from periods)
       (whole begin from periods h) refl (without_decides (period_from from periods))
+
+-- the period that is found begins at the instant that is asked for
+pub found_begins : (from : ℤ) (periods : List Span) (q : Span) → Some q ≡ period_from from periods → q.from ≡ from
+found_begins from periods q e =
+    All-head (λ (r : Span). r.from ≡ from) q [] (subst (λ (o : Option Span). All (λ (r : Span). r.from ≡ from) (option_to_list o)) (sym e) (at_is_at begin from periods))
+
+-- what is told of ratings where a period is put, and where one is taken out
+abbrev pub StayWith : ℤ → ℤ → Span → Bool → KeptRatings → Type 0
+StayWith lo hi p b kept =
+    b ≡ same_parts (parts lo hi kept.ratings.tables kept.ratings.periods) (parts lo hi kept.ratings.tables (put begin p kept.ratings.periods))
+
+abbrev pub StayWithout : ℤ → ℤ → ℤ → Bool → KeptRatings → Type 0
+StayWithout lo hi from b kept =
+    b ≡ same_parts (parts lo hi kept.ratings.tables kept.ratings.periods) (parts lo hi kept.ratings.tables (without begin from kept.ratings.periods))
+
+module _ (lo hi : ℤ) (kept now : KeptRatings) (same : kept ≡ now) (are : AreRatings kept.ratings) (b : Bool) where
+  pub put_found : (p q : Span) → Some q ≡ period_from p.from kept.ratings.periods
+      → ((tables : List Numbered) → b ≡ same_parts (parts lo hi tables (q ∷ [])) (parts lo hi tables (p ∷ []))) → StayWith lo hi p b now
+  put_found p q e h =
+      subst (StayWith lo hi p b) same
+      (h kept.ratings.tables
+      ∙ (ap (λ (o : Option Span). same_parts (parts lo hi kept.ratings.tables (option_to_list o)) (parts lo hi kept.ratings.tables (p ∷ []))) e
+      ∙ sym (put_framed lo hi kept.ratings.tables p kept.ratings.periods are.apart.rising)))
+
+  pub put_alone : (p : Span) → None ≡ period_from p.from kept.ratings.periods → b ≡ not (meets lo hi p) → StayWith lo hi p b now
+  put_alone p e h =
+      subst (StayWith lo hi p b) same
+      (h ∙ (sym (missed lo hi kept.ratings.tables p)
+      ∙ (ap (λ (o : Option Span). same_parts (parts lo hi kept.ratings.tables (option_to_list o)) (parts lo hi kept.ratings.tables (p ∷ []))) e
+      ∙ sym (put_framed lo hi kept.ratings.tables p kept.ratings.periods are.apart.rising))))
+
+  pub taken_found : (from : ℤ) (q : Span) → Some q ≡ period_from from kept.ratings.periods → b ≡ not (meets lo hi q) → StayWithout lo hi from b now
+  taken_found from q e h =
+      subst (StayWithout lo hi from b) same
+      (h ∙ (sym (left lo hi kept.ratings.tables q)
+      ∙ (ap (λ (o : Option Span). same_parts (parts lo hi kept.ratings.tables (option_to_list o)) []) e
+      ∙ sym (taken_framed lo hi kept.ratings.tables from kept.ratings.periods are.apart.rising))))
+
+  pub none_taken : (from : ℤ) → None ≡ period_from from kept.ratings.periods → b ≡ true → StayWithout lo hi from b now
+  none_taken from e h =
+      subst (StayWithout lo hi from b) same
+      (h ∙ (ap (λ (o : Option Span). same_parts (parts lo hi kept.ratings.tables (option_to_list o)) []) e
+      ∙ sym (taken_framed lo hi kept.ratings.tables from kept.ratings.periods are.apart.rising)))
 
 -- the parts of periods whose ratings are there stay with another rating
 one_more_part : (lo hi : ℤ) (x : Numbered) (tables : List Numbered) (p : Span) → rating_of x.number tables ≡ None → IsKnown tables p

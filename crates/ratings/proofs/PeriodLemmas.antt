@@ -22,7 +22,7 @@ IsEarlier p q = p.from <ℤ q.from
 abbrev pub IsApart : Span → Span → Type 0
 IsApart p q = share p q ≡ false
 
-eq_no : (x y : ℤ) → x ≢ y → int_eq x y ≡ false
+pub eq_no : (x y : ℤ) → x ≢ y → int_eq x y ≡ false
 eq_no x y h = step (int_eq x y) refl
   where
     step : (b : Bool) → int_eq x y ≡ b → int_eq x y ≡ false
@@ -58,10 +58,10 @@ and_swapped false true = refl
 and_swapped false false = refl
 
 -- a kept period of another start that does not stand in the way
-clear : (p q : Span) → q.from ≢ p.from → stands_in_the_way p q ≡ false → share q p ≡ false
+pub clear : (p q : Span) → q.from ≢ p.from → stands_in_the_way p q ≡ false → share q p ≡ false
 clear p q other h = clear_step p q (int_eq q.from p.from) (share q p) (eq_no q.from p.from other) h
 
-none_in_the_way : (p : Span) (kept : List Span) → overlap p kept ≡ None → All (λ q. stands_in_the_way p q ≡ false) kept
+pub none_in_the_way : (p : Span) (kept : List Span) → overlap p kept ≡ None → All (λ q. stands_in_the_way p q ≡ false) kept
 none_in_the_way p kept h = none_found (stands_in_the_way p) kept (step (find (stands_in_the_way p) kept) h)
   where
     step : (o : Option Span) → option_map (λ (q : Span). q.from) o ≡ None → o ≡ None

@@ -1,6 +1,5 @@
 pub mod Numbered
 pub mod PartEquality
 pub mod Parts
-pub mod PeriodChanges
 pub mod Periods
 pub mod Spans

@@ -1,12 +1,10 @@
 //! Laws of ratings: what the definitions say of periods.
 
-ghost use Rattle.std.specs.Prelude.{◌≡◌, ◌↔◌, true, option_map, List, ◌∷◌, ◌++◌, ℤ, ◌≤ℤ◌, Contains};
+ghost use Rattle.std.specs.Prelude.{◌≡◌, ◌≢◌, ◌↔◌, true, false, None, Some, option_map, List, ◌∷◌, ◌++◌, ℤ, ◌≤ℤ◌, Contains};
 ghost use Rattle.rising.specs.Lists.{IsRising};
-ghost use Rattle.ratings.specs.Numbered.{AreRatings, Numbered, StationRatings, rows_of, with_period, with_rating, without_period};
-ghost use Rattle.ratings.specs.PartEquality.{same_parts};
+ghost use Rattle.ratings.specs.Numbered.{AreRatings, Numbered, StationRatings, rows_of, with_rating};
 ghost use Rattle.ratings.specs.Parts.{AreParts, part_at, part_of, parts};
-ghost use Rattle.ratings.specs.PeriodChanges.{stays_with_period, stays_without_period};
-ghost use Rattle.ratings.specs.Periods.{AreApart, begin, in_force, is_in_force, share};
+ghost use Rattle.ratings.specs.Periods.{AreApart, begin, in_force, is_in_force, overlap, share};
 ghost use Rattle.ratings.specs.Spans.{Span, EndsLater};
 
 /// At most one kept period is in force at an instant, and two periods share an instant exactly where the test of their
@@ -30,13 +28,19 @@ pub fn parts_stand_for_periods()
     ensures kept { (lo hi : ℤ) (ratings : StationRatings) → AreRatings ratings → lo ≤ℤ hi → AreParts (parts lo hi ratings.tables ratings.periods) }
 {}
 
-/// Which edits of a station's ratings change the parts of the time from `lo` to `hi`: a rating more changes none, and a period
-/// that is put among periods that rise by their starts, or taken out, changes them exactly where its own part changes.
-pub fn parts_change_by_their_period()
-    ensures rating { (lo hi : ℤ) (rating : Numbered) (ratings : StationRatings) → AreRatings ratings
+/// A rating more changes the parts of no time.
+pub fn ratings_change_no_parts()
+    ensures { (lo hi : ℤ) (rating : Numbered) (ratings : StationRatings) → AreRatings ratings
         → parts lo hi (with_rating rating ratings).tables (with_rating rating ratings).periods ≡ parts lo hi ratings.tables ratings.periods }
-    ensures put { (lo hi : ℤ) (period : Span) (ratings : StationRatings) → IsRising begin ratings.periods
-        → same_parts (parts lo hi ratings.tables ratings.periods) (parts lo hi ratings.tables (with_period period ratings).periods) ≡ stays_with_period lo hi period ratings.periods }
-    ensures taken { (lo hi from : ℤ) (ratings : StationRatings) → IsRising begin ratings.periods
-        → same_parts (parts lo hi ratings.tables ratings.periods) (parts lo hi ratings.tables (without_period from ratings).periods) ≡ stays_without_period lo hi from ratings.periods }
+{}
+
+/// The overlap of a period with kept ones is the least start among those of another start that share an instant with it. There is
+/// none where no such period is kept.
+pub fn overlap_is_the_least_start()
+    ensures stands { (period : Span) (kept : List Span) (at : ℤ) → overlap period kept ≡ Some at
+        → (q : Span) × Contains kept q × (q.from ≡ at) × (q.from ≢ period.from) × (share q period ≡ true) }
+    ensures least { (period q : Span) (kept : List Span) (at : ℤ) → IsRising begin kept → overlap period kept ≡ Some at
+        → Contains kept q → q.from ≢ period.from → share q period ≡ true → at ≤ℤ q.from }
+    ensures none { (period q : Span) (kept : List Span) → overlap period kept ≡ None
+        → Contains kept q → q.from ≢ period.from → share q period ≡ false }
 {}

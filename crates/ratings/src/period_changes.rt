@@ -1,8 +1,9 @@
 //! Which periods change the parts of the time between two instants.
 
-ghost use Rattle.std.specs.Prelude.{◌≡◌};
-ghost use Rattle.ratings.specs.PeriodChanges as changes;
-ghost use Rattle.ratings.specs.PeriodChanges.{cut_alike};
+ghost use Rattle.std.specs.Prelude.{◌≡◌, ◌==◌, ◌&&◌, List, [], ◌∷◌};
+ghost use Rattle.std.specs.Ordering.{int_eq};
+ghost use Rattle.ratings.specs.Numbered.{Numbered};
+ghost use Rattle.ratings.specs.PartEquality.{same_parts};
 ghost use Rattle.ratings.specs.Parts as cut;
 
 use crate::cutting::cut_end;
@@ -10,9 +11,10 @@ use crate::period::Period;
 use crate::periods::is_before_end;
 use fixed_units::Second;
 
-/// Whether the part of a kept period stays with another one of its start in its place.
+/// Whether the parts of a kept period and of another one of its start are equal, whatever the tables of their ratings.
 pub(crate) fn stays_in_place(kept: &Period, period: &Period, lo: Second, hi: Second) -> bool
-    ensures { result ≡ changes.stays_in_place lo hi (cut.meets lo hi kept.now) (cut.meets lo hi period.now) kept.now period.now }
+    requires { kept.now.from ≡ period.now.from }
+    ensures { (tables : List Numbered) → result ≡ same_parts (cut.parts lo hi tables (kept.now ∷ [])) (cut.parts lo hi tables (period.now ∷ [])) }
 {
     match (meets(kept, lo, hi), meets(period, lo, hi)) {
         (true, true) => are_cut_alike(kept, period, hi),
@@ -21,9 +23,9 @@ pub(crate) fn stays_in_place(kept: &Period, period: &Period, lo: Second, hi: Sec
     }
 }
 
-/// Whether two periods of one start are cut alike right behind an instant.
+/// Whether two periods are of one rating and end alike where they are cut right behind an instant.
 fn are_cut_alike(period: &Period, other: &Period, hi: Second) -> bool
-    ensures { result ≡ cut_alike hi period.now other.now }
+    ensures { result ≡ int_eq (cut.cut_end hi period.now.until) (cut.cut_end hi other.now.until) && (period.now.rating == other.now.rating) }
 {
     cut_end(hi, period.until) == cut_end(hi, other.until) && period.rating == other.rating
 }

@@ -6,7 +6,6 @@ ghost use Rattle.rising.specs.Lists as lists;
 ghost use Rattle.rating_tables.specs.Table.{IsRating};
 ghost use Rattle.ratings.specs.Numbered.{AreRatings, period_from, rating_of, rows_in_force, with_rating, with_period, without_period};
 ghost use Rattle.ratings.specs.PartEquality.{same_parts};
-ghost use Rattle.ratings.specs.PeriodChanges.{stays_with_period, stays_without_period};
 ghost use Rattle.ratings.specs.Parts as cut;
 ghost use Rattle.ratings.specs.Parts.{AreParts};
 ghost use Rattle.ratings.specs.Periods.{begin, overlap};
@@ -136,9 +135,10 @@ impl Ratings {
     /// Whether the parts of the time from `lo` to `hi` stay as they are with a period put in place of the one of its start. It takes
     /// no memory.
     pub fn keeps_parts_with(&self, period: &Period, lo: Second, hi: Second) -> bool
-        ensures { result ≡ stays_with_period lo hi period.now self.now.ratings.periods }
+        ensures { result ≡ same_parts (cut.parts lo hi self.now.ratings.tables self.now.ratings.periods)
+            (cut.parts lo hi self.now.ratings.tables (with_period period.now self.now.ratings).periods) }
     {
-        match self.period_from(period.from) {
+        match self.periods.starting_at(period.from) {
             Some(kept) => stays_in_place(&kept, period, lo, hi),
             None => !meets(period, lo, hi),
         }
@@ -147,9 +147,10 @@ impl Ratings {
     /// Whether the parts of the time from `lo` to `hi` stay as they are without the period that begins at an instant. It takes no
     /// memory.
     pub fn keeps_parts_without(&self, from: Second, lo: Second, hi: Second) -> bool
-        ensures { result ≡ stays_without_period lo hi from self.now.ratings.periods }
+        ensures { result ≡ same_parts (cut.parts lo hi self.now.ratings.tables self.now.ratings.periods)
+            (cut.parts lo hi self.now.ratings.tables (without_period from self.now.ratings).periods) }
     {
-        match self.period_from(from) {
+        match self.periods.starting_at(from) {
             Some(kept) => !meets(&kept, lo, hi),
             None => true,
         }

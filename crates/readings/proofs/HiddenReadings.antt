@@ -1,23 +1,20 @@
--- Readings that nearer ones hide, or beside a day without a used reading, have no part in its window.
-use Rattle.std.specs.Prelude.{◌≡◌, Bool, true, false, List, [], ◌∷◌, ◌++◌, ℤ, ◌<ℤ◌, ◌≤ℤ◌, int_lt, find, reverse, Option, Some, None, option_to_list, MatchOption, All, ◌≢◌, cond}
+-- The first and the last used reading of a rising list, and days that lie before it or behind it.
+use Rattle.std.specs.Prelude.{◌≡◌, Bool, true, false, List, [], ◌∷◌, ℤ, ◌<ℤ◌, ◌≤ℤ◌, find, reverse, Option, Some, None, MatchOption, All, cond}
 use Rattle.std.specs.Option.{option_or}
 use Rattle.std.proofs.Common.{arith, refl, ap, sym, ◌∙◌, subst}
-use Rattle.std.proofs.lemmas.Int.{ints, by_lt_z}
+use Rattle.std.proofs.lemmas.Int.{ints}
 use Rattle.std.proofs.lemmas.Option.{MatchOption-at_some}
 use Rattle.std.proofs.lemmas.List.{reverse-reverse}
 use Rattle.std.proofs.lemmas.List.Elements.{All-cons, All-weaker}
 use Rattle.std.proofs.lemmas.List.Folds.{find-append}
 use Rattle.fixed_units.specs.declared.readings.Reading.{Reading}
-use Rattle.readings.specs.Readings.{IsRising, instant_of, before_instant, after_instant, at_instant, put, is_used}
-use Rattle.rising.proofs.Parting.{IsAfter, lt_yes, le_yes}
-use Rattle.rising.proofs.Placing.{IsBefore, IsFrom, filter_rises}
-use Rattle.rising.proofs.Splitting.{IsAt, IsAbout, whole, about, rest_rises, rest_is_later}
+use Rattle.readings.specs.Readings.{IsRising, instant_of, is_used}
+use Rattle.rising.proofs.Parting.{IsAfter}
+use Rattle.rising.proofs.Splitting.{rest_rises, rest_is_later}
 use Rattle.rising.proofs.Selecting.{none_found, All-reverse, filter_none}
-use Rattle.readings.proofs.Instants.{no_lt}
-use Rattle.readings.proofs.Selecting.{reverse-cons, find_kept, find_passes}
-use Rattle.readings.specs.Window.{is_of_day, inner, lead, follow, window, is_found_in_day}
-use Rattle.readings.proofs.WindowParts.{is_inner, is_early, is_late, inner_no_before, inner_no_from, none_inner_before, none_inner_from, inner_parts, early_parts, late_parts, no_inner}
-use Rattle.readings.proofs.FarReadings.{about_one, early_apart, late_apart}
+use Rattle.readings.proofs.Selecting.{reverse-cons, find_kept}
+use Rattle.readings.specs.Window.{inner}
+use Rattle.readings.proofs.WindowParts.{is_inner, inner_no_before, inner_no_from}
 
 -- in a rising list the first used reading is the earliest
 pub first_step : (y : Reading) (ys : List Reading) (b : Bool) → is_used y ≡ b → (s : Reading) → All (IsAfter instant_of y.at) ys
@@ -73,12 +70,6 @@ not_all_fail p rs s e k h =
     let i : p s ≡ false = MatchOption-at_some (Unit {0}) (λ r. p r ≡ false) s e (find_kept (λ r. p r ≡ false) is_used rs h) in
     cc
 
-pub found_used : (rs : List Reading) (s : Reading) → find is_used rs ≡ Some s → is_used s ≡ true
-found_used rs s e = MatchOption-at_some (Unit {0}) (λ r. is_used r ≡ true) s e (find_passes is_used rs)
-
-pub used_inner : (a b : ℤ) (s : Reading) → is_used s ≡ true → is_of_day a b s ≡ true → is_inner a b s ≡ true
-used_inner a b s u d = rw (u, d) refl
-
 -- where nothing that is used follows in the day, or where a reading before it hides this one
 pub unused_inner : (a b : ℤ) (rs : List Reading) → All (λ r. is_used r ≡ false) rs → inner a b rs ≡ []
 unused_inner a b rs h =
@@ -102,100 +93,6 @@ early_inner a b at rs k h =
     filter_none (is_inner a b) rs
     (All-weaker (λ r. is_used r ≡ true → r.at ≤ℤ at) (λ r. is_inner a b r ≡ false) (λ r l. early_step a b at r (is_used r) refl k l) rs h)
 
-pub early_empty : (a b gap at : ℤ) (xs ms ys : List Reading) → IsAbout instant_of at xs ms ys → at <ℤ a → inner a b ys ≡ []
-    → window a b gap (xs ++ (ms ++ ys)) ≡ []
-early_empty a b gap at xs ms ys h e none =
-    let i = none_inner_before a b xs (All-weaker (IsBefore instant_of at) (IsBefore instant_of a) (λ r k. omega (arith, ints)) xs h.below) in
-    let j = none_inner_before a b ms (All-weaker (IsAt instant_of at) (IsBefore instant_of a) (λ r k. omega (arith, ints)) ms h.here) in
-    no_inner a b gap (xs ++ (ms ++ ys)) (inner_parts a b xs ms ys ∙ rw (i, j, none) refl)
-
--- where an early reading is found among the later ones, those up to the instant have no part in the window
-pub early_found : (a b gap at : ℤ) (xs ms ys : List Reading) → IsAbout instant_of at xs ms ys → at <ℤ a → a ≤ℤ b
-    → (o : Option Reading) → find (is_early a) (reverse ys) ≡ o → o ≢ None
-    → window a b gap (xs ++ (ms ++ ys)) ≡ window a b gap ys
-early_found a b gap at xs ms ys h e o None f k = absurd (k refl)
-early_found a b gap at xs ms ys h e o (Some s) f k =
-    early_apart a b gap at xs ms ys h e o (ap (lead a gap) (early_parts a xs ms ys ∙ rw f refl))
-
-pub early_is_found : (a : ℤ) (ys : List Reading) (s : Reading) → find is_used ys ≡ Some s → s.at <ℤ a → find (is_early a) (reverse ys) ≢ None
-early_is_found a ys s f l none =
-    let u = found_used ys s f in
-    let t = lt_yes s.at a l in
-    not_all_fail (is_early a) ys s f (rw (u, t) refl)
-    (subst (λ (z : List Reading). All (λ r. is_early a r ≡ false) z) (reverse-reverse ys)
-    (All-reverse (λ r. is_early a r ≡ false) (reverse ys) (none_found (is_early a) (reverse ys) none)))
-
-pub beyond : (a b : ℤ) (s : Reading) → a ≤ℤ s.at → is_of_day a b s ≡ false → b ≤ℤ s.at
-beyond a b s l d = let e = le_yes a s.at l in no_lt s.at b (rw e at d)
-
--- a reading before the day, where the next used one is not of the day: it is hidden, or the day has none
-pub early_hidden : (a b gap at : ℤ) (xs ms ns ys : List Reading) → IsAbout instant_of at xs ms ys → IsAbout instant_of at xs ns ys → IsRising ys
-    → at <ℤ a → a ≤ℤ b → (o : Option Reading) → find is_used ys ≡ o → is_found_in_day a b o ≡ false
-    → window a b gap (xs ++ (ms ++ ys)) ≡ window a b gap (xs ++ (ns ++ ys))
-early_hidden a b gap at xs ms ns ys h k r e o None f d =
-    let none : inner a b ys ≡ [] = unused_inner a b ys (none_found is_used ys f) in
-    early_empty a b gap at xs ms ys h e none ∙ sym (early_empty a b gap at xs ns ys k e none)
-early_hidden a b gap at xs ms ns ys h k r e o (Some s) f d =
-    by_lt_z s.at a
-    (λ l. early_found a b gap at xs ms ys h e o (find (is_early a) (reverse ys)) refl (early_is_found a ys s f l)
-    ∙ sym (early_found a b gap at xs ns ys k e o (find (is_early a) (reverse ys)) refl (early_is_found a ys s f l)))
-    (λ l. let m : b ≤ℤ s.at = beyond a b s l d in
-    let none : inner a b ys ≡ [] = late_inner a b s.at ys m (first_earliest ys s r f) in
-    early_empty a b gap at xs ms ys h e none ∙ sym (early_empty a b gap at xs ns ys k e none))
-
--- the same on the other side of the day
-pub late_empty : (a b gap at : ℤ) (xs ms ys : List Reading) → IsAbout instant_of at xs ms ys → b ≤ℤ at → inner a b xs ≡ []
-    → window a b gap (xs ++ (ms ++ ys)) ≡ []
-late_empty a b gap at xs ms ys h e none =
-    let i = none_inner_from a b ys (All-weaker (IsAfter instant_of at) (IsFrom instant_of b) (λ r k. omega (arith, ints)) ys h.above) in
-    let j = none_inner_from a b ms (All-weaker (IsAt instant_of at) (IsFrom instant_of b) (λ r k. omega (arith, ints)) ms h.here) in
-    no_inner a b gap (xs ++ (ms ++ ys)) (inner_parts a b xs ms ys ∙ rw (i, j, none) refl)
-
-pub late_found : (a b gap at : ℤ) (xs ms ys : List Reading) → IsAbout instant_of at xs ms ys → b ≤ℤ at → a ≤ℤ b
-    → (o : Option Reading) → find (is_late b) xs ≡ o → o ≢ None
-    → window a b gap (xs ++ (ms ++ ys)) ≡ window a b gap xs
-late_found a b gap at xs ms ys h e o None f k = absurd (k refl)
-late_found a b gap at xs ms ys h e o (Some s) f k =
-    late_apart a b gap at xs ms ys h e o (ap (follow b gap) (late_parts b xs ms ys ∙ rw f refl))
-
+-- what holds of each of the list turned round holds of each
 pub from_reversed : (P : Reading → Type 0) (rs : List Reading) → All P (reverse rs) → All P rs
 from_reversed P rs h = subst (λ (z : List Reading). All P z) (reverse-reverse rs) (All-reverse P (reverse rs) h)
-
-pub late_is_found : (b : ℤ) (xs : List Reading) (s : Reading) → find is_used (reverse xs) ≡ Some s → b ≤ℤ s.at → find (is_late b) xs ≢ None
-late_is_found b xs s f l none =
-    let u = found_used (reverse xs) s f in
-    let t = le_yes b s.at l in
-    not_all_fail (is_late b) (reverse xs) s f (rw (u, t) refl)
-    (All-reverse (λ r. is_late b r ≡ false) xs (none_found (is_late b) xs none))
-
-pub short : (a b : ℤ) (s : Reading) → s.at <ℤ b → is_of_day a b s ≡ false → s.at <ℤ a
-short a b s l d = by_lt_z s.at a (λ k. k) (λ k. let e = le_yes a s.at k in let f = lt_yes s.at b l in let g : true ≡ false = rw (e, f) at d in absurd (cc))
-
-pub late_hidden : (a b gap at : ℤ) (xs ms ns ys : List Reading) → IsAbout instant_of at xs ms ys → IsAbout instant_of at xs ns ys → IsRising xs
-    → b ≤ℤ at → a ≤ℤ b → (o : Option Reading) → find is_used (reverse xs) ≡ o → is_found_in_day a b o ≡ false
-    → window a b gap (xs ++ (ms ++ ys)) ≡ window a b gap (xs ++ (ns ++ ys))
-late_hidden a b gap at xs ms ns ys h k r e o None f d =
-    let none : inner a b xs ≡ [] = unused_inner a b xs (from_reversed (λ r. is_used r ≡ false) xs (none_found is_used (reverse xs) f)) in
-    late_empty a b gap at xs ms ys h e none ∙ sym (late_empty a b gap at xs ns ys k e none)
-late_hidden a b gap at xs ms ns ys h k r e o (Some s) f d =
-    by_lt_z s.at b
-    (λ l. let m : s.at <ℤ a = short a b s l d in
-    let none : inner a b xs ≡ [] = early_inner a b s.at xs m (last_latest xs s r f) in
-    late_empty a b gap at xs ms ys h e none ∙ sym (late_empty a b gap at xs ns ys k e none))
-    (λ l. late_found a b gap at xs ms ys h e o (find (is_late b) xs) refl (late_is_found b xs s f l)
-    ∙ sym (late_found a b gap at xs ns ys k e o (find (is_late b) xs) refl (late_is_found b xs s f l)))
-
--- a reading put where it is hidden leaves the window
-pub early_hidden_put : (a b gap : ℤ) (r : Reading) (rs : List Reading) → IsRising rs → a ≤ℤ b → r.at <ℤ a
-    → is_found_in_day a b (find is_used (after_instant r.at rs)) ≡ false → window a b gap (put r rs) ≡ window a b gap rs
-early_hidden_put a b gap r rs h o e d =
-    early_hidden a b gap r.at (before_instant r.at rs) (r ∷ []) (option_to_list (at_instant r.at rs)) (after_instant r.at rs)
-    (about_one r rs) (about instant_of r.at rs) (filter_rises instant_of (λ s. int_lt r.at s.at) rs h) e o (find is_used (after_instant r.at rs)) refl d
-    ∙ ap (window a b gap) (sym (whole instant_of r.at rs h))
-
-pub late_hidden_put : (a b gap : ℤ) (r : Reading) (rs : List Reading) → IsRising rs → a ≤ℤ b → b ≤ℤ r.at
-    → is_found_in_day a b (find is_used (reverse (before_instant r.at rs))) ≡ false → window a b gap (put r rs) ≡ window a b gap rs
-late_hidden_put a b gap r rs h o e d =
-    late_hidden a b gap r.at (before_instant r.at rs) (r ∷ []) (option_to_list (at_instant r.at rs)) (after_instant r.at rs)
-    (about_one r rs) (about instant_of r.at rs) (filter_rises instant_of (λ s. int_lt s.at r.at) rs h) e o (find is_used (reverse (before_instant r.at rs))) refl d
-    ∙ ap (window a b gap) (sym (whole instant_of r.at rs h))

@@ -1,8 +1,9 @@
 -- What `find` gives where all or none of a list passes, and `filter` across reversals.
+use Rattle.rising.proofs.Selecting.{none_found, All-reverse}
 use Rattle.std.specs.Prelude.{◌≡◌, Bool, true, false, cond, ◌&&◌, List, [], ◌∷◌, ◌++◌, filter, find, reverse, Option, Some, None, All, MatchOption}
 use Rattle.std.proofs.Common.{refl, ap, sym, ◌∙◌}
 use Rattle.std.proofs.lemmas.Grind.{reverse_onto}
-use Rattle.std.proofs.lemmas.List.{append-nil}
+use Rattle.std.proofs.lemmas.List.{append-nil, reverse-reverse}
 use Rattle.std.proofs.lemmas.List.Elements.{All-head, All-tail, All-cons, All-nil, filter-append}
 
 pub find_none : {X : Type 0} (p : X → Bool) (xs : List X) → All (λ x. p x ≡ false) xs → find p xs ≡ None
@@ -67,3 +68,10 @@ none_kept_step p x xs false e h k = All-cons (λ x. p x ≡ false) x xs e (k h)
 pub none_kept : {X : Type 0} (p : X → Bool) (xs : List X) → filter p xs ≡ [] → All (λ x. p x ≡ false) xs
 none_kept p [] h = All-nil (λ x. p x ≡ false)
 none_kept p (x ∷ xs) h = none_kept_step p x xs (p x) refl h (none_kept p xs)
+
+-- none is found from the one end where none is found from the other
+pub none_back : {X : Type 0} (p : X → Bool) (xs : List X) → find p xs ≡ None → find p (reverse xs) ≡ None
+none_back p xs e = find_none p (reverse xs) (All-reverse (λ x. p x ≡ false) xs (none_found p xs e))
+
+pub none_front : {X : Type 0} (p : X → Bool) (xs : List X) → find p (reverse xs) ≡ None → find p xs ≡ None
+none_front p xs e = ap (find p) (sym (reverse-reverse xs)) ∙ none_back p (reverse xs) e

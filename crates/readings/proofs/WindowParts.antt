@@ -1,7 +1,7 @@
 -- The window of a day, by the parts of a list.
 use Rattle.std.specs.Prelude.{◌≡◌, Bool, true, false, ◌&&◌, List, [], ◌∷◌, ◌++◌, ℤ, ◌<ℤ◌, ◌≤ℤ◌, ◌-ℤ◌, int_lt, int_le, filter, find, reverse, Option, Some, None, option_to_list, MatchOption, All, cond}
 use Rattle.std.specs.Option.{option_or}
-use Rattle.std.proofs.Common.{arith, refl, ap, sym, ◌∙◌}
+use Rattle.std.proofs.Common.{arith, refl, ap, sym, ◌∙◌, append_assoc}
 use Rattle.std.proofs.lemmas.List.{reverse-append}
 use Rattle.std.proofs.lemmas.List.Elements.{All-cons, All-nil, All-append, All-weaker, filter-append, filter_agree}
 use Rattle.std.proofs.lemmas.List.Folds.{find-append}
@@ -9,9 +9,9 @@ use Rattle.fixed_units.specs.declared.readings.Reading.{Reading}
 use Rattle.readings.specs.Readings.{instant_of, before_instant, from_instant, is_used}
 use Rattle.rising.proofs.Parting.{lt_no, le_no}
 use Rattle.rising.proofs.Placing.{IsBefore, IsFrom}
-use Rattle.rising.proofs.Selecting.{All-reverse, filter_none, filter_both}
-use Rattle.readings.proofs.Selecting.{find_both, find_none, reverse-filter}
-use Rattle.readings.specs.Window.{is_of_day, of_day, inner, near, lead, follow, neighbour_before, neighbour_after, with_neighbours, window}
+use Rattle.rising.proofs.Selecting.{All-reverse, none_found, filter_none, filter_both}
+use Rattle.readings.proofs.Selecting.{find_both, find_none, none_kept, reverse-filter}
+use Rattle.readings.specs.Window.{is_of_day, of_day, inner, near, lead, follow, neighbour_before, neighbour_after, with_neighbours, window, if_some, window_before, window_after}
 
 -- the tests of the window
 abbrev pub is_inner : ℤ → ℤ → Reading → Bool
@@ -142,3 +142,60 @@ with_neighbours_keeps P n (r ∷ rs) m h k l =
 -- without a reading of its own a day has no window
 pub no_inner : (a b gap : ℤ) (rs : List Reading) → inner a b rs ≡ [] → window a b gap rs ≡ []
 no_inner a b gap rs h = rw h refl
+
+-- the neighbours count where the day has a used reading of its own, and only there
+pub if_used : (rs xs : List Reading) (r : Reading) (n : Option Reading) → Some r ≡ find is_used rs → filter is_used rs ≡ xs → if_some xs n ≡ n
+if_used rs [] r n e f = let none : find is_used rs ≡ None = find_none is_used rs (none_kept is_used rs f) in absurd (cc)
+if_used rs (x ∷ xs) r n e f = refl
+
+pub if_unused : (rs xs : List Reading) (n : Option Reading) → None ≡ find is_used rs → filter is_used rs ≡ xs → if_some xs n ≡ None
+if_unused rs xs n e f = let none : xs ≡ [] = sym f ∙ filter_none is_used rs (none_found is_used rs (sym e)) in rw none refl
+
+-- a window in a row
+in_row : (n : Option Reading) (xs : List Reading) (m : Option Reading)
+    → option_to_list (if_some xs n) ++ (xs ++ option_to_list (if_some xs m)) ≡ with_neighbours n xs m
+in_row n [] m = refl
+in_row n (x ∷ xs) m = sym (append_assoc (option_to_list n) (x ∷ xs) (option_to_list m))
+
+pub window_row : (a b gap : ℤ) (rs left right : List Reading) → left ++ right ≡ of_day a b rs
+    → option_to_list (window_before a b gap rs) ++ (filter is_used left ++ (filter is_used right ++ option_to_list (window_after a b gap rs))) ≡ window a b gap rs
+window_row a b gap rs left right e =
+    let m = option_to_list (window_after a b gap rs) in
+    let own : filter is_used left ++ filter is_used right ≡ inner a b rs = sym (filter-append is_used left right) ∙ ap (filter is_used) e ∙ inner_found a b rs in
+    ap (λ (l : List Reading). option_to_list (window_before a b gap rs) ++ l)
+    (sym (append_assoc (filter is_used left) (filter is_used right) m) ∙ ap (λ (l : List Reading). l ++ m) own)
+    ∙ in_row (neighbour_before a gap rs) (inner a b rs) (neighbour_after b gap rs)
+
+-- the neighbours of a window are none already where they do not count
+kept_neighbours : (n : Option Reading) (xs : List Reading) (m : Option Reading) → with_neighbours (if_some xs n) xs (if_some xs m) ≡ with_neighbours n xs m
+kept_neighbours n [] m = refl
+kept_neighbours n (x ∷ xs) m = refl
+
+pub window_whole : (a b gap : ℤ) (rs left right : List Reading) (before after : Option Reading) → before ≡ window_before a b gap rs
+    → left ++ right ≡ of_day a b rs → after ≡ window_after a b gap rs → with_neighbours before (filter is_used (left ++ right)) after ≡ window a b gap rs
+window_whole a b gap rs left right before after e f g =
+    let own : filter is_used (left ++ right) ≡ inner a b rs = ap (filter is_used) f ∙ inner_found a b rs in
+    rw (e, own, g) (kept_neighbours (neighbour_before a gap rs) (inner a b rs) (neighbour_after b gap rs))
+
+-- a row of used readings with its neighbours
+pub row_used : (n m : Option Reading) (left right : List Reading) (r : Reading) → Some r ≡ find is_used (left ++ right)
+    → with_neighbours n (filter is_used (left ++ right)) m ≡ option_to_list n ++ (filter is_used left ++ (filter is_used right ++ option_to_list m))
+row_used n m left right r e =
+    let xs = filter is_used (left ++ right) in
+    let own : xs ≡ filter is_used left ++ filter is_used right = filter-append is_used left right in
+    sym (in_row n xs m) ∙ rw (if_used (left ++ right) xs r n e refl, if_used (left ++ right) xs r m e refl)
+    (ap (λ (l : List Reading). option_to_list n ++ l)
+    (ap (λ (l : List Reading). l ++ option_to_list m) own ∙ append_assoc (filter is_used left) (filter is_used right) (option_to_list m)))
+
+pub row_unused : (n m : Option Reading) (left right : List Reading) → None ≡ find is_used (left ++ right)
+    → with_neighbours n (filter is_used (left ++ right)) m ≡ []
+row_unused n m left right e =
+    let none : filter is_used (left ++ right) ≡ [] = filter_none is_used (left ++ right) (none_found is_used (left ++ right) (sym e)) in rw none refl
+
+pub window_items : (a b gap : ℤ) (rs left right : List Reading) (before after : Option Reading) → before ≡ window_before a b gap rs
+    → left ++ right ≡ of_day a b rs → after ≡ window_after a b gap rs
+    → ((option_to_list before ++ filter is_used left) ++ filter is_used right) ++ option_to_list after ≡ window a b gap rs
+window_items a b gap rs left right before after e f g =
+    append_assoc (option_to_list before ++ filter is_used left) (filter is_used right) (option_to_list after)
+    ∙ append_assoc (option_to_list before) (filter is_used left) (filter is_used right ++ option_to_list after)
+    ∙ rw (e, g) (window_row a b gap rs left right f)

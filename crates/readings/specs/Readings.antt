@@ -1,8 +1,6 @@
 -- A station's readings: a list that rises by instant.
-use Rattle.std.specs.Prelude.{◌≡◌, Bool, true, false, List, [], ◌∷◌, Option, ℤ}
-use Rattle.rising.specs.Ends.{first, last}
+use Rattle.std.specs.Prelude.{Bool, true, false, not, ◌&&◌, int_le, if◌then◌else◌, List, [], ◌∷◌, map, filter, Option, ℤ}
 use Rattle.rising.specs.Lists as lists
-use Rattle.readings.specs.declared.lists.Place.{Place}
 use Rattle.fixed_units.specs.declared.readings.Reading.{Reading}
 use Rattle.fixed_units.specs.declared.readings.Flag.{Flag}
 use Rattle.fixed_units.specs.declared.readings.Flag.TheVariants.{Usable, Erroneous, Affected}
@@ -38,6 +36,24 @@ abbrev pub put_all : List Reading → List Reading → List Reading
 put_all [] readings = readings
 put_all (r ∷ rs) readings = put_all rs (put r readings)
 
+-- from an instant to another, both included
+abbrev pub is_within : ℤ → ℤ → Reading → Bool
+is_within from to reading = int_le from reading.at && int_le reading.at to
+
+-- the readings of such a span, and those without it
+abbrev pub in_span : ℤ → ℤ → List Reading → List Reading
+in_span from to readings = filter (is_within from to) readings
+
+abbrev pub without_span : ℤ → ℤ → List Reading → List Reading
+without_span from to readings = filter (λ r. not (is_within from to r)) readings
+
+-- the readings with those of a span flagged anew
+abbrev pub flagged_where : Bool → Flag → Reading → Reading
+flagged_where there flag reading = record { at = reading.at; raw = reading.raw; flag = if there then flag else reading.flag }
+
+abbrev pub with_flag : ℤ → ℤ → Flag → List Reading → List Reading
+with_flag from to flag readings = map (λ r. flagged_where (is_within from to r) flag r) readings
+
 -- a reading is used unless it is erroneous
 abbrev pub is_used_flag : Flag → Bool
 is_used_flag Usable = true
@@ -46,9 +62,3 @@ is_used_flag Affected = true
 
 abbrev pub is_used : Reading → Bool
 is_used reading = is_used_flag reading.flag
-
--- the neighbours of an instant
-pub record IsPlace (readings : List Reading) (at : ℤ) (place : Place) : Type 0 where
-  pub before : place.before ≡ last (before_instant at readings)
-  pub here : place.here ≡ at_instant at readings
-  pub after : place.after ≡ first (after_instant at readings)

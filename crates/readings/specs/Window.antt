@@ -1,6 +1,6 @@
 -- The window of a day: the used readings of the day, and the nearest used reading on either side where it is
 -- near enough. A filter over the whole list (this project's choice of which neighbours count).
-use Rattle.std.specs.Prelude.{Bool, false, ◌&&◌, List, [], ◌∷◌, ◌++◌, filter, find, reverse, Option, Some, None, option_and_then, option_to_list, ℤ, int_lt, int_le, ◌-ℤ◌, if◌then◌else◌}
+use Rattle.std.specs.Prelude.{Bool, ◌&&◌, List, [], ◌∷◌, ◌++◌, filter, find, reverse, Option, Some, None, option_and_then, option_to_list, ℤ, int_lt, int_le, ◌-ℤ◌, if◌then◌else◌}
 use Rattle.fixed_units.specs.declared.readings.Reading.{Reading}
 use Rattle.readings.specs.Readings.{is_used}
 
@@ -47,7 +47,13 @@ abbrev pub window : ℤ → ℤ → ℤ → List Reading → List Reading
 window a b gap readings =
     with_neighbours (neighbour_before a gap readings) (inner a b readings) (neighbour_after b gap readings)
 
--- whether a reading was found, and it is of the day
-abbrev pub is_found_in_day : ℤ → ℤ → Option Reading → Bool
-is_found_in_day a b None = false
-is_found_in_day a b (Some reading) = is_of_day a b reading
+-- those of the neighbours of a day that count: none where the day has no used reading of its own
+abbrev pub if_some : List Reading → Option Reading → Option Reading
+if_some [] neighbour = None
+if_some (r ∷ rs) neighbour = neighbour
+
+abbrev pub window_before : ℤ → ℤ → ℤ → List Reading → Option Reading
+window_before a b gap readings = if_some (inner a b readings) (neighbour_before a gap readings)
+
+abbrev pub window_after : ℤ → ℤ → ℤ → List Reading → Option Reading
+window_after a b gap readings = if_some (inner a b readings) (neighbour_after b gap readings)

@@ -7,7 +7,8 @@ ghost use Rattle.readings.specs.Equality.{same_reading, same_readings};
 ghost use Rattle.readings.specs.Readings.{is_used};
 ghost use Rattle.readings.specs.Window.{with_neighbours};
 
-use crate::lists::{Window, count_used, is_usable};
+use crate::used::is_usable;
+use crate::windows::Window;
 use fixed_units::Reading;
 
 /// Two readings, and two lists of them, are equal exactly where the tests of the definitions say so.
@@ -26,22 +27,25 @@ pub fn are_same(readings: &[Reading], others: &[Reading]) -> bool
 /// Whether the readings of a window that are used, its neighbours among them, are this list: the comparison takes no
 /// memory.
 pub fn window_is(window: &Window<'_>, list: &[Reading]) -> bool
-    ensures { result ≡ same_readings (with_neighbours window.now.before (filter is_used window.now.inner.now) window.now.after) list.now }
+    ensures { result ≡ same_readings (with_neighbours window.now.before (filter is_used (window.now.left.now ++ window.now.right.now)) window.now.after) list.now }
 {
-    if count_used(window.inner) == 0 {
+    let Some(_) = window.day().first_used() else {
         return list.is_empty();
-    }
+    };
     is_line(window, list)
 }
 
 /// Whether a list is these readings in a row: the one before, the used ones, the one after.
 fn is_line(window: &Window<'_>, list: &[Reading]) -> bool
-    ensures { result ≡ same_readings (option_to_list window.now.before ++ (filter is_used window.now.inner.now ++ option_to_list window.now.after)) list.now }
+    ensures { result ≡ same_readings (option_to_list window.now.before ++ (filter is_used window.now.left.now ++ (filter is_used window.now.right.now ++ option_to_list window.now.after))) list.now }
 {
     let Some(list) = behind(window.before, list) else {
         return false;
     };
-    let Some(list) = behind_used(window.inner, list) else {
+    let Some(list) = behind_used(window.left, list) else {
+        return false;
+    };
+    let Some(list) = behind_used(window.right, list) else {
         return false;
     };
     let Some(list) = behind(window.after, list) else {

@@ -1,49 +1,41 @@
-//! The kept list of readings.
+//! The kept list of readings: what is put, dropped, flagged and counted.
 
-ghost use Rattle.std.specs.Prelude.{◌≡◌, ◌≢◌, true, false, ◌*◌, ◌≤◌, pos, [], Some, filter, find, reverse, length, OnOk, OnErr, IsOk, ◌<◌, ◌+◌, ◌≤ℤ◌, ◌-ℤ◌, int_le, ℤ, ◌+ℤ◌, ◌<ℤ◌, ◌⊎◌, List, IfOk, ◌++◌, option_to_list};
-ghost use Rattle.readings.specs.Readings.{IsRising, put, is_used, IsPlace};
-ghost use Rattle.readings.specs.Window.{window, of_day, neighbour_before, neighbour_after, is_found_in_day, lead, follow};
+ghost use Rattle.std.specs.Prelude.{◌≡◌, ◌+◌, ◌-◌, ◌^◌, ◌<◌, ◌≤◌, true, false, [], ◌++◌, length, take, drop, map, find, reverse, is_some, option_map, OnOk, OnErr, IsOk};
+ghost use Rattle.gapcol.specs.Lists.{with_spare};
+ghost use Rattle.rising.specs.Ends.{first, last};
+ghost use Rattle.readings.specs.Halves.{joined};
+ghost use Rattle.readings.specs.Readings.{IsRising, before_instant, after_instant, put, put_all, in_span, without_span, with_flag, flagged_where, is_used};
+ghost use Rattle.readings.specs.Window.{of_day};
 
+use crate::halves::Halves;
 use fixed_units::{Flag, NoMemory, Reading, Second};
-use rising::RisingList;
+use gapcol::Column;
 use std::alloc::Global;
+use std::fmt;
 use std::marker::Model;
 
 /// The readings of a station, rising by instant. Contracts see the list, and how many more have room beside it.
-#[derive(Debug, Drop)]
+#[derive(Drop)]
 pub struct Readings {
-    kept: RisingList<Reading>,
+    kept: Column<Reading>,
 }
 
 impl Model for Readings {
     ghost use Rattle.fixed_units.specs.declared.readings.Reading.{Reading};
     ghost use Rattle.rising.specs.Lists.{Kept};
+    ghost use Rattle.readings.specs.Readings.{IsRising};
 
     ghost Value = { Kept Reading };
 
-    ghost view = { λ r. r.kept };
+    ghost view = { λ r. record { list = r.kept.list; spare = r.kept.spare } };
+
+    ghost invariant = { λ r. IsRising r.kept.list };
 }
 
-/// What a day's window is made of, lent without a copy.
-#[derive(Clone, Copy, Debug, Drop)]
-pub struct Window<'a> {
-    /// The last used reading before the day, where it is near enough.
-    pub before: Option<Reading>,
-    /// Every reading of the day, erroneous ones among them.
-    pub inner: &'a [Reading],
-    /// The first used reading after the day, where it is near enough.
-    pub after: Option<Reading>,
-}
-
-/// The readings next to an instant.
-#[derive(Clone, Copy, Debug)]
-pub struct Place {
-    /// The last reading before the instant.
-    pub before: Option<Reading>,
-    /// The reading at the instant.
-    pub here: Option<Reading>,
-    /// The first reading after the instant.
-    pub after: Option<Reading>,
+impl fmt::Debug for Readings {
+    fn fmt<W: fmt::Write>(&self, f: &mut fmt::Formatter<W>) -> Result<(), fmt::Error> {
+        self.halves().fmt(f)
+    }
 }
 
 impl Readings {
@@ -52,47 +44,7 @@ impl Readings {
         ensures { result.list ≡ [] }
     {
         Readings {
-            kept: RisingList::new(alloc),
-        }
-    }
-
-    /// The readings, in order.
-    pub fn as_slice(&self) -> &[Reading]
-        ensures list { result.now ≡ self.now.list }
-        ensures rising { IsRising self.now.list }
-    {
-        self.kept.as_slice()
-    }
-
-    /// The readings next to an instant.
-    pub fn place(&self, at: Second) -> Place
-        ensures { IsPlace self.now.list at result }
-    {
-        let around = self.kept.parts(at);
-        Place {
-            before: around.before.last().copied(),
-            here: around.here.copied(),
-            after: around.after.first().copied(),
-        }
-    }
-
-    /// Whether putting a reading that is used changes the window of the day from `a` to `b`; `gap` is in minutes.
-    pub fn alters_window(&self, reading: Reading, a: Second, b: Second, gap: u32) -> bool
-        requires used { is_used reading ≡ true }
-        requires ordered { a ≤ℤ b }
-        ensures changed { result ≡ true → window a b (pos (60 * gap)) (put reading self.now.list) ≢ window a b (pos (60 * gap)) self.now.list }
-        ensures same { result ≡ false → window a b (pos (60 * gap)) (put reading self.now.list) ≡ window a b (pos (60 * gap)) self.now.list }
-    {
-        let around = self.kept.parts(reading.at);
-        if is_same(around.here.copied(), reading) {
-            return false;
-        }
-        if reading.at < a {
-            is_found_in_day(first_used(around.after), a, b) && is_near(reading.at, a, gap)
-        } else if reading.at < b {
-            true
-        } else {
-            is_found_in_day(last_used(around.before), a, b) && is_near(b, reading.at, gap)
+            kept: Column::new(alloc),
         }
     }
 
@@ -105,152 +57,193 @@ impl Readings {
         ensures succeeds { count ≤ self.old.spare → IsOk result }
         ensures err { OnErr result (self.new ≡ self.old) }
     {
-        self.kept.reserve(count)?;
-        Ok(())
+        match self.kept.reserve(count) {
+            Ok(()) => Ok(()),
+            Err(gapcol::NoMemory) => Err(NoMemory),
+        }
     }
 
-    /// Puts a reading in its place, instead of the one at its instant. There is room for it, so no memory is taken.
-    pub fn put(&mut self, reading: Reading)
-        requires room { 0 < self.old.spare }
-        ensures list { self.new.list ≡ put reading self.old.list }
-        ensures spare { self.old.spare ≤ self.new.spare + 1 }
+    /// How many readings there are.
+    pub fn len(&self) -> usize
+        ensures { result ≡ length self.now.list }
+    {
+        self.kept.len()
+    }
+
+    /// All readings, lent.
+    pub(crate) fn halves(&self) -> Halves<'_>
+        ensures list { joined result ≡ self.now.list }
+        ensures rising { IsRising (joined result) }
+        ensures range { length self.now.list < 2 ^ 63 }
+    {
+        self.behind(0)
+    }
+
+    /// The readings from a place on, lent.
+    fn behind(&self, from: usize) -> Halves<'_>
+        requires { from ≤ length self.now.list }
+        ensures list { joined result ≡ drop from self.now.list }
+        ensures rising { IsRising (joined result) }
+        ensures range { length self.now.list < 2 ^ 63 }
+    {
+        let (left, right) = self.kept.parts(from, self.kept.len());
+        Halves { left, right }
+    }
+
+    /// Puts each of these readings in its place, instead of the one at its instant. They rise by instant, and there is room
+    /// for them, so no memory is taken.
+    pub fn put_all(&mut self, list: &[Reading])
+        requires rising { IsRising list.now }
+        requires room { length list.now ≤ self.old.spare }
+        ensures list { self.new.list ≡ put_all list.now self.old.list }
         ensures room { length self.new.list + self.new.spare ≡ length self.old.list + self.old.spare }
     {
-        self.kept.put(reading);
-    }
-
-    /// What the window of the day from `a` to `b` is made of; `gap` is in minutes.
-    pub fn window(&self, a: Second, b: Second, gap: u32) -> Window<'_>
-        requires { a ≤ℤ b }
-        ensures before { result.before ≡ neighbour_before a (pos (60 * gap)) self.now.list }
-        ensures inner { result.inner.now ≡ of_day a b self.now.list }
-        ensures after { result.after ≡ neighbour_after b (pos (60 * gap)) self.now.list }
-    {
-        let (early, _) = self.kept.split_at_key(a);
-        let (_, late) = self.kept.split_at_key(b);
-        Window {
-            before: lead(early, a, gap),
-            inner: self.kept.between(a, b),
-            after: follow(late, b, gap),
+        let mut from = 0;
+        for reading in list {
+            from = self.put_from(from, *reading);
         }
     }
 
-    /// The window of the day from `a` to `b` as a list; `gap` is in minutes.
-    pub fn to_list(
-        &self,
-        alloc: Global,
-        a: Second,
-        b: Second,
-        gap: u32,
-    ) -> Result<Vec<Reading>, NoMemory>
-        requires { a ≤ℤ b }
-        ensures { IfOk result (λ v. v.items ≡ window a b (pos (60 * gap)) self.now.list) }
+    /// Puts a reading that stands after those before the place `from`, and says behind which place each later one stands.
+    fn put_from(&mut self, from: usize, reading: Reading) -> usize
+        requires room { 0 < self.old.spare }
+        requires passed { from ≤ length (before_instant reading.at self.old.list) }
+        ensures list { self.new.list ≡ put reading self.old.list }
+        ensures room { length self.new.list + self.new.spare ≡ length self.old.list + self.old.spare }
+        ensures spare { self.old.spare ≤ self.new.spare + 1 }
+        ensures next { result ≡ length (before_instant reading.at self.old.list) + 1 }
     {
-        let window = self.window(a, b, gap);
-        let count = count_used(window.inner);
-        if count == 0 {
-            return Ok(Vec::new(alloc));
+        let place = from + self.behind(from).count_before(reading.at);
+        if self.stands_in(place, reading.at) {
+            self.kept.set(place, reading);
+        } else {
+            self.kept.insert(place, reading);
         }
-        let mut list = Vec::with_capacity(alloc, count.saturating_add(2))?;
-        push_some(&mut list, window.before)?;
-        push_used(&mut list, window.inner)?;
-        push_some(&mut list, window.after)?;
-        Ok(list)
+        place + 1
+    }
+
+    /// Whether the reading in the place where an instant belongs stands at it.
+    fn stands_in(&self, place: usize, at: Second) -> bool
+        requires { place ≡ length (before_instant at self.now.list) }
+        ensures within { result ≡ true → place < length self.now.list }
+        ensures here { result ≡ true → drop (place + 1) self.now.list ≡ after_instant at self.now.list }
+        ensures elsewhere { result ≡ false → drop place self.now.list ≡ after_instant at self.now.list }
+    {
+        place < self.kept.len() && self.kept.get(place).at == at
+    }
+
+    /// Takes out the readings from an instant to another, both included, and says how many they were. Their room stays.
+    pub fn drop_span(&mut self, from: Second, to: Second) -> u64
+        ensures list { self.new.list ≡ without_span from to self.old.list }
+        ensures count { result ≡ length (in_span from to self.old.list) }
+        ensures room { length self.new.list + self.new.spare ≡ length self.old.list + self.old.spare }
+    {
+        let (first, end) = self.places(from, to);
+        remove_run(&mut self.kept, first, end);
+        (end - first) as u64
+    }
+
+    /// Flags the readings from an instant to another, both included, and says how many they are.
+    pub fn flag_span(&mut self, from: Second, to: Second, flag: Flag) -> u64
+        ensures list { self.new.list ≡ with_flag from to flag self.old.list }
+        ensures count { result ≡ length (in_span from to self.old.list) }
+        ensures spare { self.new.spare ≡ self.old.spare }
+    {
+        let (first, end) = self.places(from, to);
+        flag_run(&mut self.kept, first, end, flag);
+        (end - first) as u64
+    }
+
+    /// The place of the first reading of a span, and the place behind its last.
+    fn places(&self, from: Second, to: Second) -> (usize, usize)
+        ensures first { result.0 ≡ length (before_instant from self.now.list) }
+        ensures end { result.1 ≡ result.0 + length (in_span from to self.now.list) }
+        ensures within { result.1 ≤ length self.now.list }
+    {
+        let all = self.halves();
+        let first = all.count_before(from);
+        (first, first + all.span(from, to).len())
+    }
+
+    /// How many readings stand from an instant to another, both included.
+    pub fn count(&self, from: Second, to: Second) -> u64
+        ensures { result ≡ length (in_span from to self.now.list) }
+    {
+        self.halves().span(from, to).len() as u64
+    }
+
+    /// The first and the last of the readings from an instant to another, both included.
+    pub fn span_ends(&self, from: Second, to: Second) -> Option<(Reading, Reading)>
+        ensures first { option_map (λ ends. ends.0) result ≡ first (in_span from to self.now.list) }
+        ensures last { option_map (λ ends. ends.1) result ≡ last (in_span from to self.now.list) }
+    {
+        let span = self.halves().span(from, to);
+        let first = span.first()?;
+        let last = span.last()?;
+        Some((first, last))
+    }
+
+    /// The first and the last reading that is used.
+    pub fn used_ends(&self) -> Option<(Reading, Reading)>
+        ensures first { option_map (λ ends. ends.0) result ≡ find is_used self.now.list }
+        ensures last { option_map (λ ends. ends.1) result ≡ find is_used (reverse self.now.list) }
+    {
+        let all = self.halves();
+        let first = all.first_used()?;
+        let last = all.last_used()?;
+        Some((first, last))
+    }
+
+    /// The readings from an instant on and before another: none where that one is no later.
+    pub fn between(&self, a: Second, b: Second) -> Halves<'_>
+        ensures { result.left.now ++ result.right.now ≡ of_day a b self.now.list }
+    {
+        self.halves().between(a, b)
+    }
+
+    /// Whether a reading from an instant on and before another is used.
+    pub fn has_used(&self, a: Second, b: Second) -> bool
+        ensures { result ≡ is_some (find is_used (of_day a b self.now.list)) }
+    {
+        self.between(a, b).first_used().is_some()
+    }
+
+    /// How many of these readings stand at instants of no reading. They rise by instant.
+    pub fn count_new(&self, list: &[Reading]) -> usize
+        requires { IsRising list.now }
+        ensures { length (put_all list.now self.now.list) ≡ length self.now.list + result }
+    {
+        let mut rest = self.halves();
+        let mut count = 0;
+        for reading in list {
+            if rest.at(reading.at).is_none() {
+                count += 1;
+            }
+            (_, rest) = rest.split_at_key(reading.at);
+        }
+        count
     }
 }
 
-/// A reading that is farther from a day than the gap leaves its window as it is, whatever its flag.
-pub fn far_readings_leave_a_window()
-    ensures { (a b gap : ℤ) (r : Reading) (rs : List Reading) → IsRising rs → pos 0 ≤ℤ gap → a ≤ℤ b → ((r.at +ℤ gap) <ℤ a) ⊎ ((b +ℤ gap) <ℤ r.at) → window a b gap (put r rs) ≡ window a b gap rs }
-{}
-
-/// A list with a reading put rises, and so does a window.
-pub fn windows_rise()
-    ensures put { (r : Reading) (rs : List Reading) → IsRising rs → IsRising (put r rs) }
-    ensures window { (a b gap : ℤ) (rs : List Reading) → IsRising rs → IsRising (window a b gap rs) }
-{}
-
-/// The last reading that is used.
-fn last_used(list: &[Reading]) -> Option<Reading>
-    ensures { result ≡ find is_used (reverse list.now) }
+/// Takes out the readings in the places from `first` on and before `end`.
+fn remove_run(kept: &mut Column<Reading>, first: usize, end: usize)
+    requires order { first ≤ end }
+    requires within { end ≤ length kept.old.list }
+    ensures { kept.new ≡ with_spare (take first kept.old.list ++ drop end kept.old.list) (kept.old.spare + (end - first)) }
 {
-    list.iter().rev().copied().find(|r| is_usable(r))
-}
-
-/// The first reading that is used.
-fn first_used(list: &[Reading]) -> Option<Reading>
-    ensures { result ≡ find is_used list.now }
-{
-    list.iter().copied().find(|r| is_usable(r))
-}
-
-/// How many readings of a list are used.
-pub(crate) fn count_used(list: &[Reading]) -> usize
-    ensures { result ≡ length (filter is_used list.now) }
-{
-    list.iter().filter(|r| is_usable(r)).count()
-}
-
-/// Adds the readings of a slice that are used.
-fn push_used(list: &mut Vec<Reading>, readings: &[Reading]) -> Result<(), NoMemory>
-    ensures { OnOk result (list.new.items ≡ list.old.items ++ filter is_used readings.now) }
-{
-    list.extend(readings.iter().copied().filter(|r| is_usable(r)))?;
-    Ok(())
-}
-
-/// Adds a reading, where there is one.
-fn push_some(list: &mut Vec<Reading>, reading: Option<Reading>) -> Result<(), NoMemory>
-    ensures { OnOk result (list.new.items ≡ list.old.items ++ option_to_list reading) }
-{
-    if let Some(reading) = reading {
-        list.push(reading)?;
-    }
-    Ok(())
-}
-
-/// Whether a reading was found, and it is the same as another one.
-fn is_same(found: Option<Reading>, reading: Reading) -> bool
-    ensures there { result ≡ true → found ≡ Some reading }
-    ensures other { result ≡ false → found ≢ Some reading }
-{
-    match found {
-        Some(kept) => kept == reading,
-        None => false,
+    for _ in first..end {
+        kept.remove(first);
     }
 }
 
-/// The last used reading of those before an instant, where it is near enough.
-fn lead(list: &[Reading], a: Second, gap: u32) -> Option<Reading>
-    ensures { result ≡ lead a (pos (60 * gap)) (find is_used (reverse list.now)) }
+/// Flags the readings in the places from `first` on and before `end`.
+fn flag_run(kept: &mut Column<Reading>, first: usize, end: usize, flag: Flag)
+    requires order { first ≤ end }
+    requires within { end ≤ length kept.old.list }
+    ensures { kept.new ≡ with_spare (take first kept.old.list ++ (map (flagged_where true flag) (take (end - first) (drop first kept.old.list)) ++ drop end kept.old.list)) kept.old.spare }
 {
-    last_used(list).filter(|r| is_near(r.at, a, gap))
-}
-
-/// The first used reading of those after an instant, where it is near enough.
-fn follow(list: &[Reading], b: Second, gap: u32) -> Option<Reading>
-    ensures { result ≡ follow b (pos (60 * gap)) (find is_used list.now) }
-{
-    first_used(list).filter(|r| is_near(b, r.at, gap))
-}
-
-/// Whether an instant is at most so many minutes before another.
-fn is_near(earlier: Second, later: Second, gap: u32) -> bool
-    ensures { result ≡ int_le (later -ℤ earlier) (pos (60 * gap)) }
-{
-    later.get() - earlier.get() <= 60 * i64::from(gap)
-}
-
-/// Whether a reading was found, and it is of the day from `a` to `b`.
-fn is_found_in_day(found: Option<Reading>, a: Second, b: Second) -> bool
-    ensures { result ≡ is_found_in_day a b found }
-{
-    found.is_some_and(|r| a <= r.at && r.at < b)
-}
-
-/// Whether a reading may be used: it is not erroneous.
-pub(crate) fn is_usable(reading: &Reading) -> bool
-    ensures { result ≡ is_used reading.now }
-{
-    reading.flag != Flag::Erroneous
+    for place in first..end {
+        let reading = kept.get(place);
+        kept.set(place, Reading { flag, ..reading });
+    }
 }

@@ -2,11 +2,12 @@
 
 use crate::fixtures::{AB, Change, DISCHARGES, STAGES, Sent, curve, edit, made, name, reading};
 use edits::{
-    By, EditFault, Grade, Ref, are_put_readings, are_settings, is_gap, is_measurement_number,
-    is_name, is_put_curve, is_put_point, is_rating_number, is_set_number, is_zone,
+    By, EditFault, Estimate, Grade, Ref, are_put_readings, are_settings, is_gap,
+    is_measurement_number, is_name, is_put_curve, is_put_estimate, is_put_point, is_put_reading,
+    is_rating_number, is_reading_count, is_reading_span, is_set_number, is_zone,
 };
-use fixed_units::Flag::{Affected, Usable};
-use fixed_units::Micro;
+use fixed_units::Flag::{Affected, Erroneous, Usable};
+use fixed_units::{Day, Micro, Second};
 use std::alloc::Global;
 
 /// Texts, and whether each is one's initials, a reference and a name.
@@ -67,16 +68,55 @@ fn zones_are_tested(rt: HostRuntime) {
     assert!(rt; [zone, no_zone] == [Some(true), Some(false)]);
 }
 
-/// Whether the first so many of two readings may be put.
-fn may_be_put(count: usize) -> Option<bool> {
-    let two = [reading(0, 0, Usable)?, reading(1, 0, Usable)?];
-    Some(are_put_readings(two.get(..count)?))
+/// Whether two readings at these seconds may be put, one behind the other.
+fn may_be_put(first: i64, second: i64) -> Option<bool> {
+    let two = [reading(first, 0, Usable)?, reading(second, 0, Erroneous)?];
+    Some(are_put_readings(&two))
 }
 
 #[test]
-fn one_reading_is_put(rt: HostRuntime) {
-    let told = [may_be_put(0), may_be_put(1), may_be_put(2)];
-    assert!(rt; told == [Some(false), Some(true), Some(false)]);
+fn readings_that_rise_are_put(rt: HostRuntime) {
+    let told = [may_be_put(0, 1), may_be_put(0, 0), may_be_put(1, 0)];
+    assert!(rt; told == [Some(true), Some(false), Some(false)]);
+    assert!(rt; !are_put_readings(&[]));
+}
+
+/// Counts of readings, and whether an edit may put so many.
+const COUNTS: [(usize, bool); 4] = [(0, false), (1, true), (100_000, true), (100_001, false)];
+
+fn first_wrong_count() -> Option<usize> {
+    for (count, good) in &COUNTS {
+        if is_reading_count(*count) != *good {
+            return Some(*count);
+        }
+    }
+    None
+}
+
+#[test]
+fn counts_of_readings_are_tested(rt: HostRuntime) {
+    let wrong = first_wrong_count();
+    assert!(rt; wrong.is_none(), "{wrong:?}");
+}
+
+/// Whether a reading at a second of this stage may be put, whether a span from it to a day later may be dropped, and whether
+/// an estimate of this discharge may be put.
+fn are_lawful(at: i64, millionths: i64) -> Option<[bool; 3]> {
+    let estimate = Estimate {
+        day: Day::new(0)?,
+        discharge: Micro::new(millionths)?,
+    };
+    Some([
+        is_put_reading(&reading(at, millionths, Affected)?),
+        is_reading_span(Second::new(at)?, Second::new(at + 86_400)?),
+        is_put_estimate(&estimate),
+    ])
+}
+
+#[test]
+fn readings_spans_and_estimates_are_tested(rt: HostRuntime) {
+    assert!(rt; are_lawful(0, 0) == Some([true; 3]));
+    assert!(rt; are_lawful(4_102_185_599, -1) == Some([true, false, false]));
 }
 
 /// Numbers, and whether each is that of a correction set.
@@ -173,14 +213,19 @@ const BELOW: &[(i64, i64)] = &[(0, -1), (1, 0)];
 const TOO_HIGH: &[(i64, i64)] = &[(0, 0), (100_000_000_001, 0)];
 
 /// What may not be changed, told by its place from 0 on.
-const UNLAWFUL: [Change; 30] = [
+const UNLAWFUL: [Change; 37] = [
     Change::Addition("-05:00", 721, STAGES),
     Change::Addition("-05:60", 720, STAGES),
     Change::Setting("A", 0, STAGES),
-    Change::Nothing,
-    Change::Put(0, 0, Affected),
+    Change::Readings(&[]),
+    Change::Readings(&[(0, 0, Usable), (0, 0, Usable)]),
+    Change::Readings(&[(0, 0, Usable), (1, 100_000_000_001, Usable)]),
     Change::Put(4_102_185_600, 0, Usable),
     Change::Put(0, 100_000_000_001, Usable),
+    Change::NoReadings(1, 0),
+    Change::NoReadings(0, 4_102_185_600),
+    Change::Flagging(1, 0, Usable),
+    Change::Flagging(-2_208_816_001, 0, Usable),
     Change::Correction(0, (0, &[(0, 0)], false)),
     Change::Correction(4, (0, &[(0, 0)], false)),
     Change::Correction(1, (4_102_185_600, &[(0, 0)], false)),
@@ -199,6 +244,8 @@ const UNLAWFUL: [Change; 30] = [
     Change::Period(1, 4_102_185_600, None),
     Change::Period(1, 0, Some(4_102_185_600)),
     Change::NoPeriod(4_102_185_600),
+    Change::Estimate(0, -1),
+    Change::Estimate(0, 10_000_000_000_001),
     Change::Measurement((0, 0, 0, 0, Grade::Good)),
     Change::Measurement((1, 4_102_185_600, 0, 0, Grade::Good)),
     Change::Measurement((1, 0, 100_000_000_001, 0, Grade::Good)),
@@ -228,7 +275,7 @@ fn what_is_not_lawful_makes_no_edit(rt: HostRuntime) {
 const SET: Change = Change::Setting("A", 1, STAGES);
 
 /// Edits of which no two are the same, told by their places from 0 on.
-const EDITS: [&Sent; 45] = [
+const EDITS: [&Sent; 59] = [
     &(AB, "a1", Change::Addition("+00:00", 720, STAGES)),
     &(AB, "a1", Change::Addition("-00:00", 720, STAGES)),
     &(AB, "a1", Change::Addition("+00:00", 719, STAGES)),
@@ -238,6 +285,19 @@ const EDITS: [&Sent; 45] = [
     &(AB, "a1", Change::Put(0, 0, Usable)),
     &(AB, "a1", Change::Put(1, 0, Usable)),
     &(AB, "a1", Change::Put(0, 1, Usable)),
+    &(AB, "a1", Change::Put(0, 0, Affected)),
+    &(
+        AB,
+        "a1",
+        Change::Readings(&[(0, 0, Usable), (1, 0, Usable)]),
+    ),
+    &(AB, "a1", Change::NoReadings(0, 1)),
+    &(AB, "a1", Change::NoReadings(0, 2)),
+    &(AB, "a1", Change::NoReadings(1, 1)),
+    &(AB, "a1", Change::Flagging(0, 1, Usable)),
+    &(AB, "a1", Change::Flagging(0, 2, Usable)),
+    &(AB, "a1", Change::Flagging(1, 1, Usable)),
+    &(AB, "a1", Change::Flagging(0, 1, Erroneous)),
     &(AB, "a1", Change::Correction(1, (0, &[(0, 0)], false))),
     &(AB, "a1", Change::Correction(2, (0, &[(0, 0)], false))),
     &(AB, "a1", Change::Correction(1, (1, &[(0, 0)], false))),
@@ -267,6 +327,11 @@ const EDITS: [&Sent; 45] = [
     &(AB, "a1", Change::Period(1, 0, Some(2))),
     &(AB, "a1", Change::NoPeriod(0)),
     &(AB, "a1", Change::NoPeriod(1)),
+    &(AB, "a1", Change::Estimate(0, 0)),
+    &(AB, "a1", Change::Estimate(1, 0)),
+    &(AB, "a1", Change::Estimate(0, 1)),
+    &(AB, "a1", Change::NoEstimate(0)),
+    &(AB, "a1", Change::NoEstimate(1)),
     &(AB, "a1", Change::Measurement((1, 0, 0, 0, Grade::Good))),
     &(AB, "a1", Change::Measurement((2, 0, 0, 0, Grade::Good))),
     &(AB, "a1", Change::Measurement((1, 1, 0, 0, Grade::Good))),

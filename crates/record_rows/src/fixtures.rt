@@ -1,8 +1,8 @@
 //! Edits of the rows as plain values, and the edits for which these stand.
 
 use curves::Curve;
-use edits::{By, Edit, EditFault, Grade, Measurement, Name, Ref, What};
-use fixed_units::{Flag, Micro, Reading, RoundingArray, Second, Site, Text};
+use edits::{By, Edit, EditFault, Estimate, Grade, Measurement, Name, Ref, What};
+use fixed_units::{Day, Flag, Micro, Reading, RoundingArray, Second, Site, Text};
 use rating_tables::{SharedTable, Table};
 use ratings::Period;
 use readings::ReadingList;
@@ -23,8 +23,12 @@ pub enum Change {
     Setting(&'static str, u32, &'static str),
     /// Puts a reading: its second, its stage in millionths of a foot, and its flag.
     Put(i64, i64, Flag),
-    /// Puts no reading.
-    Nothing,
+    /// Puts readings, each as that one.
+    Readings(&'static [(i64, i64, Flag)]),
+    /// Takes out the readings from a second to another.
+    NoReadings(i64, i64),
+    /// Flags the readings from a second to another.
+    Flagging(i64, i64, Flag),
     /// Puts an entry into the correction set of a number.
     Correction(u8, Put),
     /// Takes the entry at a second out of the correction set of a number.
@@ -39,6 +43,10 @@ pub enum Change {
     Period(u32, i64, Option<i64>),
     /// Takes out the period that begins at a second.
     NoPeriod(i64),
+    /// Puts an estimate: its day, and its discharge in millionths of a cubic foot per second.
+    Estimate(i32, i64),
+    /// Takes out the estimate of a day.
+    NoEstimate(i32),
     /// Puts a measurement.
     Measurement(Measured),
     /// Takes out the measurement of a number.
@@ -94,9 +102,28 @@ fn setting(alloc: Global, called: &str, gap: u32, discharge_array: RoundingArray
     })
 }
 
-fn put(alloc: Global, readings: &[Reading]) -> Option<What> {
+fn put(alloc: Global, readings: &[(i64, i64, Flag)]) -> Option<What> {
+    let mut kept = Vec::new(alloc);
+    for (at, millionths, flag) in readings {
+        kept.push(reading(*at, *millionths, *flag)?).ok()?;
+    }
     Some(What::PutReadings {
-        readings: ReadingList::from_vec(readings.to_vec(alloc).ok()?),
+        readings: ReadingList::from_vec(kept),
+    })
+}
+
+fn drop_of_readings(from: i64, to: i64) -> Option<What> {
+    Some(What::DropReadings {
+        from: Second::new(from)?,
+        to: Second::new(to)?,
+    })
+}
+
+fn flagging(from: i64, to: i64, flag: Flag) -> Option<What> {
+    Some(What::FlagReadings {
+        from: Second::new(from)?,
+        to: Second::new(to)?,
+        flag,
     })
 }
 
@@ -146,6 +173,15 @@ fn period(rating: u32, from: i64, until: Option<i64>) -> Option<What> {
     })
 }
 
+fn estimate(day: i32, discharge: i64) -> Option<What> {
+    Some(What::PutEstimate {
+        estimate: Estimate {
+            day: Day::new(day)?,
+            discharge: Micro::new(discharge)?,
+        },
+    })
+}
+
 fn measurement(measured: Measured) -> Option<What> {
     let (number, at, gage, discharge, grade) = measured;
     Some(What::PutMeasurement {
@@ -167,8 +203,10 @@ fn what(alloc: Global, change: Change) -> Option<What> {
         Change::Setting(called, gap, array) => {
             setting(alloc, called, gap, RoundingArray::read(array.as_bytes())?)
         }
-        Change::Put(at, millionths, flag) => put(alloc, &[reading(at, millionths, flag)?]),
-        Change::Nothing => put(alloc, &[]),
+        Change::Put(at, millionths, flag) => put(alloc, &[(at, millionths, flag)]),
+        Change::Readings(readings) => put(alloc, readings),
+        Change::NoReadings(from, to) => drop_of_readings(from, to),
+        Change::Flagging(from, to, flag) => flagging(from, to, flag),
         Change::Correction(set, entry) => correction(set, entry),
         Change::NoCorrection(set, at) => Some(What::DropCorrection {
             set,
@@ -185,6 +223,10 @@ fn what(alloc: Global, change: Change) -> Option<What> {
         Change::Period(rating, from, until) => period(rating, from, until),
         Change::NoPeriod(from) => Some(What::DropPeriod {
             from: Second::new(from)?,
+        }),
+        Change::Estimate(day, discharge) => estimate(day, discharge),
+        Change::NoEstimate(day) => Some(What::DropEstimate {
+            day: Day::new(day)?,
         }),
         Change::Measurement(measured) => measurement(measured),
         Change::NoMeasurement(number) => Some(What::DropMeasurement { number }),

@@ -12,4 +12,6 @@ mod payloads;
 #[cfg(test)]
 mod rating_fields;
 #[cfg(test)]
+mod reading_fields;
+#[cfg(test)]
 mod refusals;

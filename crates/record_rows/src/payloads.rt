@@ -2,7 +2,7 @@
 
 use crate::fixtures::{AB, Change, DISCHARGES, STAGES, Sent, edit};
 use edits::Grade;
-use fixed_units::Flag::Usable;
+use fixed_units::Flag::{Affected, Erroneous, Usable};
 use records::laws::{keeps_grammar, none_begins_another, payload_of_one_record, sizes};
 use records::{DecodeFault, Record, decode, encode, encode_and_close};
 use std::alloc::Global;
@@ -22,6 +22,18 @@ const PUT: &[u8] =
 /// A reading below 0 before 1970, with the longest initials, reference and site number.
 const LONGEST: &[u8] =
     b"\x51\0\0\0\x03\x08abcdefgh\x280123456789012345678901234567890123456-A9\x0f\xff\x7f\xc6\xa4\x7e\x8d\x03\0\x01\0\0\0\xff\xff\xff\xff\xff\xff\xff\xff\x78\xec\xff\xff\xff\xff\xff\xff\0";
+
+/// Readings of 0 feet about 1970: an erroneous one, one that the rating does not hold for, and a good one.
+const FLAGS: &[u8] =
+    b"\x47\0\0\0\x03\x02AB\x02r3\x08\xa4\x1f\x19\0\0\0\0\0\x03\0\0\0\xff\xff\xff\xff\xff\xff\xff\xff\0\0\0\0\0\0\0\0\x01\0\0\0\0\0\0\0\0\0\0\0\0\0\0\0\0\x02\x01\0\0\0\0\0\0\0\0\0\0\0\0\0\0\0\0";
+
+/// The readings from 2024-01-05T05:00:00Z to the last stamp are dropped.
+const NO_READINGS: &[u8] =
+    b"\x20\0\0\0\x04\x02AB\x02d1\x08\xa4\x1f\x19\0\0\0\0\0\xd0\x8c\x97\x65\0\0\0\0\x7f\x62\x82\xf4\0\0\0\0";
+
+/// The rating does not hold for the readings of the first two seconds about 1970.
+const FLAGGING: &[u8] =
+    b"\x21\0\0\0\x05\x02AB\x02f1\x08\xa4\x1f\x19\0\0\0\0\0\xff\xff\xff\xff\xff\xff\xff\xff\0\0\0\0\0\0\0\0\x02";
 
 /// From 2024-01-05T05:00:00Z on the first correction set has 0.05 feet at 1.00 feet and -0.02 feet at 2.00 feet, and prorates.
 const CORRECTION: &[u8] =
@@ -59,6 +71,13 @@ const ENDED: &[u8] =
 const NO_PERIOD: &[u8] =
     b"\x18\0\0\0\x0c\x02AB\x02p3\x08\xa4\x1f\x19\0\0\0\0\0\0\xcd\xb0\x63\0\0\0\0";
 
+/// The mean discharge of 1900-01-01 is estimated as the greatest, 10,000,000 cubic feet per second.
+const ESTIMATE: &[u8] =
+    b"\x1c\0\0\0\x0d\x02AB\x02e1\x08\xa4\x1f\x19\0\0\0\0\0\x21\x9c\xff\xff\0\xa0\x72\x4e\x18\x09\0\0";
+
+/// The estimate of 2024-01-05 is dropped.
+const NO_ESTIMATE: &[u8] = b"\x14\0\0\0\x0e\x02AB\x02r1\x08\xa4\x1f\x19\0\0\0\0\0\x0f\x4d\0\0";
+
 /// The first measurement found 10 cubic feet per second at 1.00 feet, and was fair.
 const MEASUREMENT: &[u8] =
     b"\x2d\0\0\0\x0f\x02AB\x02m1\x08\xa4\x1f\x19\0\0\0\0\0\x01\0\0\0\xd0\x8c\x97\x65\0\0\0\0\x40\x42\x0f\0\0\0\0\0\x80\x96\x98\0\0\0\0\0\x02";
@@ -78,7 +97,7 @@ const STATION: [(&Sent, usize); 3] = [
 ];
 
 /// Edits, and the bytes of their records.
-const RECORDS: [(&Sent, &[u8]); 15] = [
+const RECORDS: [(&Sent, &[u8]); 20] = [
     (
         &(AB, "a1", Change::Addition("-05:00", 720, STAGES)),
         ADDITION,
@@ -96,6 +115,19 @@ const RECORDS: [(&Sent, &[u8]); 15] = [
         ),
         LONGEST,
     ),
+    (
+        &(
+            AB,
+            "r3",
+            Change::Readings(&[(-1, 0, Erroneous), (0, 0, Affected), (1, 0, Usable)]),
+        ),
+        FLAGS,
+    ),
+    (
+        &(AB, "d1", Change::NoReadings(1_704_430_800, 4_102_185_599)),
+        NO_READINGS,
+    ),
+    (&(AB, "f1", Change::Flagging(-1, 0, Affected)), FLAGGING),
     (
         &(
             AB,
@@ -147,6 +179,11 @@ const RECORDS: [(&Sent, &[u8]); 15] = [
         ENDED,
     ),
     (&(AB, "p3", Change::NoPeriod(1_672_531_200)), NO_PERIOD),
+    (
+        &(AB, "e1", Change::Estimate(-25_567, 10_000_000_000_000)),
+        ESTIMATE,
+    ),
+    (&(AB, "r1", Change::NoEstimate(19_727)), NO_ESTIMATE),
     (
         &(
             AB,

@@ -2,6 +2,7 @@
 
 use crate::entry_fields::{DROPPED_FROM, ENTRIES, INSTANTS, PUT_INTO};
 use crate::rating_fields::{MEASUREMENTS, NUMBERS, PERIODS, RATINGS};
+use crate::reading_fields::{DAYS, ESTIMATES, FLAGGED, READINGS, SPANS};
 use records::{DecodeFault, decode};
 use std::alloc::Global;
 
@@ -217,60 +218,23 @@ const ZONES: [Row; 7] = [
     (&[ADD, BY, REF, SITE, NAME, b"\0", GAP, ARRAYS], true),
 ];
 
-/// Two usable readings.
-const TWO_READINGS: &[u8] =
-    b"\x02\0\0\0\xd0\x8c\x97\x65\0\0\0\0\x40\x42\x0f\0\0\0\0\0\0\xd1\x8c\x97\x65\0\0\0\0\x40\x42\x0f\0\0\0\0\0\0";
-
-/// An erroneous reading, and one with a flag that there is not.
-const ERRONEOUS: &[u8] = b"\x01\0\0\0\xd0\x8c\x97\x65\0\0\0\0\x40\x42\x0f\0\0\0\0\0\x01";
-
-const NO_FLAG: &[u8] = b"\x01\0\0\0\xd0\x8c\x97\x65\0\0\0\0\x40\x42\x0f\0\0\0\0\0\x03";
-
-/// The least stage at the last stamp, and a second later.
-const LAST: &[u8] = b"\x01\0\0\0\x7f\x62\x82\xf4\0\0\0\0\0\x18\x89\xb7\xe8\xff\xff\xff\0";
-
-const TOO_LATE: &[u8] = b"\x01\0\0\0\x80\x62\x82\xf4\0\0\0\0\0\x18\x89\xb7\xe8\xff\xff\xff\0";
-
-/// The greatest stage at the first stamp, and a millionth of a foot more.
-const FIRST: &[u8] = b"\x01\0\0\0\x80\x24\x58\x7c\xff\xff\xff\xff\0\xe8\x76\x48\x17\0\0\0\0";
-
-const TOO_HIGH: &[u8] = b"\x01\0\0\0\x80\x24\x58\x7c\xff\xff\xff\xff\x01\xe8\x76\x48\x17\0\0\0\0";
-
-/// What is put.
-const READINGS: [Row; 9] = [
-    (&[PUT, BY, REF, SITE, READING], false),
-    (&[PUT, BY, REF, SITE, b"\0\0\0\0"], true),
-    (&[PUT, BY, REF, SITE, TWO_READINGS], true),
-    (&[PUT, BY, REF, SITE, ERRONEOUS], true),
-    (&[PUT, BY, REF, SITE, NO_FLAG], true),
-    (&[PUT, BY, REF, SITE, LAST], false),
-    (&[PUT, BY, REF, SITE, TOO_LATE], true),
-    (&[PUT, BY, REF, SITE, FIRST], false),
-    (&[PUT, BY, REF, SITE, TOO_HIGH], true),
-];
-
 /// Payloads with a byte behind the last field, and of kinds that there are not.
-const OTHERS: [Row; 9] = [
+const OTHERS: [Row; 5] = [
     (&[ADD, BY, REF, SITE, NAME, ZONE, GAP, ARRAYS, b"\0"], true),
     (&[SET, BY, REF, SITE, NAME, GAP, ARRAYS, b"\0"], true),
     (&[PUT, BY, REF, SITE, READING, b"\0"], true),
     (&[b"\0", BY, REF, SITE, READING], true),
-    (&[b"\x04", BY, REF, SITE, READING], true),
-    (&[b"\x05", BY, REF, SITE, READING], true),
-    (&[b"\x0d", BY, REF, SITE, READING], true),
-    (&[b"\x0e", BY, REF, SITE, READING], true),
     (&[b"\x11", BY, REF, SITE, READING], true),
 ];
 
 /// The name of a table, the front of its payloads, and its rows.
 type Table = (&'static str, &'static [&'static [u8]], &'static [Row]);
 
-/// The tables of stations, readings and entries.
-const TABLES: [Table; 11] = [
+/// The tables of stations and entries.
+const TABLES: [Table; 10] = [
     ("senders", &[], &SENDERS),
     ("stations", &[], &STATIONS),
     ("zones", &[], &ZONES),
-    ("readings", &[], &READINGS),
     ("others", &[], &OTHERS),
     ("corrections", &[b"\x06", BY, REF, SITE, b"\x01"], &ENTRIES),
     ("shifts", &[b"\x08", BY, REF, SITE], &ENTRIES),
@@ -282,6 +246,15 @@ const TABLES: [Table; 11] = [
     ("dropped shifts", &[b"\x09", BY, REF, SITE], &INSTANTS),
     ("sets", &[b"\x06", BY, REF, SITE], &PUT_INTO),
     ("sets of drops", &[b"\x07", BY, REF, SITE], &DROPPED_FROM),
+];
+
+/// Those of readings and estimates.
+const READING_TABLES: [Table; 5] = [
+    ("readings", &[PUT, BY, REF, SITE], &READINGS),
+    ("dropped readings", &[b"\x04", BY, REF, SITE], &SPANS),
+    ("flagged readings", &[b"\x05", BY, REF, SITE], &FLAGGED),
+    ("estimates", &[b"\x0d", BY, REF, SITE], &ESTIMATES),
+    ("dropped estimates", &[b"\x0e", BY, REF, SITE], &DAYS),
 ];
 
 /// Those of ratings, periods and measurements.
@@ -306,6 +279,12 @@ fn first_wrong_of_all(alloc: Global, tables: &[Table]) -> Option<(&'static str, 
 #[test]
 fn each_field_keeps_to_its_range(rt: HostRuntime) {
     let wrong = first_wrong_of_all(rt.alloc(), &TABLES);
+    assert!(rt; wrong.is_none(), "{wrong:?}");
+}
+
+#[test]
+fn each_field_of_readings_and_estimates_keeps_to_its_range(rt: HostRuntime) {
+    let wrong = first_wrong_of_all(rt.alloc(), &READING_TABLES);
     assert!(rt; wrong.is_none(), "{wrong:?}");
 }
 
@@ -337,6 +316,34 @@ fn is_rating_refused(alloc: Global, rows: u32) -> Option<bool> {
 fn ratings_have_at_most_10_000_rows(rt: HostRuntime) {
     let most = is_rating_refused(rt.alloc(), 10_000);
     let more = is_rating_refused(rt.alloc(), 10_001);
+    assert!(rt;
+        [most, more] == [Some(false), Some(true)],
+        "{most:?} {more:?}"
+    );
+}
+
+/// A front, and so many good readings of 0 feet behind it, each a second later than the one before.
+fn read(alloc: Global, front: &[&[u8]], count: u32) -> Option<Vec<u8>> {
+    let mut payload = joined(alloc, front, &[&count.to_le_bytes()])?;
+    for second in 0..count {
+        payload
+            .extend_from_slice(&i64::from(second).to_le_bytes())
+            .ok()?;
+        payload.extend_from_slice(&[0; 9]).ok()?;
+    }
+    Some(payload)
+}
+
+/// Whether a put of so many readings is refused; `None` where memory is short.
+fn is_put_refused(alloc: Global, count: u32) -> Option<bool> {
+    let front: [&[u8]; 4] = [PUT, BY, REF, SITE];
+    is_refused(alloc, &[], &[&read(alloc, &front, count)?])
+}
+
+#[test]
+fn at_most_100_000_readings_are_put(rt: HostRuntime) {
+    let most = is_put_refused(rt.alloc(), 100_000);
+    let more = is_put_refused(rt.alloc(), 100_001);
     assert!(rt;
         [most, more] == [Some(false), Some(true)],
         "{most:?} {more:?}"

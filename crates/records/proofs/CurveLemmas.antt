@@ -1,5 +1,5 @@
 -- Curves and entries of series and their bytes, both ways.
-use Rattle.std.proofs.Common.{◌≡◌, ℕ, zero, suc, ◌+◌, ◌-◌, ◌*◌, ◌<◌, ◌≤◌, Bool, true, false, cond, eqb, List, [], ◌∷◌, ◌++◌, length, Option, Some, None, refl, sym, ap, subst, ◌∙◌, arith, append_assoc, length-append, FitsSigned, inl, inr}
+use Rattle.std.proofs.Common.{◌≡◌, ℕ, suc, ◌+◌, ◌-◌, ◌*◌, ◌<◌, ◌≤◌, Bool, true, false, cond, eqb, List, [], ◌∷◌, ◌++◌, length, Option, Some, None, refl, sym, ap, subst, ◌∙◌, arith, append_assoc, length-append, FitsSigned, inl, inr}
 use Rattle.std.specs.Prelude.{ℤ, All, flat_map, nat_le, ◌⊎◌}
 use Rattle.std.specs.Int.{w64}
 use Rattle.std.proofs.lemmas.Bool.{eqb-true}
@@ -7,11 +7,11 @@ use Rattle.std.proofs.lemmas.Bool.Decides.{nat_tests}
 use Rattle.std.proofs.lemmas.Int.{ints}
 use Rattle.std.proofs.lemmas.List.{append-nil}
 use Rattle.std.proofs.lemmas.List.Concat.{flat_map-cons}
-use Rattle.std.proofs.lemmas.List.Elements.{All-head, All-tail}
 use Rattle.edits.specs.Lawful.{IsPutCurve}
 use Rattle.records.specs.Payloads.{signed_number, point_bytes, curve_bytes, mark_number, entry_bytes}
 use Rattle.records.specs.Reading.{◌>>=◌, both_at, byte_at, signed_number_at, point_at, points_at, curve_at, mark_at, entry_at}
 use Rattle.records.proofs.Fields.{IsBytes, bind_some, some_is, Takes, Takes-then, Reads, IsAny, both_reads, byte_takes, byte_again, signed_reads}
+use Rattle.records.proofs.ManyLemmas.{none_many, behind, next_many, many_take, many_again}
 
 -- which way a test went
 pub which : {A : Type 0} (b : Bool) (x y z : A) → cond b x y ≡ z → ((b ≡ true) × (x ≡ z)) ⊎ ((b ≡ false) × (y ≡ z))
@@ -23,43 +23,21 @@ which false x y z e = inr (refl, e)
 abbrev pub FitsPoint : ℤ × ℤ → Type 0
 FitsPoint p = FitsSigned w64 p.0 × FitsSigned w64 p.1
 
-point_reads : Reads (ℤ × ℤ) point_at point_bytes FitsPoint
+pub point_reads : Reads (ℤ × ℤ) point_at point_bytes FitsPoint
 unfolding point_at
 point_reads = both_reads ℤ ℤ signed_number_at signed_number (FitsSigned w64) signed_number_at signed_number (FitsSigned w64) signed_reads signed_reads
 
 pub no_points : (bytes : List ℕ) → points_at 0 bytes ≡ Some ([], bytes)
-unfolding points_at
-no_points bytes = refl
-
-abbrev pub behind : ℤ × ℤ → Option (List (ℤ × ℤ) × List ℕ) → Option (List (ℤ × ℤ) × List ℕ)
-behind point read = read >>= λ points. Some (point ∷ points.0, points.1)
+no_points bytes = none_many point_at bytes
 
 pub next_points : (count : ℕ) (bytes : List ℕ) → points_at (suc count) bytes ≡ (point_at bytes >>= λ point. behind point.0 (points_at count point.1))
-unfolding points_at
-next_points count bytes = refl
+next_points count bytes = next_many point_at count bytes
 
 pub points_take : (count : ℕ) (bytes : List ℕ) (points : List (ℤ × ℤ)) (rest : List ℕ) → IsBytes bytes → points_at count bytes ≡ Some (points, rest) → Takes bytes (flat_map point_bytes points) rest × (length points ≡ count)
-points_take zero bytes points rest fits e =
-    let same = some_is ([], bytes) (points, rest) (sym (no_points bytes) ∙ e) in
-    subst (λ (x : List (ℤ × ℤ) × List ℕ). Takes bytes (flat_map point_bytes x.0) x.1 × (length x.0 ≡ 0)) same
-    (record { parts = refl; rest_fits = fits }, refl)
-points_take (suc count) bytes points rest fits e =
-    let a = bind_some (point_at bytes) (λ point. behind point.0 (points_at count point.1)) (points, rest) (sym (next_points count bytes) ∙ e) in
-    let b = bind_some (points_at count a.0.1) (λ others. Some (a.0.0 ∷ others.0, others.1)) (points, rest) a.2 in
-    let first = point_reads.takes bytes a.0.0 a.0.1 fits a.1 in
-    let others = points_take count a.0.1 b.0.0 b.0.1 first.rest_fits b.1 in
-    let both : Takes bytes (point_bytes a.0.0 ++ flat_map point_bytes b.0.0) b.0.1 = Takes-then bytes (point_bytes a.0.0) a.0.1 (flat_map point_bytes b.0.0) b.0.1 first others.0 in
-    let made : List (ℤ × ℤ) × List ℕ = (a.0.0 ∷ b.0.0, b.0.1) in
-    subst (λ (x : List (ℤ × ℤ) × List ℕ). Takes bytes (flat_map point_bytes x.0) x.1 × (length x.0 ≡ suc count)) (some_is made (points, rest) b.2)
-    (subst (λ (t : List ℕ). Takes bytes t b.0.1) (sym (flat_map-cons point_bytes a.0.0 b.0.0)) both, ap suc others.1)
+points_take count bytes points rest fits e = many_take point_at point_bytes FitsPoint point_reads count bytes points rest fits e
 
-pub points_again : (points : List (ℤ × ℤ)) (rest : List ℕ) → All FitsPoint points → points_at (length points) (flat_map point_bytes points ++ rest) ≡ Some (points, rest)
-points_again [] rest fits = no_points rest
-points_again (p ∷ points) rest fits =
-    let first = point_reads.again p (flat_map point_bytes points ++ rest) (All-head FitsPoint p points fits) in
-    let others = points_again points rest (All-tail FitsPoint p points fits) in
-    let spelled : flat_map point_bytes (p ∷ points) ++ rest ≡ point_bytes p ++ (flat_map point_bytes points ++ rest) = ap (λ (t : List ℕ). t ++ rest) (flat_map-cons point_bytes p points) ∙ append_assoc (point_bytes p) (flat_map point_bytes points) rest in
-    ap (points_at (length (p ∷ points))) spelled ∙ next_points (length points) (point_bytes p ++ (flat_map point_bytes points ++ rest)) ∙ rw (first, others) refl
+points_again : (points : List (ℤ × ℤ)) (rest : List ℕ) → All FitsPoint points → points_at (length points) (flat_map point_bytes points ++ rest) ≡ Some (points, rest)
+points_again points rest fits = many_again point_at point_bytes FitsPoint point_reads points rest fits
 
 -- ---- curves
 

@@ -7,8 +7,8 @@ use Rattle.std.proofs.lemmas.Int.{to_z-of_z, of_z-to_z, ints}
 use Rattle.std.proofs.lemmas.List.{take_at, drop_at, take-append-drop, length-append, length-take, get_or-drop, get_or-take, get_or_past}
 use Rattle.std.proofs.lemmas.Nat.{le_bytes_4, le_bytes_8, from_le_bytes-to_le_bytes_4, from_le_bytes-to_le_bytes_8}
 use Rattle.fixed_units.specs.Quantities.{SiteNumber}
-use Rattle.records.specs.Payloads.{short_text, signed_number, site_number}
-use Rattle.records.specs.Reading.{◌>>=◌, both_at, made_at, byte_at, number_at, front_at, short_text_at, signed_number_at, site_number_at}
+use Rattle.records.specs.Payloads.{short_text, signed_number, day_number, site_number}
+use Rattle.records.specs.Reading.{◌>>=◌, both_at, made_at, byte_at, number_at, front_at, short_text_at, signed_number_at, day_at, site_number_at}
 
 abbrev pub IsBytes : List ℕ → Type 0
 IsBytes bytes = (i : ℕ) → get_or bytes i 0 < 256
@@ -119,6 +119,23 @@ unfolding signed_number_at
 signed_number_again z rest fits =
     rw (number_again w64 (2 ^ 64) wide64 (cast_unsigned w64 z) rest (cast_fits z fits), to_z-of_z w64 z fits) refl
 
+day_takes : (bytes : List ℕ) (day : ℤ) (rest : List ℕ) → IsBytes bytes → day_at bytes ≡ Some (day, rest) → Takes bytes (day_number day) rest
+unfolding day_at
+day_takes bytes day rest fits e =
+    let b = bind_some (number_at w32 bytes) (λ n. Some (cast_signed w32 n.0, n.1)) (day, rest) e in
+    let t = number_takes w32 (2 ^ 32) wide32 bytes b.0.0 b.0.1 fits b.1 in
+    let bits : cast_unsigned w32 (cast_signed w32 b.0.0) ≡ b.0.0 = of_z-to_z w32 b.0.0 t.1 in
+    subst (λ (x : ℤ × List ℕ). Takes bytes (day_number x.0) x.1) (some_is (cast_signed w32 b.0.0, b.0.1) (day, rest) b.2)
+    (subst (λ (k : ℕ). Takes bytes (to_le_bytes w32 k) b.0.1) (sym bits) t.0)
+
+day_cast_fits : (z : ℤ) → FitsSigned w32 z → cast_unsigned w32 z < 2 ^ 32
+day_cast_fits z fits = omega (arith, ints)
+
+day_again : (day : ℤ) (rest : List ℕ) → FitsSigned w32 day → day_at (day_number day ++ rest) ≡ Some (day, rest)
+unfolding day_at
+day_again day rest fits =
+    rw (number_again w32 (2 ^ 32) wide32 (cast_unsigned w32 day) rest (day_cast_fits day fits), to_z-of_z w32 day fits) refl
+
 -- ---- a reader and a writer of one thing
 
 pub record Reads (A : Type 0) (read : List ℕ → Option (A × List ℕ)) (write : A → List ℕ) (Fits : A → Type 0) : Type 0 where
@@ -162,6 +179,9 @@ number_reads w limit wide =
 
 pub signed_reads : Reads ℤ signed_number_at signed_number (FitsSigned w64)
 signed_reads = record { takes = signed_number_takes; again = signed_number_again }
+
+pub day_reads : Reads ℤ day_at day_number (FitsSigned w32)
+day_reads = record { takes = day_takes; again = day_again }
 
 -- ---- texts and site numbers
 

@@ -4,18 +4,18 @@ use Rattle.std.specs.Prelude.{ℤ}
 use Rattle.std.specs.Int.{w32, w64, to_le_bytes}
 use Rattle.std.proofs.lemmas.Bool.{eqb-true}
 use Rattle.std.proofs.lemmas.Int.{ints}
-use Rattle.edits.specs.Lawful.{IsLawful, ArePutReadings}
+use Rattle.edits.specs.Lawful.{IsLawful}
 use Rattle.edits.specs.declared.content.What.{What}
-use Rattle.edits.specs.declared.content.What.TheVariants.{AddStation, SetStation, PutReadings, PutCorrection, DropCorrection, PutShift, DropShift, AddRating, PutPeriod, DropPeriod, PutMeasurement, DropMeasurement}
-use Rattle.fixed_units.specs.Quantities.{IsStamp, IsStage, IsDischarge, SiteNumber}
+use Rattle.edits.specs.declared.content.What.TheVariants.{AddStation, SetStation, PutReadings, DropReadings, FlagReadings, PutCorrection, DropCorrection, PutShift, DropShift, AddRating, PutPeriod, DropPeriod, PutEstimate, DropEstimate, PutMeasurement, DropMeasurement}
+use Rattle.fixed_units.specs.Quantities.{IsDay, IsStamp, IsStage, IsDischarge, SiteNumber}
 use Rattle.fixed_units.specs.declared.readings.Reading.{Reading}
-use Rattle.records.specs.Payloads.{short_text, signed_number, site_number, kind, fields}
-use Rattle.records.specs.Reading.{both_at, byte_at, number_at, front_at, short_text_at, signed_number_at, site_number_at, sender_at, arrays_at, addition, addition_at, setting, setting_at, put_one, put_at, reading_at, entry_at, correction, correction_at, dropped_correction, dropped_correction_at, shift, shift_at, dropped_shift, dropped_shift_at, added_rating, rating_at, period, period_at, dropped_period, dropped_period_at, measurement, measurement_at, dropped_measurement, dropped_measurement_at, fields_at}
-use Rattle.records.proofs.Fields.{IsBytes, Takes, Reads, IsAny, both_reads, made_takes, made_again, byte_reads, number_reads, signed_reads, wide32, front_reads, short_reads, site_reads}
+use Rattle.records.specs.Payloads.{short_text, signed_number, day_number, site_number, kind, fields}
+use Rattle.records.specs.Reading.{both_at, byte_at, number_at, front_at, short_text_at, signed_number_at, site_number_at, day_at, sender_at, arrays_at, addition, addition_at, setting, setting_at, put, put_at, readings_at, dropped_readings, dropped_readings_at, flagged_readings, flagged_readings_at, entry_at, correction, correction_at, dropped_correction, dropped_correction_at, shift, shift_at, dropped_shift, dropped_shift_at, added_rating, rating_at, period, period_at, dropped_period, dropped_period_at, estimate, estimate_at, dropped_estimate, dropped_estimate_at, measurement, measurement_at, dropped_measurement, dropped_measurement_at, fields_at}
+use Rattle.records.proofs.Fields.{IsBytes, Takes, Reads, IsAny, both_reads, made_takes, made_again, byte_reads, number_reads, signed_reads, day_reads, wide32, front_reads, short_reads, site_reads}
 use Rattle.records.proofs.CurveLemmas.{which, Parts, entry_parts, FitsEntry, entry_reads, entry_spelling, put_fits}
-use Rattle.records.proofs.MeasurementLemmas.{Measured, measured_parts, measured_bytes, FitsMeasured, measured_reads}
+use Rattle.records.proofs.MeasurementLemmas.{Estimated, estimated_parts, estimated_bytes, FitsEstimated, estimated_reads, Measured, measured_parts, measured_bytes, FitsMeasured, measured_reads}
 use Rattle.records.proofs.RatingLemmas.{Rating, rating_parts, rating_bytes, FitsRating, rating_reads, rating_fits, Period, period_parts, period_spelled, FitsPeriod, period_reads, end_fits}
-use Rattle.records.proofs.PutLemmas.{one_reading, FitsReading, reading_reads, one_is, one_fits, one_spelling}
+use Rattle.records.proofs.PutLemmas.{Flagged, flagged_parts, flagged_bytes, FitsFlagged, flagged_reads, readings_bytes, FitsReadings, readings_read, readings_fit}
 
 -- ---- who makes an edit
 
@@ -97,6 +97,23 @@ four_grouped a b c d e = simp append_assoc
 addition_spelling : (f : Addition) → fields (addition f) ≡ addition_bytes f
 addition_spelling f = four_grouped (short_text f.0) (short_text f.1.0) (to_le_bytes w32 f.1.1.0) f.1.1.1.0 f.1.1.1.1
 
+-- ---- a span of readings that is dropped
+
+abbrev Span : Type 0
+Span = ℤ × ℤ
+
+abbrev span_parts : List ℕ → Option (Span × List ℕ)
+span_parts bytes = both_at signed_number_at signed_number_at bytes
+
+abbrev span_bytes : Span → List ℕ
+span_bytes f = signed_number f.0 ++ signed_number f.1
+
+abbrev FitsSpan : Span → Type 0
+FitsSpan f = FitsSigned w64 f.0 × FitsSigned w64 f.1
+
+span_reads : Reads Span span_parts span_bytes FitsSpan
+span_reads = both_reads ℤ ℤ signed_number_at signed_number (FitsSigned w64) signed_number_at signed_number (FitsSigned w64) signed_reads signed_reads
+
 -- ---- an entry that is put into a correction set, and one that is dropped
 
 abbrev Correction : Type 0
@@ -160,8 +177,20 @@ setting_takes bytes what rest fits e =
 put_takes : (bytes : List ℕ) (what : What) (rest : List ℕ) → IsBytes bytes → put_at bytes ≡ Some (what, rest) → TakesKind 3 bytes what rest
 unfolding put_at
 put_takes bytes what rest fits e =
-    let m = made_takes (ℤ × ℤ) What put_one reading_at one_reading FitsReading reading_reads bytes what rest fits e in
-    took 3 bytes (one_reading m.0) rest (put_one m.0) what m.1 (one_spelling m.0.0 m.0.1) refl m.2
+    let m = made_takes (List Reading) What put readings_at readings_bytes FitsReadings readings_read bytes what rest fits e in
+    took 3 bytes (readings_bytes m.0) rest (put m.0) what m.1 refl refl m.2
+
+dropped_readings_takes : (bytes : List ℕ) (what : What) (rest : List ℕ) → IsBytes bytes → dropped_readings_at bytes ≡ Some (what, rest) → TakesKind 4 bytes what rest
+unfolding dropped_readings_at
+dropped_readings_takes bytes what rest fits e =
+    let m = made_takes Span What dropped_readings span_parts span_bytes FitsSpan span_reads bytes what rest fits e in
+    took 4 bytes (span_bytes m.0) rest (dropped_readings m.0) what m.1 refl refl m.2
+
+flagged_readings_takes : (bytes : List ℕ) (what : What) (rest : List ℕ) → IsBytes bytes → flagged_readings_at bytes ≡ Some (what, rest) → TakesKind 5 bytes what rest
+unfolding flagged_readings_at
+flagged_readings_takes bytes what rest fits e =
+    let m = made_takes Flagged What flagged_readings flagged_parts flagged_bytes FitsFlagged flagged_reads bytes what rest fits e in
+    took 5 bytes (flagged_bytes m.0) rest (flagged_readings m.0) what m.1 refl refl m.2
 
 correction_takes : (bytes : List ℕ) (what : What) (rest : List ℕ) → IsBytes bytes → correction_at bytes ≡ Some (what, rest) → TakesKind 6 bytes what rest
 unfolding correction_at
@@ -205,6 +234,18 @@ dropped_period_takes bytes what rest fits e =
     let m = made_takes ℤ What dropped_period signed_number_at signed_number (FitsSigned w64) signed_reads bytes what rest fits e in
     took 12 bytes (signed_number m.0) rest (dropped_period m.0) what m.1 refl refl m.2
 
+estimate_takes : (bytes : List ℕ) (what : What) (rest : List ℕ) → IsBytes bytes → estimate_at bytes ≡ Some (what, rest) → TakesKind 13 bytes what rest
+unfolding estimate_at
+estimate_takes bytes what rest fits e =
+    let m = made_takes Estimated What estimate estimated_parts estimated_bytes FitsEstimated estimated_reads bytes what rest fits e in
+    took 13 bytes (estimated_bytes m.0) rest (estimate m.0) what m.1 refl refl m.2
+
+dropped_estimate_takes : (bytes : List ℕ) (what : What) (rest : List ℕ) → IsBytes bytes → dropped_estimate_at bytes ≡ Some (what, rest) → TakesKind 14 bytes what rest
+unfolding dropped_estimate_at
+dropped_estimate_takes bytes what rest fits e =
+    let m = made_takes ℤ What dropped_estimate day_at day_number (FitsSigned w32) day_reads bytes what rest fits e in
+    took 14 bytes (day_number m.0) rest (dropped_estimate m.0) what m.1 refl refl m.2
+
 measurement_takes : (bytes : List ℕ) (what : What) (rest : List ℕ) → IsBytes bytes → measurement_at bytes ≡ Some (what, rest) → TakesKind 15 bytes what rest
 unfolding measurement_at
 measurement_takes bytes what rest fits e =
@@ -235,6 +276,8 @@ fields_take number bytes what rest fits e =
     picked number 1 bytes what rest _ _ (addition_takes bytes what rest fits)
     (picked number 2 bytes what rest _ _ (setting_takes bytes what rest fits)
     (picked number 3 bytes what rest _ _ (put_takes bytes what rest fits)
+    (picked number 4 bytes what rest _ _ (dropped_readings_takes bytes what rest fits)
+    (picked number 5 bytes what rest _ _ (flagged_readings_takes bytes what rest fits)
     (picked number 6 bytes what rest _ _ (correction_takes bytes what rest fits)
     (picked number 7 bytes what rest _ _ (dropped_correction_takes bytes what rest fits)
     (picked number 8 bytes what rest _ _ (shift_takes bytes what rest fits)
@@ -242,9 +285,11 @@ fields_take number bytes what rest fits e =
     (picked number 10 bytes what rest _ _ (rating_takes bytes what rest fits)
     (picked number 11 bytes what rest _ _ (period_takes bytes what rest fits)
     (picked number 12 bytes what rest _ _ (dropped_period_takes bytes what rest fits)
+    (picked number 13 bytes what rest _ _ (estimate_takes bytes what rest fits)
+    (picked number 14 bytes what rest _ _ (dropped_estimate_takes bytes what rest fits)
     (picked number 15 bytes what rest _ _ (measurement_takes bytes what rest fits)
     (picked number 16 bytes what rest _ _ (dropped_measurement_takes bytes what rest fits)
-    (λ no. absurd (let none : None ≡ Some (what, rest) = no in cc))))))))))))) e
+    (λ no. absurd (let none : None ≡ Some (what, rest) = no in cc))))))))))))))))) e
 
 addition_again : (f : Addition) (rest : List ℕ) → FitsAddition f → addition_at (addition_bytes f ++ rest) ≡ Some (addition f, rest)
 unfolding addition_at
@@ -256,9 +301,20 @@ unfolding setting_at
 setting_again f rest fits =
     made_again Setting What setting setting_parts setting_bytes FitsSetting setting_reads f rest fits
 
-put_again : (p : ℤ × ℤ) (rest : List ℕ) → FitsReading p → put_at (one_reading p ++ rest) ≡ Some (put_one p, rest)
+put_again : (f : List Reading) (rest : List ℕ) → FitsReadings f → put_at (readings_bytes f ++ rest) ≡ Some (put f, rest)
 unfolding put_at
-put_again p rest fits = made_again (ℤ × ℤ) What put_one reading_at one_reading FitsReading reading_reads p rest fits
+put_again f rest fits =
+    made_again (List Reading) What put readings_at readings_bytes FitsReadings readings_read f rest fits
+
+dropped_readings_again : (f : Span) (rest : List ℕ) → FitsSpan f → dropped_readings_at (span_bytes f ++ rest) ≡ Some (dropped_readings f, rest)
+unfolding dropped_readings_at
+dropped_readings_again f rest fits =
+    made_again Span What dropped_readings span_parts span_bytes FitsSpan span_reads f rest fits
+
+flagged_readings_again : (f : Flagged) (rest : List ℕ) → FitsFlagged f → flagged_readings_at (flagged_bytes f ++ rest) ≡ Some (flagged_readings f, rest)
+unfolding flagged_readings_at
+flagged_readings_again f rest fits =
+    made_again Flagged What flagged_readings flagged_parts flagged_bytes FitsFlagged flagged_reads f rest fits
 
 correction_again : (f : Correction) (rest : List ℕ) → FitsCorrection f → correction_at (correction_bytes f ++ rest) ≡ Some (correction f, rest)
 unfolding correction_at
@@ -292,6 +348,16 @@ unfolding dropped_period_at
 dropped_period_again at rest fits =
     made_again ℤ What dropped_period signed_number_at signed_number (FitsSigned w64) signed_reads at rest fits
 
+estimate_again : (f : Estimated) (rest : List ℕ) → FitsEstimated f → estimate_at (estimated_bytes f ++ rest) ≡ Some (estimate f, rest)
+unfolding estimate_at
+estimate_again f rest fits =
+    made_again Estimated What estimate estimated_parts estimated_bytes FitsEstimated estimated_reads f rest fits
+
+dropped_estimate_again : (f : ℤ) (rest : List ℕ) → FitsSigned w32 f → dropped_estimate_at (day_number f ++ rest) ≡ Some (dropped_estimate f, rest)
+unfolding dropped_estimate_at
+dropped_estimate_again f rest fits =
+    made_again ℤ What dropped_estimate day_at day_number (FitsSigned w32) day_reads f rest fits
+
 measurement_again : (f : Measured) (rest : List ℕ) → FitsMeasured f → measurement_at (measured_bytes f ++ rest) ≡ Some (measurement f, rest)
 unfolding measurement_at
 measurement_again f rest fits =
@@ -312,10 +378,17 @@ unfolding fields_at
 setting_back f rest fits =
     ap (λ (t : List ℕ). setting_at (t ++ rest)) (setting_spelling f) ∙ setting_again f rest fits
 
-put_back : (p : ℤ × ℤ) (rest : List ℕ) → FitsReading p → fields_at 3 (fields (put_one p) ++ rest) ≡ Some (put_one p, rest)
+put_back : (f : List Reading) (rest : List ℕ) → FitsReadings f → fields_at 3 (fields (put f) ++ rest) ≡ Some (put f, rest)
 unfolding fields_at
-put_back p rest fits =
-    ap (λ (t : List ℕ). put_at (t ++ rest)) (one_spelling p.0 p.1) ∙ put_again p rest fits
+put_back f rest fits = put_again f rest fits
+
+dropped_readings_back : (f : Span) (rest : List ℕ) → FitsSpan f → fields_at 4 (fields (dropped_readings f) ++ rest) ≡ Some (dropped_readings f, rest)
+unfolding fields_at
+dropped_readings_back f rest fits = dropped_readings_again f rest fits
+
+flagged_readings_back : (f : Flagged) (rest : List ℕ) → FitsFlagged f → fields_at 5 (fields (flagged_readings f) ++ rest) ≡ Some (flagged_readings f, rest)
+unfolding fields_at
+flagged_readings_back f rest fits = flagged_readings_again f rest fits
 
 correction_back : (f : Correction) (rest : List ℕ) → FitsCorrection f → fields_at 6 (fields (correction f) ++ rest) ≡ Some (correction f, rest)
 unfolding fields_at
@@ -347,6 +420,14 @@ dropped_period_back : (at : ℤ) (rest : List ℕ) → FitsSigned w64 at → fie
 unfolding fields_at
 dropped_period_back at rest fits = dropped_period_again at rest fits
 
+estimate_back : (f : Estimated) (rest : List ℕ) → FitsEstimated f → fields_at 13 (fields (estimate f) ++ rest) ≡ Some (estimate f, rest)
+unfolding fields_at
+estimate_back f rest fits = estimate_again f rest fits
+
+dropped_estimate_back : (f : ℤ) (rest : List ℕ) → FitsSigned w32 f → fields_at 14 (fields (dropped_estimate f) ++ rest) ≡ Some (dropped_estimate f, rest)
+unfolding fields_at
+dropped_estimate_back f rest fits = dropped_estimate_again f rest fits
+
 measurement_back : (f : Measured) (rest : List ℕ) → FitsMeasured f → fields_at 15 (fields (measurement f) ++ rest) ≡ Some (measurement f, rest)
 unfolding fields_at
 measurement_back f rest fits = measurement_again f rest fits
@@ -357,6 +438,9 @@ dropped_measurement_back n rest fits = dropped_measurement_again n rest fits
 
 stamp_fits : (at : ℤ) → IsStamp at → FitsSigned w64 at
 stamp_fits at stamp = omega (arith, ints)
+
+day_fits : (day : ℤ) → IsDay day → FitsSigned w32 day
+day_fits day is = omega (arith, ints)
 
 stage_fits : (stage : ℤ) → IsStage stage → FitsSigned w64 stage
 stage_fits stage is = omega (arith, ints)
@@ -370,10 +454,11 @@ fields_again (AddStation name zone gap stages discharges) rest law =
     addition_back (name, (zone, (gap, (stages, discharges)))) rest (tt, (tt, (omega (arith, set.near.high), (set.stages.ten, set.discharges.ten))))
 fields_again (SetStation name gap stages discharges) rest set =
     setting_back (name, (gap, (stages, discharges))) rest (tt, (omega (arith, set.near.high), (set.stages.ten, set.discharges.ten)))
-fields_again (PutReadings readings) rest are =
-    let one = one_is readings are in
-    let fits : FitsReading one.0 = one_fits one.0 (subst ArePutReadings one.1 are) in
-    subst (λ (rs : List Reading). fields_at 3 (fields (PutReadings rs) ++ rest) ≡ Some (PutReadings rs, rest)) (sym one.1) (put_back one.0 rest fits)
+fields_again (PutReadings readings) rest are = put_back readings rest (readings_fit readings are)
+fields_again (DropReadings from to) rest span =
+    dropped_readings_back (from, to) rest (stamp_fits from span.begins, stamp_fits to span.ends)
+fields_again (FlagReadings from to flag) rest span =
+    flagged_readings_back (from, (to, flag)) rest (stamp_fits from span.begins, (stamp_fits to span.ends, tt))
 fields_again (PutCorrection set at curve prorate) rest law =
     correction_back (set, (at, (curve, prorate))) rest (tt, (stamp_fits at law.1, (put_fits curve law.2, tt)))
 fields_again (DropCorrection set at) rest law = dropped_correction_back (set, at) rest (tt, stamp_fits at law.1)
@@ -385,6 +470,9 @@ fields_again (AddRating rating table) rest law =
 fields_again (PutPeriod p) rest put =
     period_back (p.rating, (p.from, p.until)) rest (omega (arith, put.rating.greatest), (stamp_fits p.from put.begins, end_fits p.until put.ends))
 fields_again (DropPeriod from) rest law = dropped_period_back from rest (stamp_fits from law)
+fields_again (PutEstimate estimate) rest put =
+    estimate_back (estimate.day, estimate.discharge) rest (day_fits estimate.day put.day, discharge_fits estimate.discharge put.discharge)
+fields_again (DropEstimate day) rest is = dropped_estimate_back day rest (day_fits day is)
 fields_again (PutMeasurement m) rest put =
     measurement_back (m.number, (m.at, (m.gage, (m.discharge, m.grade)))) rest
     (omega (arith, put.numbered.greatest), (stamp_fits m.at put.stamp, (stage_fits m.gage put.gage, (discharge_fits m.discharge put.discharge, tt))))

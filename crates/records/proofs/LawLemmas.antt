@@ -13,14 +13,14 @@ use Rattle.edits.specs.Grades.{grade_number}
 use Rattle.edits.specs.Lawful.{IsLawful}
 use Rattle.edits.specs.Texts.{is_letter, is_digit, is_printed, AreInitials, IsReference, IsName}
 use Rattle.edits.specs.declared.content.What.{What}
-use Rattle.edits.specs.declared.content.What.TheVariants.{AddStation, SetStation, PutReadings, PutCorrection, DropCorrection, PutShift, DropShift, AddRating, PutPeriod, DropPeriod, PutMeasurement, DropMeasurement}
+use Rattle.edits.specs.declared.content.What.TheVariants.{AddStation, SetStation, PutReadings, DropReadings, FlagReadings, PutCorrection, DropCorrection, PutShift, DropShift, AddRating, PutPeriod, DropPeriod, PutEstimate, DropEstimate, PutMeasurement, DropMeasurement}
 use Rattle.edits.specs.declared.measurements.Measurement.{Measurement}
 use Rattle.fixed_units.specs.Quantities.{SiteNumber, IsSite}
 use Rattle.fixed_units.specs.RoundingArray.{IsRoundingArray}
 use Rattle.fixed_units.specs.declared.readings.Flag.{Flag}
 use Rattle.fixed_units.specs.declared.readings.Flag.TheVariants.{Usable, Erroneous, Affected}
 use Rattle.fixed_units.specs.declared.readings.Reading.{Reading}
-use Rattle.records.specs.Payloads.{short_text, signed_number, site_number, flag_number, reading_bytes, point_bytes, curve_bytes, mark_number, entry_bytes, table_bytes, end_bytes, measurement_bytes, kind, fields, longest_fields, longest_payload, payload, encoded, IsInGrammar}
+use Rattle.records.specs.Payloads.{short_text, signed_number, site_number, flag_number, reading_bytes, point_bytes, curve_bytes, mark_number, entry_bytes, table_bytes, end_bytes, day_number, measurement_bytes, kind, fields, longest_fields, longest_payload, payload, encoded, IsInGrammar}
 use Rattle.records.specs.Reading.{number_at}
 use Rattle.records.specs.declared.payloads.Record.{Record}
 use Rattle.records.proofs.Fields.{some_is, wide32, number_again}
@@ -48,6 +48,8 @@ few_fields (SetStation name gap stages discharges) set =
 few_fields (PutReadings readings) are =
     let a = length-append (to_le_bytes w32 (length readings)) (flat_map reading_bytes readings) in
     omega (arith, a, length-readings readings, are.most)
+few_fields (DropReadings from to) law = omega arith
+few_fields (FlagReadings from to flag) law = omega arith
 few_fields (PutCorrection set at curve prorate) law = omega (arith, length-entry at curve prorate, law.2.most)
 few_fields (DropCorrection set at) law = omega arith
 few_fields (PutShift at curve prorate) law = omega (arith, length-entry at curve prorate, law.1.most)
@@ -56,6 +58,8 @@ few_fields (AddRating rating table) law =
     omega (arith, length-table table, length-append (to_le_bytes w32 rating) (table_bytes table), law.1.table.most)
 few_fields (PutPeriod period) law = omega (arith, period_within period)
 few_fields (DropPeriod from) law = omega arith
+few_fields (PutEstimate estimate) law = omega arith
+few_fields (DropEstimate day) law = omega arith
 few_fields (PutMeasurement m) law = omega (arith, length-measurement m)
 few_fields (DropMeasurement number) law = omega arith
 
@@ -123,17 +127,16 @@ flag_byte Usable = omega arith
 flag_byte Erroneous = omega arith
 flag_byte Affected = omega arith
 
-one_bytes : (r : Reading) → All is_byte (reading_bytes r)
-one_bytes r =
-    All-append is_byte (signed_number r.at ++ signed_number r.raw) (flag_number r.flag ∷ [])
-    (All-append is_byte (signed_number r.at) (signed_number r.raw) (bytes_64 (cast_unsigned w64 r.at)) (bytes_64 (cast_unsigned w64 r.raw)))
-    (All-cons is_byte (flag_number r.flag) [] (flag_byte r.flag) (All-nil is_byte))
+flagged_are_bytes : (m n : ℤ) (flag : Flag) → All is_byte (signed_number m ++ (signed_number n ++ flag_number flag ∷ []))
+flagged_are_bytes m n flag =
+    All-append is_byte (signed_number m) (signed_number n ++ flag_number flag ∷ []) (bytes_64 (cast_unsigned w64 m))
+    (All-append is_byte (signed_number n) (flag_number flag ∷ []) (bytes_64 (cast_unsigned w64 n)) (All-cons is_byte (flag_number flag) [] (flag_byte flag) (All-nil is_byte)))
 
 readings_are_bytes : (readings : List Reading) → All is_byte (flat_map reading_bytes readings)
 readings_are_bytes [] = All-nil is_byte
 readings_are_bytes (r ∷ rest) =
     subst (λ (t : List ℕ). All is_byte t) (sym (flat_map-cons reading_bytes r rest))
-    (All-append is_byte (reading_bytes r) (flat_map reading_bytes rest) (one_bytes r) (readings_are_bytes rest))
+    (All-append is_byte (reading_bytes r) (flat_map reading_bytes rest) (flagged_are_bytes r.at r.raw r.flag) (readings_are_bytes rest))
 
 points_are_bytes : (points : List (ℤ × ℤ)) → All is_byte (flat_map point_bytes points)
 points_are_bytes [] = All-nil is_byte
@@ -177,6 +180,9 @@ fields_are_bytes (SetStation name gap stages discharges) set =
     All-append is_byte (short_text name ++ to_le_bytes w32 gap ++ stages) discharges b (array_bytes discharges set.discharges)
 fields_are_bytes (PutReadings readings) are =
     All-append is_byte (to_le_bytes w32 (length readings)) (flat_map reading_bytes readings) (bytes_32 (length readings)) (readings_are_bytes readings)
+fields_are_bytes (DropReadings from to) law =
+    All-append is_byte (signed_number from) (signed_number to) (bytes_64 (cast_unsigned w64 from)) (bytes_64 (cast_unsigned w64 to))
+fields_are_bytes (FlagReadings from to flag) law = flagged_are_bytes from to flag
 fields_are_bytes (PutCorrection set at curve prorate) law =
     All-cons is_byte set (entry_bytes at curve prorate) (omega (arith, law.0.greatest)) (entry_is_bytes at curve prorate law.2.most)
 fields_are_bytes (DropCorrection set at) law =
@@ -190,6 +196,9 @@ fields_are_bytes (PutPeriod p) law =
     All-append is_byte (to_le_bytes w32 p.rating) (signed_number p.from ++ end_bytes p.until) (bytes_32 p.rating)
     (All-append is_byte (signed_number p.from) (end_bytes p.until) (bytes_64 (cast_unsigned w64 p.from)) (end_is_bytes p.until))
 fields_are_bytes (DropPeriod from) law = bytes_64 (cast_unsigned w64 from)
+fields_are_bytes (PutEstimate estimate) law =
+    All-append is_byte (day_number estimate.day) (signed_number estimate.discharge) (bytes_32 (cast_unsigned w32 estimate.day)) (bytes_64 (cast_unsigned w64 estimate.discharge))
+fields_are_bytes (DropEstimate day) law = bytes_32 (cast_unsigned w32 day)
 fields_are_bytes (PutMeasurement m) law = measurement_is_bytes m
 fields_are_bytes (DropMeasurement number) law = bytes_32 number
 
@@ -197,6 +206,8 @@ kind_byte : (what : What) → kind what < 256
 kind_byte (AddStation name zone gap stages discharges) = omega arith
 kind_byte (SetStation name gap stages discharges) = omega arith
 kind_byte (PutReadings readings) = omega arith
+kind_byte (DropReadings from to) = omega arith
+kind_byte (FlagReadings from to flag) = omega arith
 kind_byte (PutCorrection set at curve prorate) = omega arith
 kind_byte (DropCorrection set at) = omega arith
 kind_byte (PutShift at curve prorate) = omega arith
@@ -204,6 +215,8 @@ kind_byte (DropShift at) = omega arith
 kind_byte (AddRating rating table) = omega arith
 kind_byte (PutPeriod period) = omega arith
 kind_byte (DropPeriod from) = omega arith
+kind_byte (PutEstimate estimate) = omega arith
+kind_byte (DropEstimate day) = omega arith
 kind_byte (PutMeasurement measurement) = omega arith
 kind_byte (DropMeasurement number) = omega arith
 

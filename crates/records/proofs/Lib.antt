@@ -2,7 +2,9 @@ pub mod CurveLemmas
 pub mod Fields
 pub mod KindLemmas
 pub mod LawLemmas
+pub mod ManyLemmas
 pub mod MeasurementLemmas
+pub mod PieceLemmas
 pub mod PutLemmas
 pub mod RatingLemmas
 pub mod Records

@@ -1,4 +1,4 @@
--- Measurements and their bytes, both ways.
+-- Measurements and estimates and their bytes, both ways.
 use Rattle.std.proofs.Common.{◌≡◌, ℕ, ◌^◌, ◌<◌, eqb, List, [], ◌∷◌, ◌++◌, length, Option, Some, None, refl, ap, subst, ◌∙◌, arith, FitsSigned, inl, inr}
 use Rattle.std.specs.Prelude.{ℤ}
 use Rattle.std.specs.Int.{w32, w64, to_le_bytes}
@@ -7,9 +7,9 @@ use Rattle.edits.specs.Grades.{grade_number, grade_of}
 use Rattle.edits.specs.declared.measurements.Measurement.{Measurement}
 use Rattle.edits.specs.declared.measurements.Grade.{Grade}
 use Rattle.edits.specs.declared.measurements.Grade.TheVariants.{Excellent, Good, Fair, Poor}
-use Rattle.records.specs.Payloads.{signed_number, measurement_bytes}
-use Rattle.records.specs.Reading.{◌>>=◌, both_at, byte_at, number_at, signed_number_at, grade_at}
-use Rattle.records.proofs.Fields.{IsBytes, bind_some, some_is, Takes, Reads, IsAny, both_reads, wide32, byte_takes, byte_again, number_reads, signed_reads}
+use Rattle.records.specs.Payloads.{signed_number, day_number, measurement_bytes}
+use Rattle.records.specs.Reading.{◌>>=◌, both_at, byte_at, number_at, signed_number_at, day_at, grade_at}
+use Rattle.records.proofs.Fields.{IsBytes, bind_some, some_is, Takes, Reads, IsAny, both_reads, wide32, byte_takes, byte_again, number_reads, signed_reads, day_reads}
 use Rattle.records.proofs.CurveLemmas.{which}
 
 -- the grade of a number has that number
@@ -107,3 +107,19 @@ measured_reads =
 
 pub length-measurement : (m : Measurement) → length (measurement_bytes m) ≡ 29
 length-measurement m = refl
+
+-- an estimate: its day and its discharge
+abbrev pub Estimated : Type 0
+Estimated = ℤ × ℤ
+
+abbrev pub estimated_parts : List ℕ → Option (Estimated × List ℕ)
+estimated_parts bytes = both_at day_at signed_number_at bytes
+
+abbrev pub estimated_bytes : Estimated → List ℕ
+estimated_bytes f = day_number f.0 ++ signed_number f.1
+
+abbrev pub FitsEstimated : Estimated → Type 0
+FitsEstimated f = FitsSigned w32 f.0 × FitsSigned w64 f.1
+
+pub estimated_reads : Reads Estimated estimated_parts estimated_bytes FitsEstimated
+estimated_reads = both_reads ℤ ℤ day_at day_number (FitsSigned w32) signed_number_at signed_number (FitsSigned w64) day_reads signed_reads

@@ -1,6 +1,6 @@
 -- Ratings and periods and their bytes, both ways.
 use Rattle.std.proofs.Common.{◌≡◌, ℕ, zero, suc, ◌+◌, ◌*◌, ◌/◌, ◌^◌, ◌<◌, ◌≤◌, Bool, true, false, cond, ltb, List, [], ◌∷◌, ◌++◌, length, take, drop, Option, Some, None, refl, sym, ap, subst, ◌∙◌, arith, append_assoc, length-append, FitsSigned}
-use Rattle.std.specs.Prelude.{ℤ, All, flat_map, IfSome}
+use Rattle.std.specs.Prelude.{ℤ, flat_map, IfSome}
 use Rattle.std.specs.Int.{w32, w64, to_le_bytes, from_le_bytes, cast_signed}
 use Rattle.std.specs.Simd.{first_chunks}
 use Rattle.std.proofs.lemmas.Bool.{le-ltb}
@@ -11,30 +11,18 @@ use Rattle.rating_tables.specs.Table.{Row, IsRating}
 use Rattle.ratings.specs.Spans.{Span}
 use Rattle.records.specs.Payloads.{signed_number, point_bytes, table_bytes, mark_number, end_bytes, period_bytes}
 use Rattle.records.specs.Reading.{both_at, number_at, signed_number_at, made_at, point_at, points_at, table_at, row_in, rows_in, mark_at, end_at}
-use Rattle.records.proofs.Fields.{IsBytes, bind_some, some_is, Takes, Takes-then, Reads, both_reads, made_takes, made_again, wide32, number_reads, number_takes, number_again, signed_reads}
-use Rattle.records.proofs.CurveLemmas.{FitsPoint, points_take, points_again, no_points, next_points, behind, length-curve, mark_reads, mark_again}
+use Rattle.records.proofs.Fields.{IsBytes, bind_some, some_is, Takes, Takes-then, Reads, both_reads, made_takes, made_again, wide32, number_reads, signed_reads}
+use Rattle.records.proofs.CurveLemmas.{FitsPoint, point_reads, points_take, no_points, next_points, length-curve, mark_reads, mark_again}
+use Rattle.records.proofs.ManyLemmas.{FitsCounted, counted_reads}
 
 -- ---- tables
 
 abbrev pub FitsTable : List Row → Type 0
-FitsTable rows = (length rows < 2 ^ 32) × All FitsPoint rows
-
-table_takes : (bytes : List ℕ) (rows : List Row) (rest : List ℕ) → IsBytes bytes → table_at bytes ≡ Some (rows, rest) → Takes bytes (table_bytes rows) rest
-unfolding table_at
-table_takes bytes rows rest fits e =
-    let a = bind_some (number_at w32 bytes) (λ count. points_at count.0 count.1) (rows, rest) e in
-    let t = number_takes w32 (2 ^ 32) wide32 bytes a.0.0 a.0.1 fits a.1 in
-    let u = points_take a.0.0 a.0.1 rows rest t.0.rest_fits a.2 in
-    let both : Takes bytes (to_le_bytes w32 a.0.0 ++ flat_map point_bytes rows) rest = Takes-then bytes (to_le_bytes w32 a.0.0) a.0.1 (flat_map point_bytes rows) rest t.0 u.0 in
-    subst (λ (k : ℕ). Takes bytes (to_le_bytes w32 k ++ flat_map point_bytes rows) rest) (sym u.1) both
-
-table_again : (rows : List Row) (rest : List ℕ) → FitsTable rows → table_at (table_bytes rows ++ rest) ≡ Some (rows, rest)
-unfolding table_at
-table_again rows rest fits =
-    rw (append_assoc (to_le_bytes w32 (length rows)) (flat_map point_bytes rows) rest, number_again w32 (2 ^ 32) wide32 (length rows) (flat_map point_bytes rows ++ rest) fits.0) (points_again rows rest fits.1)
+FitsTable rows = FitsCounted FitsPoint rows
 
 pub table_reads : Reads (List Row) table_at table_bytes FitsTable
-table_reads = record { takes = table_takes; again = table_again }
+unfolding table_at
+table_reads = counted_reads point_at point_bytes FitsPoint point_reads
 
 pub rating_fits : (rows : List Row) → IsRating rows → FitsTable rows
 rating_fits rows rating =
@@ -59,7 +47,7 @@ rating_reads =
 
 -- ---- rows that are lent
 
-signed_front : (front rest : List ℕ) → length front ≡ 8 → signed_number_at (front ++ rest) ≡ Some (cast_signed w64 (from_le_bytes w64 front), rest)
+pub signed_front : (front rest : List ℕ) → length front ≡ 8 → signed_number_at (front ++ rest) ≡ Some (cast_signed w64 (from_le_bytes w64 front), rest)
 unfolding signed_number_at
 signed_front front rest len =
     let long : ltb (length (front ++ rest)) 8 ≡ false = le-ltb _ _ (omega (arith, length-append front rest)) in
@@ -94,7 +82,7 @@ rows_lent count bytes front rest pieces len parted are =
     let same : rows_in pieces ≡ rows_in (first_chunks 16 count front) = ap rows_in are ∙ ap (λ (n : ℕ). rows_in (first_chunks 16 n front)) so_many in
     ap (λ (rows : List Row). Some (rows, rest)) same ∙ sym (points_front count front rest len) ∙ ap (points_at count) (sym parted)
 
-nothing_read : {A : Type 0} (read : Option A) → ((x : A) → read ≡ Some x → ⊥) → read ≡ None
+pub nothing_read : {A : Type 0} (read : Option A) → ((x : A) → read ≡ Some x → ⊥) → read ≡ None
 nothing_read None h = refl
 nothing_read (Some x) h = absurd (h x refl)
 

@@ -1,5 +1,5 @@
 -- The rows of a rating where they stand in a payload: their order, and whether they are a rating's.
-use Rattle.std.specs.Prelude.{◌≡◌, Bool, true, false, List, [], ◌∷◌, ℕ, suc, ◌+◌, ◌<◌, ◌≤◌, ◌<ℤ◌, ◌≤ℤ◌, int_lt, int_le, length, All, None}
+use Rattle.std.specs.Prelude.{◌≡◌, Bool, true, false, ◌&&◌, List, [], ◌∷◌, ℕ, suc, ◌+◌, ◌<◌, ◌≤◌, ◌<ℤ◌, ◌≤ℤ◌, int_lt, int_le, length, All, None}
 use Rattle.std.specs.List.{AllAdjacentBelow, IsAllAdjacentAnswer}
 use Rattle.std.proofs.Common.{arith, refl, sym, subst, ◌∙◌, ◌↔◌, get_or}
 use Rattle.std.proofs.lemmas.Bool.{and_parts}
@@ -11,9 +11,13 @@ use Rattle.rising.proofs.Parting.{lt_yes, le_yes, yes_lt, yes_le}
 use Rattle.rating_tables.specs.declared.table.TheConstants.{LEAST_ROWS, MOST_ROWS}
 use Rattle.rating_tables.specs.Table.{Row, IsInOrder, IsRating, IsRatingRow, IsTable, is_off_count, order_fault, table_fault}
 use Rattle.rating_tables.proofs.TableLemmas.{IsBehind, in_order_step}
-use Rattle.records.specs.Reading.{row_in, rows_in, is_behind}
+use Rattle.records.specs.Reading.{row_in, rows_in}
 
 -- ---- order
+
+-- whether the stage rises from a row to the next, and the discharge does not fall
+abbrev pub is_behind : Row → Row → Bool
+is_behind row next = int_lt row.0 next.0 && int_le row.1 next.1
 
 behind_told : (r s : Row) → true ≡ is_behind r s → IsBehind r s
 behind_told r s e =

@@ -3,15 +3,17 @@ use Rattle.std.specs.Prelude.{◌≡◌}
 use Rattle.edits.specs.Lawful.{IsLawful}
 use Rattle.edits.specs.Texts.{AreInitials, IsReference}
 use Rattle.edits.specs.declared.content.What.{What}
-use Rattle.edits.specs.declared.content.What.TheVariants.{AddStation, SetStation, PutCorrection, DropCorrection, PutShift, DropShift, AddRating, PutPeriod, DropPeriod, PutMeasurement, DropMeasurement}
+use Rattle.edits.specs.declared.content.What.TheVariants.{AddStation, SetStation, PutReadings, DropReadings, FlagReadings, PutCorrection, DropCorrection, PutShift, DropShift, AddRating, PutPeriod, DropPeriod, PutEstimate, DropEstimate, PutMeasurement, DropMeasurement}
+use Rattle.edits.specs.declared.estimates.Estimate.{Estimate}
 use Rattle.edits.specs.declared.measurements.Measurement.{Measurement}
 use Rattle.fixed_units.specs.Quantities.{IsSite}
 use Rattle.ratings.specs.Spans.{Span}
-use Rattle.records.specs.Reading.{Parts, put_one, rows_in}
+use Rattle.records.specs.Reading.{Parts, readings_in, rows_in}
 use Rattle.records.specs.declared.drafts.Draft.{Draft}
 use Rattle.records.specs.declared.drafts.Fields.{Fields}
-use Rattle.records.specs.declared.drafts.Fields.TheVariants.{Addition, Setting, Put, Correction, DroppedCorrection, Shift, DroppedShift, Rating, Period, DroppedPeriod, DroppedMeasurement}
+use Rattle.records.specs.declared.drafts.Fields.TheVariants.{Addition, Setting, Put, DroppedSpan, FlaggedSpan, Correction, DroppedCorrection, Shift, DroppedShift, Rating, Period, DroppedPeriod, DroppedEstimate, DroppedMeasurement}
 use Rattle.records.specs.declared.drafts.Fields.TheVariants as fields
+use Rattle.records.specs.declared.estimate_drafts.EstimateDraft.{EstimateDraft}
 use Rattle.records.specs.declared.measurement_drafts.MeasurementDraft.{MeasurementDraft}
 use Rattle.records.specs.declared.period_drafts.PeriodDraft.{PeriodDraft}
 use Rattle.records.specs.declared.payloads.Record.{Record}
@@ -19,6 +21,10 @@ use Rattle.records.specs.declared.payloads.Record.{Record}
 -- the period that a draft is
 abbrev pub span_of : PeriodDraft → Span
 span_of d = record { from = d.from; until = d.until; rating = d.rating }
+
+-- the estimate that a draft is
+abbrev pub estimated : EstimateDraft → Estimate
+estimated d = record { day = d.day; discharge = d.discharge }
 
 -- the measurement that a draft is
 abbrev pub measured : MeasurementDraft → Measurement
@@ -29,7 +35,9 @@ abbrev pub what_of : Fields → What
 what_of (Addition name zone gap stage_array discharge_array) =
     AddStation name.now zone.now gap stage_array.now discharge_array.now
 what_of (Setting name gap stage_array discharge_array) = SetStation name.now gap stage_array.now discharge_array.now
-what_of (Put draft) = put_one (draft.at, draft.raw)
+what_of (Put pieces) = PutReadings (readings_in pieces.now)
+what_of (DroppedSpan from to) = DropReadings from to
+what_of (FlaggedSpan from to flag) = FlagReadings from to flag
 what_of (Correction set entry) = PutCorrection set entry.at entry.points.items entry.prorate
 what_of (DroppedCorrection set at) = DropCorrection set at
 what_of (Shift entry) = PutShift entry.at entry.points.items entry.prorate
@@ -37,6 +45,8 @@ what_of (DroppedShift at) = DropShift at
 what_of (Rating number rows) = AddRating number (rows_in rows.now)
 what_of (Period draft) = PutPeriod (span_of draft)
 what_of (DroppedPeriod from) = DropPeriod from
+what_of (fields.Estimate draft) = PutEstimate (estimated draft)
+what_of (DroppedEstimate day) = DropEstimate day
 what_of (fields.Measurement draft) = PutMeasurement (measured draft)
 what_of (DroppedMeasurement number) = DropMeasurement number
 

@@ -5,7 +5,8 @@ use Rattle.edits.specs.Grades.{grade_number}
 use Rattle.edits.specs.Texts.{AreInitials, IsReference}
 use Rattle.edits.specs.declared.content.Edit.{Edit}
 use Rattle.edits.specs.declared.content.What.{What}
-use Rattle.edits.specs.declared.content.What.TheVariants.{AddStation, SetStation, PutReadings, PutCorrection, DropCorrection, PutShift, DropShift, AddRating, PutPeriod, DropPeriod, PutMeasurement, DropMeasurement}
+use Rattle.edits.specs.declared.content.What.TheVariants.{AddStation, SetStation, PutReadings, DropReadings, FlagReadings, PutCorrection, DropCorrection, PutShift, DropShift, AddRating, PutPeriod, DropPeriod, PutEstimate, DropEstimate, PutMeasurement, DropMeasurement}
+use Rattle.edits.specs.declared.estimates.Estimate.{Estimate}
 use Rattle.edits.specs.declared.measurements.Measurement.{Measurement}
 use Rattle.fixed_units.specs.Quantities.{SiteNumber, IsSite}
 use Rattle.fixed_units.specs.declared.readings.Flag.{Flag}
@@ -26,6 +27,10 @@ signed_number n = to_le_bytes w64 (cast_unsigned w64 n)
 abbrev pub site_number : SiteNumber → List ℕ
 site_number site = site.digits ∷ to_le_bytes w64 site.value
 
+-- a day stands in four bytes, one before 1970 as its two's complement
+abbrev pub day_number : ℤ → List ℕ
+day_number day = to_le_bytes w32 (cast_unsigned w32 day)
+
 -- a reading: its instant, its stage and its flag
 abbrev pub flag_number : Flag → ℕ
 flag_number Usable = 0
@@ -33,7 +38,7 @@ flag_number Erroneous = 1
 flag_number Affected = 2
 
 abbrev pub reading_bytes : Reading → List ℕ
-reading_bytes reading = signed_number reading.at ++ signed_number reading.raw ++ flag_number reading.flag ∷ []
+reading_bytes reading = signed_number reading.at ++ (signed_number reading.raw ++ flag_number reading.flag ∷ [])
 
 -- a curve: how many points it has, and each with its stage and its amount
 abbrev pub point_bytes : ℤ × ℤ → List ℕ
@@ -62,6 +67,10 @@ end_bytes (Some until) = mark_number true ∷ signed_number until
 abbrev pub period_bytes : Span → List ℕ
 period_bytes p = to_le_bytes w32 p.rating ++ (signed_number p.from ++ end_bytes p.until)
 
+-- an estimate: its day and its discharge
+abbrev pub estimate_bytes : Estimate → List ℕ
+estimate_bytes estimate = day_number estimate.day ++ signed_number estimate.discharge
+
 -- a measurement: its number, its instant, its gage height, its discharge and its grade
 abbrev pub measurement_bytes : Measurement → List ℕ
 measurement_bytes m =
@@ -72,6 +81,8 @@ abbrev pub kind : What → ℕ
 kind (AddStation name zone gap stage_array discharge_array) = 1
 kind (SetStation name gap stage_array discharge_array) = 2
 kind (PutReadings readings) = 3
+kind (DropReadings from to) = 4
+kind (FlagReadings from to flag) = 5
 kind (PutCorrection set at curve prorate) = 6
 kind (DropCorrection set at) = 7
 kind (PutShift at curve prorate) = 8
@@ -79,6 +90,8 @@ kind (DropShift at) = 9
 kind (AddRating rating table) = 10
 kind (PutPeriod period) = 11
 kind (DropPeriod from) = 12
+kind (PutEstimate estimate) = 13
+kind (DropEstimate day) = 14
 kind (PutMeasurement measurement) = 15
 kind (DropMeasurement number) = 16
 
@@ -89,6 +102,8 @@ fields (AddStation name zone gap stage_array discharge_array) =
 fields (SetStation name gap stage_array discharge_array) =
     short_text name ++ to_le_bytes w32 gap ++ stage_array ++ discharge_array
 fields (PutReadings readings) = to_le_bytes w32 (length readings) ++ flat_map reading_bytes readings
+fields (DropReadings from to) = signed_number from ++ signed_number to
+fields (FlagReadings from to flag) = signed_number from ++ (signed_number to ++ flag_number flag ∷ [])
 fields (PutCorrection set at curve prorate) = set ∷ entry_bytes at curve prorate
 fields (DropCorrection set at) = set ∷ signed_number at
 fields (PutShift at curve prorate) = entry_bytes at curve prorate
@@ -96,6 +111,8 @@ fields (DropShift at) = signed_number at
 fields (AddRating rating table) = to_le_bytes w32 rating ++ table_bytes table
 fields (PutPeriod period) = period_bytes period
 fields (DropPeriod from) = signed_number from
+fields (PutEstimate estimate) = estimate_bytes estimate
+fields (DropEstimate day) = day_number day
 fields (PutMeasurement measurement) = measurement_bytes measurement
 fields (DropMeasurement number) = to_le_bytes w32 number
 
@@ -110,12 +127,12 @@ payload piece = edit_bytes piece.edit
 abbrev pub most_payload : ℕ
 most_payload = 8_388_608
 
--- the most that the fields and a whole payload have: those of a rating of 10,000 rows
+-- the most that the fields and a whole payload have: those of 100,000 readings
 abbrev pub longest_fields : ℕ
-longest_fields = 160_008
+longest_fields = 1_700_004
 
 abbrev pub longest_payload : ℕ
-longest_payload = 160_068
+longest_payload = 1_700_064
 
 -- the length of the payload in four bytes, and the payload
 abbrev pub encoded : Record → List ℕ

@@ -1,12 +1,13 @@
 -- Reading a payload from left to right: each reader gives a value and the bytes after it, or nothing.
-use Rattle.std.specs.Prelude.{ℕ, zero, suc, Bool, true, false, List, [], ◌∷◌, length, take, drop, map, Option, Some, None, nat_lt, nat_le, ◌==◌, ◌&&◌, if◌then◌else◌, ℤ, int_lt, int_le}
+use Rattle.std.specs.Prelude.{ℕ, zero, suc, Bool, true, false, List, [], ◌∷◌, length, take, drop, map, slice_index, Option, Some, None, unwrap_or, nat_lt, nat_le, ◌==◌, if◌then◌else◌, ℤ}
 use Rattle.std.specs.Int.{Width, w32, w64, byte_len, from_le_bytes, cast_signed}
 use Rattle.edits.specs.declared.content.What.{What}
-use Rattle.edits.specs.declared.content.What.TheVariants.{AddStation, SetStation, PutReadings, PutCorrection, DropCorrection, PutShift, DropShift, AddRating, PutPeriod, DropPeriod, PutMeasurement, DropMeasurement}
+use Rattle.edits.specs.declared.content.What.TheVariants.{AddStation, SetStation, PutReadings, DropReadings, FlagReadings, PutCorrection, DropCorrection, PutShift, DropShift, AddRating, PutPeriod, DropPeriod, PutEstimate, DropEstimate, PutMeasurement, DropMeasurement}
 use Rattle.edits.specs.Grades.{grade_of}
 use Rattle.edits.specs.declared.measurements.Grade.{Grade}
 use Rattle.fixed_units.specs.Quantities.{SiteNumber}
-use Rattle.fixed_units.specs.declared.readings.Flag.TheVariants.{Usable}
+use Rattle.fixed_units.specs.declared.readings.Flag.{Flag}
+use Rattle.fixed_units.specs.declared.readings.Flag.TheVariants.{Usable, Erroneous, Affected}
 use Rattle.fixed_units.specs.declared.readings.Reading.{Reading}
 use Rattle.rating_tables.specs.Table.{Row}
 
@@ -47,6 +48,9 @@ short_text_at bytes = byte_at bytes >>= λ n. front_at n.0 n.1
 unfoldable pub signed_number_at : List ℕ → Option (ℤ × List ℕ)
 signed_number_at bytes = number_at w64 bytes >>= λ n. Some (cast_signed w64 n.0, n.1)
 
+unfoldable pub day_at : List ℕ → Option (ℤ × List ℕ)
+day_at bytes = number_at w32 bytes >>= λ n. Some (cast_signed w32 n.0, n.1)
+
 unfoldable pub site_number_at : List ℕ → Option (SiteNumber × List ℕ)
 site_number_at bytes = made_at (λ s. record { digits = s.0; value = s.1 }) (both_at byte_at (number_at w64)) bytes
 
@@ -72,34 +76,76 @@ setting f = SetStation f.0 f.1.0 f.1.1.0 f.1.1.1
 unfoldable pub setting_at : List ℕ → Option (What × List ℕ)
 setting_at bytes = made_at setting (both_at short_text_at arrays_at) bytes
 
--- the fields of one usable reading that is put: its count, its instant, its stage and its flag
-abbrev pub usable : ℤ → ℤ → Reading
-usable at raw = record { at = at; raw = raw; flag = Usable }
+-- so many values, one behind another
+unfoldable pub many_at : {A : Type 0} → (List ℕ → Option (A × List ℕ)) → ℕ → List ℕ → Option (List A × List ℕ)
+many_at read zero bytes = Some ([], bytes)
+many_at read (suc count) bytes = do
+  first ← read bytes
+  others ← many_at read count first.1
+  Some (first.0 ∷ others.0, others.1)
 
-abbrev pub put_one : ℤ × ℤ → What
-put_one f = PutReadings (usable f.0 f.1 ∷ [])
+-- the flag of a number
+abbrev pub flag_of : ℕ → Option Flag
+flag_of number =
+    if number == 0 then Some Usable
+    else (if number == 1 then Some Erroneous
+    else (if number == 2 then Some Affected else None))
 
-unfoldable pub reading_at : List ℕ → Option ((ℤ × ℤ) × List ℕ)
-reading_at bytes = do
-  count ← number_at w32 bytes
-  at ← signed_number_at count.1
-  raw ← signed_number_at at.1
-  flag ← byte_at raw.1
-  if count.0 == 1 && flag.0 == 0 then Some ((at.0, raw.0), flag.1) else None
+unfoldable pub flag_at : List ℕ → Option (Flag × List ℕ)
+flag_at bytes = do
+  number ← byte_at bytes
+  flag ← flag_of number.0
+  Some (flag, number.1)
+
+-- a reading: its instant, its stage and its flag
+abbrev pub reading : ℤ × (ℤ × Flag) → Reading
+reading f = record { at = f.0; raw = f.1.0; flag = f.1.1 }
+
+unfoldable pub reading_at : List ℕ → Option (Reading × List ℕ)
+reading_at bytes = made_at reading (both_at signed_number_at (both_at signed_number_at flag_at)) bytes
+
+-- how many readings there are, and the readings
+unfoldable pub readings_at : List ℕ → Option (List Reading × List ℕ)
+readings_at bytes = number_at w32 bytes >>= λ count. many_at reading_at count.0 count.1
+
+-- the number of 64 bits that eight bytes are
+abbrev pub number_in : List ℕ → ℤ
+number_in piece = cast_signed w64 (from_le_bytes w64 piece)
+
+-- the reading that seventeen bytes are of which the last is a flag's number, and the readings that pieces of seventeen bytes are
+unfoldable pub reading_in : List ℕ → Reading
+reading_in piece =
+    record { at = number_in (take 8 piece); raw = number_in (take 8 (drop 8 piece)); flag = unwrap_or (flag_of (slice_index piece 16)) Affected }
+
+abbrev pub readings_in : List (List ℕ) → List Reading
+readings_in pieces = map reading_in pieces
+
+-- the fields of readings that are put
+abbrev pub put : List Reading → What
+put readings = PutReadings readings
 
 unfoldable pub put_at : List ℕ → Option (What × List ℕ)
-put_at bytes = made_at put_one reading_at bytes
+put_at bytes = made_at put readings_at bytes
+
+-- the fields of a span of readings that is dropped, and of one that is flagged
+abbrev pub dropped_readings : ℤ × ℤ → What
+dropped_readings f = DropReadings f.0 f.1
+
+unfoldable pub dropped_readings_at : List ℕ → Option (What × List ℕ)
+dropped_readings_at bytes = made_at dropped_readings (both_at signed_number_at signed_number_at) bytes
+
+abbrev pub flagged_readings : ℤ × (ℤ × Flag) → What
+flagged_readings f = FlagReadings f.0 f.1.0 f.1.1
+
+unfoldable pub flagged_readings_at : List ℕ → Option (What × List ℕ)
+flagged_readings_at bytes = made_at flagged_readings (both_at signed_number_at (both_at signed_number_at flag_at)) bytes
 
 -- so many points of a curve, each a stage and an amount
 unfoldable pub point_at : List ℕ → Option ((ℤ × ℤ) × List ℕ)
 point_at bytes = both_at signed_number_at signed_number_at bytes
 
-unfoldable pub points_at : ℕ → List ℕ → Option (List (ℤ × ℤ) × List ℕ)
-points_at zero bytes = Some ([], bytes)
-points_at (suc count) bytes = do
-  point ← point_at bytes
-  points ← points_at count point.1
-  Some (point.0 ∷ points.0, points.1)
+abbrev pub points_at : ℕ → List ℕ → Option (List (ℤ × ℤ) × List ℕ)
+points_at count bytes = many_at point_at count bytes
 
 -- a curve: how many points there are, at most three, and the points
 unfoldable pub curve_at : List ℕ → Option (List (ℤ × ℤ) × List ℕ)
@@ -147,14 +193,10 @@ table_at bytes = number_at w32 bytes >>= λ count. points_at count.0 count.1
 
 -- the row that sixteen bytes are, and the rows that pieces of sixteen bytes are
 unfoldable pub row_in : List ℕ → Row
-row_in piece = (cast_signed w64 (from_le_bytes w64 (take 8 piece)), cast_signed w64 (from_le_bytes w64 (take 8 (drop 8 piece))))
+row_in piece = (number_in (take 8 piece), number_in (take 8 (drop 8 piece)))
 
 abbrev pub rows_in : List (List ℕ) → List Row
 rows_in pieces = map row_in pieces
-
--- whether the stage rises from a row to the next, and the discharge does not fall
-abbrev pub is_behind : Row → Row → Bool
-is_behind row next = int_lt row.0 next.0 && int_le row.1 next.1
 
 -- the fields of a rating that is added
 abbrev pub added_rating : ℕ × List Row → What
@@ -179,6 +221,19 @@ dropped_period from = DropPeriod from
 
 unfoldable pub dropped_period_at : List ℕ → Option (What × List ℕ)
 dropped_period_at bytes = made_at dropped_period signed_number_at bytes
+
+-- the fields of an estimate that is put, and of one that is dropped
+abbrev pub estimate : ℤ × ℤ → What
+estimate f = PutEstimate (record { day = f.0; discharge = f.1 })
+
+unfoldable pub estimate_at : List ℕ → Option (What × List ℕ)
+estimate_at bytes = made_at estimate (both_at day_at signed_number_at) bytes
+
+abbrev pub dropped_estimate : ℤ → What
+dropped_estimate day = DropEstimate day
+
+unfoldable pub dropped_estimate_at : List ℕ → Option (What × List ℕ)
+dropped_estimate_at bytes = made_at dropped_estimate day_at bytes
 
 -- how good a measurement is
 unfoldable pub grade_at : List ℕ → Option (Grade × List ℕ)
@@ -208,6 +263,8 @@ fields_at kind bytes =
     if kind == 1 then addition_at bytes
     else (if kind == 2 then setting_at bytes
     else (if kind == 3 then put_at bytes
+    else (if kind == 4 then dropped_readings_at bytes
+    else (if kind == 5 then flagged_readings_at bytes
     else (if kind == 6 then correction_at bytes
     else (if kind == 7 then dropped_correction_at bytes
     else (if kind == 8 then shift_at bytes
@@ -215,8 +272,10 @@ fields_at kind bytes =
     else (if kind == 10 then rating_at bytes
     else (if kind == 11 then period_at bytes
     else (if kind == 12 then dropped_period_at bytes
+    else (if kind == 13 then estimate_at bytes
+    else (if kind == 14 then dropped_estimate_at bytes
     else (if kind == 15 then measurement_at bytes
-    else (if kind == 16 then dropped_measurement_at bytes else None)))))))))))
+    else (if kind == 16 then dropped_measurement_at bytes else None)))))))))))))))
 
 -- the parts of a whole payload, with nothing behind the last
 unfoldable pub parts_at : List ℕ → Option Parts

@@ -1,27 +1,29 @@
 //! The parts of a payload that was read: their ranges, and the record that they make.
 
-ghost use Rattle.std.specs.Prelude.{◌≡◌, ◌↔◌, true, IfOk, IfSome, IfNone, OnErr, ◌∷◌, []};
-ghost use Rattle.edits.specs.Lawful.{IsLawful, ArePutReadings, IsStationZone};
+ghost use Rattle.std.specs.Prelude.{◌≡◌, ◌↔◌, true, IfOk, OnErr};
+ghost use Rattle.edits.specs.Lawful.{IsLawful, AreSettings, IsStationZone};
 ghost use Rattle.edits.specs.Texts.{AreInitials, IsName, IsReference};
-ghost use Rattle.edits.specs.declared.content.What.TheVariants.{PutReadings};
-ghost use Rattle.fixed_units.specs.Quantities.{IsSite, IsStamp, IsStage};
+ghost use Rattle.edits.specs.declared.content.What.TheVariants.{AddStation, SetStation};
+ghost use Rattle.fixed_units.specs.Quantities.{IsSite};
 ghost use Rattle.fixed_units.specs.RoundingArray.{IsRoundingArray};
 ghost use Rattle.records.specs.Drafts.{parts, what_of, AreLawful, HasParts};
-ghost use Rattle.records.specs.Reading.{usable};
 
-use crate::entry_drafts::{EntryDraft, correction_from, is_entry, shift_from};
-use crate::measurement_drafts::{MeasurementDraft, is_measurement, measurement_from};
+use crate::entry_drafts::{
+    EntryDraft, correction_from, dropped_correction_from, dropped_shift_from, is_entry, shift_from,
+};
+use crate::estimate_drafts::{
+    EstimateDraft, dropped_estimate_from, is_estimate, put_estimate_from,
+};
+use crate::measurement_drafts::{MeasurementDraft, is_measurement, put_measurement_from};
 use crate::payloads::Record;
-use crate::period_drafts::{PeriodDraft, is_period, period_from};
+use crate::period_drafts::{PeriodDraft, dropped_period_from, is_period, put_period_from};
+use crate::put_drafts::{are_put_pieces, dropped_span_from, flagged_span_from, is_span, put_from};
 use crate::rating_drafts::{are_rating_rows, rating_from};
 use edits::{
-    By, Edit, Name, Ref, What, are_put_readings, are_settings, is_measurement_number,
-    is_rating_number, is_set_number, is_zone,
+    By, Edit, Name, Ref, What, are_settings, is_measurement_number, is_rating_number,
+    is_set_number, is_zone,
 };
-use fixed_units::{
-    Flag, Micro, NoMemory, Reading, RoundingArray, Second, Site, Text, is_stage, is_stamp,
-};
-use readings::ReadingList;
+use fixed_units::{Day, Flag, NoMemory, RoundingArray, Site, Text, is_stamp};
 use std::alloc::Global;
 
 /// The parts of a payload as they stand in its bytes, whatever their ranges.
@@ -52,8 +54,19 @@ pub(crate) enum Fields<'a> {
         stage_array: &'a [u8],
         discharge_array: &'a [u8],
     },
-    /// One usable reading that is put.
-    Put(ReadingDraft),
+    /// Readings that are put: seventeen bytes for each, of which the last is a flag's number.
+    Put(&'a [[u8; 17]]),
+    /// A span of readings that is dropped.
+    DroppedSpan {
+        from: i64,
+        to: i64,
+    },
+    /// A span of readings that is flagged.
+    FlaggedSpan {
+        from: i64,
+        to: i64,
+        flag: Flag,
+    },
     /// An entry that is put into the correction set of a number.
     Correction {
         set: u8,
@@ -81,19 +94,18 @@ pub(crate) enum Fields<'a> {
     DroppedPeriod {
         from: i64,
     },
+    /// An estimate that is put.
+    Estimate(EstimateDraft),
+    /// An estimate that is dropped.
+    DroppedEstimate {
+        day: i32,
+    },
     /// A measurement that is put.
     Measurement(MeasurementDraft),
     /// A measurement that is dropped.
     DroppedMeasurement {
         number: u32,
     },
-}
-
-/// The instant and the stage of a reading as they stand in a payload.
-#[derive(Clone, Copy)]
-pub(crate) struct ReadingDraft {
-    pub(crate) at: i64,
-    pub(crate) raw: i64,
 }
 
 /// Whether each part keeps to its range. `NoMemory` comes only where each does.
@@ -128,19 +140,16 @@ fn are_lawful(alloc: Global, fields: &Fields<'_>) -> Result<bool, NoMemory>
             gap,
             stage_array,
             discharge_array,
-        } => {
-            if !are_settings(name, *gap, stage_array, discharge_array) {
-                return Ok(false);
-            }
-            is_zone(alloc, zone)
-        }
+        } => is_addition(alloc, name, zone, *gap, stage_array, discharge_array),
         Fields::Setting {
             name,
             gap,
             stage_array,
             discharge_array,
         } => Ok(are_settings(name, *gap, stage_array, discharge_array)),
-        Fields::Put(reading) => Ok(is_put(reading)),
+        Fields::Put(pieces) => Ok(are_put_pieces(pieces)),
+        Fields::DroppedSpan { from, to } => Ok(is_span(*from, *to)),
+        Fields::FlaggedSpan { from, to, .. } => Ok(is_span(*from, *to)),
         Fields::Correction { set, entry } => Ok(is_set_number(*set) && is_entry(entry)),
         Fields::DroppedCorrection { set, at } => Ok(is_set_number(*set) && is_stamp(*at)),
         Fields::Shift(entry) => Ok(is_entry(entry)),
@@ -148,31 +157,29 @@ fn are_lawful(alloc: Global, fields: &Fields<'_>) -> Result<bool, NoMemory>
         Fields::Rating { number, rows } => Ok(is_rating_number(*number) && are_rating_rows(rows)),
         Fields::Period(period) => Ok(is_period(period)),
         Fields::DroppedPeriod { from } => Ok(is_stamp(*from)),
+        Fields::Estimate(estimate) => Ok(is_estimate(estimate)),
+        Fields::DroppedEstimate { day } => Ok(Day::new(*day).is_some()),
         Fields::Measurement(measurement) => Ok(is_measurement(measurement)),
         Fields::DroppedMeasurement { number } => Ok(is_measurement_number(*number)),
     }
 }
 
-/// Whether the reading may be put.
-fn is_put(draft: &ReadingDraft) -> bool
-    ensures { result ≡ true ↔ ArePutReadings (usable draft.now.at draft.now.raw ∷ []) }
+/// Whether a station of these parts may be added. `NoMemory` comes only where it may.
+fn is_addition(
+    alloc: Global,
+    name: &[u8],
+    zone: &[u8],
+    gap: u32,
+    stage_array: &[u8],
+    discharge_array: &[u8],
+) -> Result<bool, NoMemory>
+    ensures told { IfOk result (λ lawful. lawful ≡ true ↔ AreSettings name.now gap stage_array.now discharge_array.now × IsStationZone zone.now) }
+    ensures memory { OnErr result (AreSettings name.now gap stage_array.now discharge_array.now × IsStationZone zone.now) }
 {
-    match usable_reading(draft) {
-        Some(reading) => are_put_readings(&[reading]),
-        None => false,
+    if !are_settings(name, gap, stage_array, discharge_array) {
+        return Ok(false);
     }
-}
-
-/// The usable reading of that stage at that instant, or `None` only where it may not be put.
-fn usable_reading(draft: &ReadingDraft) -> Option<Reading>
-    ensures some { IfSome result (λ reading. reading ≡ usable draft.now.at draft.now.raw) }
-    ensures none { IfNone result (¬ (IsStamp draft.now.at × IsStage draft.now.raw)) }
-{
-    Some(Reading {
-        at: Second::new(draft.at)?,
-        raw: Micro::new(draft.raw)?,
-        flag: Flag::Usable,
-    })
+    is_zone(alloc, zone)
 }
 
 /// The record that the parts make.
@@ -203,57 +210,68 @@ fn what_from(alloc: Global, fields: &Fields<'_>) -> Result<What, NoMemory>
             gap,
             stage_array,
             discharge_array,
-        } => Ok(What::AddStation {
-            name: name_from(alloc, name)?,
-            zone: name_from(alloc, zone)?,
-            gap: *gap,
-            stage_array: array_from(stage_array),
-            discharge_array: array_from(discharge_array),
-        }),
+        } => addition_from(alloc, name, zone, *gap, stage_array, discharge_array),
         Fields::Setting {
             name,
             gap,
             stage_array,
             discharge_array,
-        } => Ok(What::SetStation {
-            name: name_from(alloc, name)?,
-            gap: *gap,
-            stage_array: array_from(stage_array),
-            discharge_array: array_from(discharge_array),
-        }),
-        Fields::Put(reading) => put_from(alloc, reading),
+        } => setting_from(alloc, name, *gap, stage_array, discharge_array),
+        Fields::Put(pieces) => put_from(alloc, pieces),
+        Fields::DroppedSpan { from, to } => Ok(dropped_span_from(*from, *to)),
+        Fields::FlaggedSpan { from, to, flag } => Ok(flagged_span_from(*from, *to, *flag)),
         Fields::Correction { set, entry } => Ok(correction_from(*set, entry)),
-        Fields::DroppedCorrection { set, at } => Ok(What::DropCorrection {
-            set: *set,
-            at: Second::new(*at).unwrap(),
-        }),
+        Fields::DroppedCorrection { set, at } => Ok(dropped_correction_from(*set, *at)),
         Fields::Shift(entry) => Ok(shift_from(entry)),
-        Fields::DroppedShift { at } => Ok(What::DropShift {
-            at: Second::new(*at).unwrap(),
-        }),
+        Fields::DroppedShift { at } => Ok(dropped_shift_from(*at)),
         Fields::Rating { number, rows } => rating_from(alloc, *number, rows),
-        Fields::Period(period) => Ok(What::PutPeriod {
-            period: period_from(period).unwrap(),
-        }),
-        Fields::DroppedPeriod { from } => Ok(What::DropPeriod {
-            from: Second::new(*from).unwrap(),
-        }),
-        Fields::Measurement(measurement) => Ok(What::PutMeasurement {
-            measurement: measurement_from(measurement).unwrap(),
-        }),
+        Fields::Period(period) => Ok(put_period_from(period)),
+        Fields::DroppedPeriod { from } => Ok(dropped_period_from(*from)),
+        Fields::Estimate(estimate) => Ok(put_estimate_from(estimate)),
+        Fields::DroppedEstimate { day } => Ok(dropped_estimate_from(*day)),
+        Fields::Measurement(measurement) => Ok(put_measurement_from(measurement)),
         Fields::DroppedMeasurement { number } => Ok(What::DropMeasurement { number: *number }),
     }
 }
 
-/// The put of one usable reading.
-fn put_from(alloc: Global, draft: &ReadingDraft) -> Result<What, NoMemory>
-    requires { ArePutReadings (usable draft.now.at draft.now.raw ∷ []) }
-    ensures { IfOk result (λ what. what ≡ PutReadings (usable draft.now.at draft.now.raw ∷ [])) }
+/// The addition of a station of these parts.
+fn addition_from(
+    alloc: Global,
+    name: &[u8],
+    zone: &[u8],
+    gap: u32,
+    stage_array: &[u8],
+    discharge_array: &[u8],
+) -> Result<What, NoMemory>
+    requires settings { AreSettings name.now gap stage_array.now discharge_array.now }
+    requires zone { IsStationZone zone.now }
+    ensures { IfOk result (λ what. what ≡ AddStation name.now zone.now gap stage_array.now discharge_array.now) }
 {
-    let mut readings = Vec::new(alloc);
-    readings.push(usable_reading(draft).unwrap())?;
-    Ok(What::PutReadings {
-        readings: ReadingList::from_vec(readings),
+    Ok(What::AddStation {
+        name: name_from(alloc, name)?,
+        zone: name_from(alloc, zone)?,
+        gap,
+        stage_array: array_from(stage_array),
+        discharge_array: array_from(discharge_array),
+    })
+}
+
+/// The setting of these parts of a station.
+fn setting_from(
+    alloc: Global,
+    name: &[u8],
+    gap: u32,
+    stage_array: &[u8],
+    discharge_array: &[u8],
+) -> Result<What, NoMemory>
+    requires { AreSettings name.now gap stage_array.now discharge_array.now }
+    ensures { IfOk result (λ what. what ≡ SetStation name.now gap stage_array.now discharge_array.now) }
+{
+    Ok(What::SetStation {
+        name: name_from(alloc, name)?,
+        gap,
+        stage_array: array_from(stage_array),
+        discharge_array: array_from(discharge_array),
     })
 }
 

@@ -2,7 +2,7 @@
 
 ghost use Rattle.std.specs.Prelude.{◌≡◌, ◌↔◌, true, IfSome, IfNone, IsSome, All};
 ghost use Rattle.edits.specs.Lawful.{IsPutCurve, IsPutPoint};
-ghost use Rattle.edits.specs.declared.content.What.TheVariants.{PutCorrection, PutShift};
+ghost use Rattle.edits.specs.declared.content.What.TheVariants.{PutCorrection, DropCorrection, PutShift, DropShift};
 ghost use Rattle.fixed_units.specs.Quantities.{IsStamp};
 
 use arrayvec::ArrayVec;
@@ -40,6 +40,17 @@ pub(crate) fn correction_from(set: u8, draft: &EntryDraft) -> What
     }
 }
 
+/// The drop of the entry at an instant from the correction set of a number.
+pub(crate) fn dropped_correction_from(set: u8, at: i64) -> What
+    requires { IsStamp at }
+    ensures { result ≡ DropCorrection set at }
+{
+    What::DropCorrection {
+        set,
+        at: Second::new(at).unwrap(),
+    }
+}
+
 /// The put of the entry into the shifts.
 pub(crate) fn shift_from(draft: &EntryDraft) -> What
     requires stamp { IsStamp draft.now.at }
@@ -50,6 +61,16 @@ pub(crate) fn shift_from(draft: &EntryDraft) -> What
         at: Second::new(draft.at).unwrap(),
         curve: curve_from(&draft.points).unwrap(),
         prorate: draft.prorate,
+    }
+}
+
+/// The drop of the entry at an instant from the shifts.
+pub(crate) fn dropped_shift_from(at: i64) -> What
+    requires { IsStamp at }
+    ensures { result ≡ DropShift at }
+{
+    What::DropShift {
+        at: Second::new(at).unwrap(),
     }
 }
 

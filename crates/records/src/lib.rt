@@ -3,11 +3,14 @@
 
 mod drafts;
 mod entry_drafts;
+mod estimate_drafts;
 pub mod laws;
 mod measurement_drafts;
 mod measurement_reading;
 pub mod payloads;
 mod period_drafts;
+mod put_drafts;
+mod put_reading;
 mod rating_drafts;
 mod rating_reading;
 mod reading;

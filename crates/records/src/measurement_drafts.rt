@@ -2,9 +2,10 @@
 
 ghost use Rattle.std.specs.Prelude.{◌≡◌, ◌↔◌, true, IfSome, IfNone};
 ghost use Rattle.edits.specs.Lawful.{IsPutMeasurement};
+ghost use Rattle.edits.specs.declared.content.What.TheVariants.{PutMeasurement};
 ghost use Rattle.records.specs.Drafts.{measured};
 
-use edits::{Grade, Measurement, is_put_measurement};
+use edits::{Grade, Measurement, What, is_put_measurement};
 use fixed_units::{Micro, Second};
 
 /// A measurement as it stands in a payload: its number, its instant, its gage height and its discharge in millionths, and its
@@ -29,7 +30,7 @@ pub(crate) fn is_measurement(draft: &MeasurementDraft) -> bool
 }
 
 /// The measurement of these parts, or `None` only where it may not be put.
-pub(crate) fn measurement_from(draft: &MeasurementDraft) -> Option<Measurement>
+fn measurement_from(draft: &MeasurementDraft) -> Option<Measurement>
     ensures some { IfSome result (λ measurement. measurement ≡ measured draft.now) }
     ensures none { IfNone result (¬ IsPutMeasurement (measured draft.now)) }
 {
@@ -40,4 +41,14 @@ pub(crate) fn measurement_from(draft: &MeasurementDraft) -> Option<Measurement>
         discharge: Micro::new(draft.discharge)?,
         grade: draft.grade,
     })
+}
+
+/// The put of the measurement.
+pub(crate) fn put_measurement_from(draft: &MeasurementDraft) -> What
+    requires { IsPutMeasurement (measured draft.now) }
+    ensures { result ≡ PutMeasurement (measured draft.now) }
+{
+    What::PutMeasurement {
+        measurement: measurement_from(draft).unwrap(),
+    }
 }

@@ -1,12 +1,13 @@
-//! The measurements of a payload, read from left to right.
+//! The measurements and the estimates of a payload, read from left to right.
 
 ghost use Rattle.std.specs.Prelude.{◌≡◌, option_map};
 ghost use Rattle.records.specs.Drafts.{what_of};
-ghost use Rattle.records.specs.Reading.{grade_at, measurement_at, dropped_measurement_at};
+ghost use Rattle.records.specs.Reading.{grade_at, measurement_at, dropped_measurement_at, estimate_at, dropped_estimate_at};
 
 use crate::drafts::Fields;
+use crate::estimate_drafts::EstimateDraft;
 use crate::measurement_drafts::MeasurementDraft;
-use crate::reading::{byte_of, i64_of, u32_of};
+use crate::reading::{byte_of, day_of, i64_of, u32_of};
 use edits::Grade;
 
 /// The fields of a measurement that is put.
@@ -46,4 +47,23 @@ pub(crate) fn dropped_measurement_of(bytes: &[u8]) -> Option<(Fields<'_>, &[u8])
 {
     let (number, rest) = u32_of(bytes)?;
     Some((Fields::DroppedMeasurement { number }, rest))
+}
+
+/// The fields of an estimate that is put.
+#[tactic(auto, unfolding(crate::specs::Reading::estimate_at))]
+pub(crate) fn estimate_of(bytes: &[u8]) -> Option<(Fields<'_>, &[u8])>
+    ensures { option_map (λ x. (what_of x.0, x.1.now)) result ≡ estimate_at bytes.now }
+{
+    let (day, rest) = day_of(bytes)?;
+    let (discharge, rest) = i64_of(rest)?;
+    Some((Fields::Estimate(EstimateDraft { day, discharge }), rest))
+}
+
+/// The fields of an estimate that is dropped.
+#[tactic(auto, unfolding(crate::specs::Reading::dropped_estimate_at))]
+pub(crate) fn dropped_estimate_of(bytes: &[u8]) -> Option<(Fields<'_>, &[u8])>
+    ensures { option_map (λ x. (what_of x.0, x.1.now)) result ≡ dropped_estimate_at bytes.now }
+{
+    let (day, rest) = day_of(bytes)?;
+    Some((Fields::DroppedEstimate { day }, rest))
 }

@@ -2,9 +2,11 @@
 
 ghost use Rattle.std.specs.Prelude.{◌≡◌, ◌↔◌, true, IfSome, IfNone};
 ghost use Rattle.edits.specs.Lawful.{IsPutPeriod};
+ghost use Rattle.edits.specs.declared.content.What.TheVariants.{PutPeriod, DropPeriod};
+ghost use Rattle.fixed_units.specs.Quantities.{IsStamp};
 ghost use Rattle.records.specs.Drafts.{span_of};
 
-use edits::is_put_period;
+use edits::{What, is_put_period};
 use fixed_units::Second;
 use ratings::Period;
 
@@ -27,7 +29,7 @@ pub(crate) fn is_period(draft: &PeriodDraft) -> bool
 }
 
 /// The period of this start, this end and this rating, or `None` only where it may not be put.
-pub(crate) fn period_from(draft: &PeriodDraft) -> Option<Period>
+fn period_from(draft: &PeriodDraft) -> Option<Period>
     ensures some { IfSome result (λ period. period ≡ span_of draft.now) }
     ensures none { IfNone result (¬ IsPutPeriod (span_of draft.now)) }
 {
@@ -37,4 +39,24 @@ pub(crate) fn period_from(draft: &PeriodDraft) -> Option<Period>
         None => None,
     };
     Period::new(from, until, draft.rating)
+}
+
+/// The put of the period.
+pub(crate) fn put_period_from(draft: &PeriodDraft) -> What
+    requires { IsPutPeriod (span_of draft.now) }
+    ensures { result ≡ PutPeriod (span_of draft.now) }
+{
+    What::PutPeriod {
+        period: period_from(draft).unwrap(),
+    }
+}
+
+/// The drop of the period that begins at an instant.
+pub(crate) fn dropped_period_from(from: i64) -> What
+    requires { IsStamp from }
+    ensures { result ≡ DropPeriod from }
+{
+    What::DropPeriod {
+        from: Second::new(from).unwrap(),
+    }
 }

@@ -1,11 +1,11 @@
 //! The rows of a rating in a payload that was read, each sixteen bytes: their ranges and their order, and the rating that they
 //! make. They are tested where they stand, and only those of a rating take memory.
 
-ghost use Rattle.std.specs.Prelude.{◌≡◌, ◌↔◌, true, IfOk, ◌≤◌, All};
+ghost use Rattle.std.specs.Prelude.{◌≡◌, ◌↔◌, true, ◌&&◌, int_lt, int_le, IfOk, ◌≤◌, All};
 ghost use Rattle.edits.specs.declared.content.What.TheVariants.{AddRating};
 ghost use Rattle.rating_tables.specs.declared.table.TheConstants.{LEAST_ROWS, MOST_ROWS};
 ghost use Rattle.rating_tables.specs.Table.{IsInOrder, IsRating, IsRatingRow};
-ghost use Rattle.records.specs.Reading.{row_in, rows_in, is_behind};
+ghost use Rattle.records.specs.Reading.{row_in, rows_in};
 
 use edits::What;
 use fixed_units::{Micro, NoMemory, is_discharge, is_stage};
@@ -50,7 +50,7 @@ fn are_in_order(rows: &[[u8; 16]]) -> bool
 
 /// Whether the stage rises from a row to the next, and the discharge does not fall.
 fn is_behind(row: &[u8; 16], next: &[u8; 16]) -> bool
-    ensures { result ≡ is_behind (row_in row.now) (row_in next.now) }
+    ensures { result ≡ (int_lt (row_in row.now).0 (row_in next.now).0 && int_le (row_in row.now).1 (row_in next.now).1) }
 {
     let (stage, discharge) = quantities(row);
     let (next_stage, next_discharge) = quantities(next);

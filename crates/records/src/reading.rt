@@ -3,11 +3,14 @@
 ghost use Rattle.std.specs.Prelude.{◌≡◌, ◌≤◌, option_map};
 ghost use Rattle.std.specs.Int.{w32, w64};
 ghost use Rattle.records.specs.Drafts.{parts, what_of};
-ghost use Rattle.records.specs.Reading.{byte_at, number_at, front_at, short_text_at, signed_number_at, site_number_at, sender_at, arrays_at, addition_at, setting_at, reading_at, put_at, point_at, points_at, curve_at, mark_at, entry_at, correction_at, dropped_correction_at, shift_at, dropped_shift_at, fields_at, parts_at};
+ghost use Rattle.records.specs.Reading.{byte_at, number_at, front_at, short_text_at, signed_number_at, site_number_at, sender_at, day_at, arrays_at, addition_at, setting_at, point_at, points_at, curve_at, mark_at, entry_at, correction_at, dropped_correction_at, shift_at, dropped_shift_at, fields_at, parts_at};
 
-use crate::drafts::{Draft, Fields, ReadingDraft};
+use crate::drafts::{Draft, Fields};
 use crate::entry_drafts::EntryDraft;
-use crate::measurement_reading::{dropped_measurement_of, measurement_of};
+use crate::measurement_reading::{
+    dropped_estimate_of, dropped_measurement_of, estimate_of, measurement_of,
+};
+use crate::put_reading::{dropped_span_of, flagged_span_of, put_of};
 use crate::rating_reading::{dropped_period_of, period_of, rating_of};
 use arrayvec::ArrayVec;
 
@@ -52,6 +55,8 @@ fn fields_of(kind: u8, bytes: &[u8]) -> Option<(Fields<'_>, &[u8])>
         1 => addition_of(bytes),
         2 => setting_of(bytes),
         3 => put_of(bytes),
+        4 => dropped_span_of(bytes),
+        5 => flagged_span_of(bytes),
         6 => correction_of(bytes),
         7 => dropped_correction_of(bytes),
         8 => shift_of(bytes),
@@ -59,6 +64,8 @@ fn fields_of(kind: u8, bytes: &[u8]) -> Option<(Fields<'_>, &[u8])>
         10 => rating_of(bytes),
         11 => period_of(bytes),
         12 => dropped_period_of(bytes),
+        13 => estimate_of(bytes),
+        14 => dropped_estimate_of(bytes),
         15 => measurement_of(bytes),
         16 => dropped_measurement_of(bytes),
         _ => None,
@@ -97,15 +104,6 @@ fn setting_of(bytes: &[u8]) -> Option<(Fields<'_>, &[u8])>
         discharge_array,
     };
     Some((fields, rest))
-}
-
-/// The fields of one usable reading that is put.
-#[tactic(auto, unfolding(crate::specs::Reading::put_at))]
-fn put_of(bytes: &[u8]) -> Option<(Fields<'_>, &[u8])>
-    ensures { option_map (λ x. (what_of x.0, x.1.now)) result ≡ put_at bytes.now }
-{
-    let ((at, raw), rest) = reading_of(bytes)?;
-    Some((Fields::Put(ReadingDraft { at, raw }), rest))
 }
 
 /// The fields of an entry that is put into a correction set.
@@ -224,22 +222,6 @@ fn arrays_of(bytes: &[u8]) -> Option<((u32, (&[u8], &[u8])), &[u8])>
     Some(((gap, (stage_array, discharge_array)), rest))
 }
 
-/// The instant and the stage of one usable reading: its count stands before them and its flag behind.
-#[tactic(auto, unfolding(crate::specs::Reading::reading_at))]
-fn reading_of(bytes: &[u8]) -> Option<((i64, i64), &[u8])>
-    ensures { option_map (λ x. (x.0, x.1.now)) result ≡ reading_at bytes.now }
-{
-    let (count, rest) = u32_of(bytes)?;
-    let (at, rest) = i64_of(rest)?;
-    let (raw, rest) = i64_of(rest)?;
-    let (flag, rest) = byte_of(rest)?;
-    if count == 1 && flag == 0 {
-        Some(((at, raw), rest))
-    } else {
-        None
-    }
-}
-
 /// How many digits a site number has, and its value.
 #[tactic(auto, unfolding(crate::specs::Reading::site_number_at))]
 fn site_of(bytes: &[u8]) -> Option<((u8, u64), &[u8])>
@@ -271,6 +253,15 @@ pub(crate) fn i64_of(bytes: &[u8]) -> Option<(i64, &[u8])>
     ensures { option_map (λ x. (x.0, x.1.now)) result ≡ signed_number_at bytes.now }
 {
     let (bits, rest) = u64_of(bytes)?;
+    Some((bits.cast_signed(), rest))
+}
+
+/// A day of four bytes.
+#[tactic(auto, unfolding(crate::specs::Reading::day_at))]
+pub(crate) fn day_of(bytes: &[u8]) -> Option<(i32, &[u8])>
+    ensures { option_map (λ x. (x.0, x.1.now)) result ≡ day_at bytes.now }
+{
+    let (bits, rest) = u32_of(bytes)?;
     Some((bits.cast_signed(), rest))
 }
 

@@ -64,6 +64,7 @@ fn inputs(
         third: EntryList::from_vec(Vec::new(alloc)),
         shifts: EntryList::from_vec(Vec::new(alloc)),
         periods: PartList::from_vec(Vec::new(alloc)),
+        estimate: None,
     })
 }
 
@@ -104,16 +105,20 @@ fn empty_inputs(rt: HostRuntime) {
     same(&rt, "one", &are_same(&DayInputs::Empty, &day), &false);
 }
 
-// Whether a window whose readings of the day are these, between two neighbours, is a list.
+// Whether a window whose readings of the day are these, cut anywhere, between two neighbours, is a list.
 fn kept(rt: &impl Abort, alloc: Global, inner: &[(i64, Flag)], listed: &[(i64, Flag)], want: bool) {
     let inner = readings(rt, alloc, inner);
     let list = readings(rt, alloc, listed);
-    let window = Window {
-        before: Some(reading(rt, EARLY)),
-        inner: inner.as_slice(),
-        after: Some(reading(rt, LATE)),
-    };
-    same(rt, "window", &window_is(&window, list.as_slice()), &want);
+    for cut in 0..=inner.len() {
+        let (left, right) = inner.as_slice().split_at(cut);
+        let window = Window {
+            before: Some(reading(rt, EARLY)),
+            left,
+            right,
+            after: Some(reading(rt, LATE)),
+        };
+        same(rt, cut, &window_is(&window, list.as_slice()), &want);
+    }
 }
 
 #[test]

@@ -1,7 +1,7 @@
 //! Days worked by hand.
-ghost use Rattle.std.specs.Prelude.{◌≡◌, ◌<◌, ◌≤◌, ◌-ℤ◌, pos, true, All, IsTrue};
+ghost use Rattle.std.specs.Prelude.{◌≡◌, ◌<◌, ◌≤◌, ◌-ℤ◌, pos, true, All, IfSome, IsTrue};
 ghost use Rattle.curves.specs.Entries.{IsSeries};
-ghost use Rattle.fixed_units.specs.Quantities.{IsStage, IsStamp};
+ghost use Rattle.fixed_units.specs.Quantities.{IsDischarge, IsStage, IsStamp};
 ghost use Rattle.ratings.specs.Parts.{AreParts};
 ghost use Rattle.readings.specs.Readings.{IsRising};
 ghost use Rattle.day_inputs.specs.DayInputs.{AreInputs};
@@ -12,7 +12,11 @@ use curves::{CorrectionSets, Curve, Entry, EntryList, Shifts};
 use daily_values::{
     DayInputs, DayParts, DayValue, Figures, ReadingList, Sum, compute, from_scratch,
 };
-use fixed_units::{Flag, NoMemory, Published, Reading, RoundingArray, Second, is_stage, is_stamp};
+use day_inputs::Settings;
+use fixed_units::{
+    Flag, Micro, NoMemory, Published, Reading, RoundingArray, Second, is_discharge, is_stage,
+    is_stamp,
+};
 use ratings::{PartList, Ratings};
 use std::alloc::Global;
 use std::marker::Brand;
@@ -48,6 +52,15 @@ fn are_stamps(readings: &[Reading]) -> bool
     readings.iter().all(|r| is_stamp(r.at.get()))
 }
 
+fn is_estimate(estimate: Option<Micro>) -> bool
+    ensures { IsTrue result → IfSome estimate IsDischarge }
+{
+    match estimate {
+        Some(discharge) => is_discharge(discharge.get()),
+        None => true,
+    }
+}
+
 /// Whether a day's inputs keep to what they must.
 pub fn are_inputs(inputs: &DayInputs) -> bool
     ensures { IsTrue result → AreInputs inputs.now }
@@ -72,12 +85,14 @@ fn are_rules(parts: &DayParts) -> bool
     ensures third { IsTrue result → IsSeries parts.now.third }
     ensures shifts { IsTrue result → IsSeries parts.now.shifts }
     ensures periods { IsTrue result → AreParts parts.now.periods }
+    ensures estimate { IsTrue result → IfSome parts.now.estimate IsDischarge }
 {
     is_series(parts.first.as_slice())
         && is_series(parts.second.as_slice())
         && is_series(parts.third.as_slice())
         && is_series(parts.shifts.as_slice())
         && are_parts(parts.periods.as_slice())
+        && is_estimate(parts.estimate)
 }
 
 /// The value that the inputs of a day have.
@@ -138,6 +153,7 @@ fn figures_of(
         third: EntryList::from_vec(Vec::new(alloc)),
         shifts: EntryList::from_vec(Vec::new(alloc)),
         periods: PartList::from_vec(Vec::new(alloc)),
+        estimate: None,
     });
     assert!(rt; are_inputs(&inputs));
     let DayValue::Day(figures) = value_of(&inputs) else {
@@ -283,14 +299,20 @@ fn a_mean_is_published_by_the_array_of_its_day(rt: HostRuntime) {
 }
 
 // The value of the example day from all readings of a station.
-fn from_all(rt: &impl Abort, alloc: Global, gap: u32, readings: &[Reading]) -> DayValue {
+fn from_all(
+    rt: &impl Abort,
+    alloc: Global,
+    gap: u32,
+    readings: &[Reading],
+    estimate: Option<Micro>,
+) -> DayValue {
     assert!(rt; (1..=720).contains(&gap) && are_rising(readings) && are_stages(readings));
-    assert!(rt; are_stamps(readings));
+    assert!(rt; are_stamps(readings) && is_estimate(estimate));
     let from = second(rt, 0);
     let until = second(rt, 86_400);
     let length = until.get() - from.get();
     assert!(rt; length == 86_400);
-    without_entries(alloc, gap, from, until, readings).expect(rt, "memory for a window")
+    without_entries(alloc, gap, from, until, readings, estimate).expect(rt, "memory for a window")
 }
 
 // The value of a day of a station without corrections and shifts.
@@ -300,6 +322,7 @@ fn without_entries(
     from: Second,
     until: Second,
     readings: &[Reading],
+    estimate: Option<Micro>,
 ) -> Result<DayValue, NoMemory>
     requires gap_low { 1 ≤ gap }
     requires gap_high { gap ≤ 720 }
@@ -307,21 +330,26 @@ fn without_entries(
     requires rising { IsRising readings.now }
     requires stamps { All (λ r. IsStamp r.at) readings.now }
     requires stages { All (λ r. IsStage r.raw) readings.now }
+    requires estimate { IfSome estimate IsDischarge }
 {
     let corrections = CorrectionSets::new(alloc);
     let shifts = Shifts::new(alloc);
     let ratings = Ratings::new(alloc);
+    let settings = Settings {
+        gap,
+        stage_array: RoundingArray::STAGES,
+        discharge_array: RoundingArray::STAGES,
+    };
     from_scratch::day_value(
         alloc,
-        gap,
-        RoundingArray::STAGES,
-        RoundingArray::STAGES,
+        settings,
         from,
         until,
         &corrections,
         &shifts,
         &ratings,
         readings,
+        estimate,
     )
 }
 
@@ -340,9 +368,24 @@ fn from_readings_before_the_day(rt: HostRuntime) {
     same(
         &rt,
         "early",
-        &from_all(&rt, rt.alloc(), 120, &early),
+        &from_all(&rt, rt.alloc(), 120, &early, None),
         &DayValue::Empty,
     );
+}
+
+#[test]
+fn from_an_estimate_without_readings_of_the_day(rt: HostRuntime) {
+    let early = readings(&rt, rt.alloc(), &WHOLE_LIST[..2]);
+    let estimate = Some(micro(&rt, 60_000));
+    let DayValue::Day(figures) = from_all(&rt, rt.alloc(), 120, &early, estimate) else {
+        panic!(rt; "a day with an estimate has figures");
+    };
+    let none = Sum {
+        twice: 0,
+        covered: 0,
+    };
+    same(&rt, "estimate", &figures.estimate(), &estimate);
+    same(&rt, "discharge", &figures.discharge(), &none);
 }
 
 #[test]
@@ -351,7 +394,7 @@ fn from_the_whole_list(rt: HostRuntime) {
     if let Some(bad) = readings.get_mut(2) {
         bad.flag = Flag::Erroneous;
     }
-    let DayValue::Day(figures) = from_all(&rt, rt.alloc(), 120, &readings) else {
+    let DayValue::Day(figures) = from_all(&rt, rt.alloc(), 120, &readings, None) else {
         panic!(rt; "a day with a reading has figures");
     };
     // the pair over the start is cut at half its rise; the one over the end is too long

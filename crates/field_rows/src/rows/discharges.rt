@@ -9,8 +9,8 @@ use ratings::PartList;
 use std::alloc::Global;
 use std::process::Abort;
 
-// 10 to 30 cubic feet per second from 1 to 2 feet.
-const LINE: [(i64, i64); 2] = [(1_000_000, 10_000_000), (2_000_000, 30_000_000)];
+/// 10 to 30 cubic feet per second from 1 to 2 feet.
+pub const LINE: [(i64, i64); 2] = [(1_000_000, 10_000_000), (2_000_000, 30_000_000)];
 
 // The same, and from there steeper up to 100 at 3 feet.
 const BENT: [(i64, i64); 3] = [
@@ -19,10 +19,11 @@ const BENT: [(i64, i64); 3] = [
     (3_000_000, 100_000_000),
 ];
 
-// Half a day and a day, in seconds.
-const NOON: i32 = 43_200;
+/// Half a day in seconds.
+pub const NOON: i32 = 43_200;
 
-const DAY: i32 = 86_400;
+/// A day in seconds.
+pub const DAY: i32 = 86_400;
 
 // The figures of a day of so many seconds by a rating that is in force from a day before it until an instant, and by a shift.
 fn figures_of(
@@ -33,6 +34,20 @@ fn figures_of(
     until: i32,
     shift: i64,
     listed: &[(i32, i64, Flag)],
+) -> Figures {
+    estimated(rt, alloc, length, rating, until, shift, listed, None)
+}
+
+/// The same of a day with an estimate of so many millionths of a cubic foot per second, if there is one.
+pub fn estimated(
+    rt: &impl Abort,
+    alloc: Global,
+    length: i32,
+    rating: &[(i64, i64)],
+    until: i32,
+    shift: i64,
+    listed: &[(i32, i64, Flag)],
+    estimate: Option<i64>,
 ) -> Figures {
     let mut window = Vec::new(alloc);
     for (after_start, raw, flag) in listed {
@@ -65,10 +80,11 @@ fn figures_of(
         third: EntryList::from_vec(Vec::new(alloc)),
         shifts: EntryList::from_vec(shifts),
         periods: PartList::from_vec(periods),
+        estimate: estimate.map(|discharge| micro(rt, discharge)),
     });
     assert!(rt; are_inputs(&inputs));
     let DayValue::Day(figures) = value_of(&inputs) else {
-        panic!(rt; "a day with a window has figures");
+        panic!(rt; "a day with a window or an estimate has figures");
     };
     figures
 }

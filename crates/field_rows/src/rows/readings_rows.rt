@@ -5,7 +5,7 @@ ghost use Rattle.readings.specs.Readings.{is_used};
 
 use crate::rows::fixtures::{micro, same, second};
 use fixed_units::Second;
-use readings::{Flag, Reading, Readings};
+use readings::{Change, Flag, Reading, Readings};
 use std::alloc::Global;
 use std::process::Abort;
 
@@ -23,7 +23,7 @@ fn used(rt: &impl Abort, at: i64, raw: i64) -> Reading
 
 fn put(rt: &impl Abort, readings: &mut Readings, reading: Reading) {
     readings.reserve(1).expect(rt, "room for a reading");
-    readings.put(reading);
+    readings.put_all(&[reading]);
 }
 
 fn readings(rt: &impl Abort, alloc: Global, list: &[(i64, Flag)]) -> Readings {
@@ -118,6 +118,11 @@ fn about_a_day(rt: &impl Abort, alloc: Global) -> Readings {
     )
 }
 
+/// Whether a reading that is put alters the window of a day.
+fn alters(readings: &Readings, reading: Reading, from: Second, until: Second) -> bool {
+    readings.alters_window(&Change::Put(&[reading]), from, until, 60)
+}
+
 #[test]
 fn altered_windows(rt: HostRuntime) {
     let readings = about_a_day(&rt, rt.alloc());
@@ -126,7 +131,7 @@ fn altered_windows(rt: HostRuntime) {
         same(
             &rt,
             at,
-            &readings.alters_window(used(&rt, at, raw), from, until, 60),
+            &alters(&readings, used(&rt, at, raw), from, until),
             &want,
         );
     }
@@ -140,10 +145,81 @@ fn altered_windows_of_the_next_day(rt: HostRuntime) {
         same(
             &rt,
             at,
-            &readings.alters_window(used(&rt, at, 0), from, until, 60),
+            &alters(&readings, used(&rt, at, 0), from, until),
             &want,
         );
     }
+}
+
+/// The first second of 2024-01-05 at UTC-5.
+const START: i64 = 1_704_430_800;
+
+/// The reading of so many seconds after the start.
+fn after_start(rt: &impl Abort, seconds: i32) -> Reading {
+    used(rt, START + i64::from(seconds), 0)
+}
+
+/// The readings of the first six seconds, and of another one, which is put last: the gap of the column lies behind it.
+fn six(rt: &impl Abort, alloc: Global, last: i32) -> Readings {
+    let mut readings = Readings::new(alloc);
+    for seconds in [1, 2, 3, 4, 5, 6] {
+        if seconds != last {
+            put(rt, &mut readings, after_start(rt, seconds));
+        }
+    }
+    put(rt, &mut readings, after_start(rt, last));
+    readings
+}
+
+/// How many seconds after the start the readings of two slices were read.
+fn joined(rt: &impl Abort, alloc: Global, left: &[Reading], right: &[Reading]) -> Vec<i64> {
+    let mut seconds = Vec::new(alloc);
+    for half in [left, right] {
+        for reading in half {
+            seconds
+                .push(reading.at.get() - START)
+                .expect(rt, "memory for an instant");
+        }
+    }
+    seconds
+}
+
+fn expect_day(rt: &impl Abort, alloc: Global, readings: &Readings, want: &[i64]) {
+    let window = readings.window(second(rt, START), second(rt, START + DAY), 60);
+    let seconds = joined(rt, alloc, window.left, window.right);
+    same(rt, "day", &seconds.as_slice(), &want);
+}
+
+#[test]
+fn a_day_over_the_gap(rt: HostRuntime) {
+    let alloc = rt.alloc();
+    for last in [4, -1, 6] {
+        let mut readings = six(&rt, alloc, last);
+        expect_day(&rt, alloc, &readings, &[1, 2, 3, 4, 5, 6]);
+        let (from, to) = (second(&rt, START + 3), second(&rt, START + 4));
+        same(&rt, last, &readings.drop_span(from, to), &2);
+        expect_day(&rt, alloc, &readings, &[1, 2, 5, 6]);
+    }
+}
+
+#[test]
+fn spans(rt: HostRuntime) {
+    let mut readings = six(&rt, rt.alloc(), 4);
+    let (two, four) = (second(&rt, START + 2), second(&rt, START + 4));
+    same(&rt, "count", &readings.count(two, four), &3);
+    same(&rt, "none", &readings.count(four, two), &0);
+    let ends = (after_start(&rt, 2), after_start(&rt, 4));
+    same(&rt, "ends", &readings.span_ends(two, four), &Some(ends));
+    same(&rt, "no ends", &readings.span_ends(four, two), &None);
+    same(&rt, "used", &readings.has_used(two, four), &true);
+    let day = readings.between(two, four);
+    let seconds = joined(&rt, rt.alloc(), day.left, day.right);
+    same(&rt, "between", &seconds.as_slice(), &[2, 3].as_slice());
+    let first = second(&rt, START);
+    same(&rt, "flagged", &readings.flag_span(first, two, WRONG), &2);
+    let ends = (after_start(&rt, 3), after_start(&rt, 6));
+    same(&rt, "used ends", &readings.used_ends(), &Some(ends));
+    same(&rt, "not used", &readings.has_used(first, two), &false);
 }
 
 #[test]
@@ -152,10 +228,12 @@ fn puts(rt: HostRuntime) {
     for (at, raw) in [(7, 1), (3, 2), (5, 3), (5, 4)] {
         put(&rt, &mut readings, used(&rt, at, raw));
     }
+    same(&rt, "new", &readings.count_new(&[used(&rt, 5, 1)]), &0);
+    same(&rt, "new", &readings.count_new(&[used(&rt, 6, 1)]), &1);
+    same(&rt, "length", &readings.len(), &3);
+    let list = readings
+        .to_list(rt.alloc(), second(&rt, 0), second(&rt, DAY), 60)
+        .expect(&rt, "memory for a window");
     let want = [used(&rt, 3, 2), used(&rt, 5, 4), used(&rt, 7, 1)];
-    same(&rt, "list", &readings.as_slice(), &want.as_slice());
-    let place = readings.place(second(&rt, 5));
-    same(&rt, "before", &place.before, &Some(want[0]));
-    same(&rt, "here", &place.here, &Some(want[1]));
-    same(&rt, "after", &place.after, &Some(want[2]));
+    same(&rt, "list", &list.as_slice(), &want.as_slice());
 }

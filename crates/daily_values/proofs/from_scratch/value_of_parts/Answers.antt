@@ -24,4 +24,5 @@ new-requires c =
       discharge_covered = omega (arith, discharges, discharge, c.day_length.ensures);
       stage = c.in_ok-sum_stages.ensures.within;
       discharge = c.in_ok-sum_discharges.ensures.within;
+      estimate = are.estimate;
     }

@@ -10,7 +10,8 @@ use Rattle.daily_values.specs.DayValue.{Point, unit_of, units_of, neighbours, st
 use Rattle.daily_values.specs.Figures.{IsSumWithin, IsValueWithin}
 use Rattle.daily_values.proofs.AreaLemmas.{AreRising, covered-le, day_length-le, discharge-IfSome, none-within, rising-first, rising-tail, units-rise}
 use Rattle.daily_values.proofs.CountLemmas.{AreCountsOfRest, counts-few, counts-start, counts-step, counts-whole}
-use Rattle.daily_values.proofs.SumLemmas.{IsSumOfRest, next-stage, pair-same, sum-room, sum-start, sum-step, units-start, units-step}
+use Rattle.daily_values.proofs.ExtremeLemmas.{AreExtremesOfRest, extremes-done, extremes-start, extremes-step}
+use Rattle.daily_values.proofs.SumLemmas.{IsSumOfRest, next-stage, pair-same, sum-done, sum-is, sum-room, sum-start, sum-step, units-done, units-start, units-step}
 use Rattle.daily_values.proofs.totals.totals_along.Goals as goal
 
 pub loop-reading-init : goal.loop-reading-init
@@ -24,6 +25,7 @@ loop-reading-init c =
     let stages = sum-start day (neighbours (map stage_point units)) stage (ap (λ (s : Sum). s.twice) c.none-stage.ensures) (ap (λ (s : Sum). s.covered) c.none-stage.ensures) in
     let discharges = sum-start day (neighbours (map discharge_point units)) discharge (ap (λ (s : Sum). s.twice) c.none-discharge.ensures) (ap (λ (s : Sum). s.covered) c.none-discharge.ensures) in
     let counted = subst (λ (us : List Unit). AreCountsOfRest day us units c.none.result) (sym whole) (counts-start day units c.none.result c.none.ensures) in
+    let kept = subst (λ (us : List Unit). AreExtremesOfRest day us units c.none-2.result) (sym whole) (extremes-start day units c.none-2.result c.none-2.ensures) in
     let one = c.add_unit-counts.ensures in
     record {
       rising = subst AreRising (sym whole) (units-rise day day.window c.requires.parts.rising);
@@ -33,6 +35,7 @@ loop-reading-init c =
       discharges = subst (λ (us : List Unit). IsSumOfRest day (neighbours (map discharge_point us)) (neighbours (map discharge_point units)) discharge) (sym whole) discharges;
       counted = counts-step day left (map (unit_of day) (drop 0 c.args.rest.now)) units c.none.result c.add_unit-counts.result counted
           (record { readings = one.readings; affected = one.affected; no_rating = one.no_rating; below = one.below; above = one.above });
+      extremes = extremes-step day left (map (unit_of day) (drop 0 c.args.rest.now)) units c.none-2.result c.add_extremes-extremes.result kept c.add_extremes-extremes.ensures;
       stage_fits = subst (IsSumWithin most_millionths most_millionths) (sym c.none-stage.ensures) (none-within most_millionths most_millionths 0 refl);
       discharge_fits = subst (IsSumWithin most_millionths most_millionths) (sym c.none-discharge.ensures) (none-within most_millionths most_millionths 0 refl);
       stage_within = subst (IsSumWithin most_corrected most_corrected) (sym c.none-stage.ensures) (none-within most_corrected most_corrected 0 refl);
@@ -145,6 +148,7 @@ loop-reading-preserved c =
     let stage = subst (λ (us : List Unit). IsSumOfRest day (neighbours (map stage_point (left ∷ us))) stages c.loop-reading.stage) step c.loop-reading.invariant.stages in
     let discharge = subst (λ (us : List Unit). IsSumOfRest day (neighbours (map discharge_point (left ∷ us))) discharges c.loop-reading.discharge) step c.loop-reading.invariant.discharges in
     let counted = subst (λ (us : List Unit). AreCountsOfRest day us (units_of day) c.loop-reading.counts) step c.loop-reading.invariant.counted in
+    let kept = subst (λ (us : List Unit). AreExtremesOfRest day us (units_of day) c.loop-reading.extremes) step c.loop-reading.invariant.extremes in
     let stage_pair = pair-same _ _ _ _ c.stage_point.ensures c.stage_point-in-loop-reading.ensures in
     let discharge_pair = pair-same _ _ _ _ c.discharge_point.ensures c.discharge_point-in-loop-reading.ensures in
     let IsStagePoint = λ (p : Point). IsValueWithin most_corrected most_corrected p.1 in
@@ -162,6 +166,7 @@ loop-reading-preserved c =
           (c.add_pair-discharge.ensures.covered ∙ ap (λ p. c.loop-reading.discharge.covered + pair_seconds day p) discharge_pair);
       counted = counts-step day right behind (units_of day) c.loop-reading.counts c.add_unit-counts-in-loop-reading.result counted
           (record { readings = one.readings; affected = one.affected; no_rating = one.no_rating; below = one.below; above = one.above });
+      extremes = extremes-step day right behind (units_of day) c.loop-reading.extremes c.add_extremes-extremes-in-loop-reading.result kept c.add_extremes-extremes-in-loop-reading.ensures;
       stage_fits = c.add_pair-stage.ensures.fits;
       discharge_fits = c.add_pair-discharge.ensures.fits;
       stage_within = c.add_pair-stage.ensures.within most_corrected most_corrected
@@ -171,6 +176,24 @@ loop-reading-preserved c =
           (subst IsDischargePoint (sym c.discharge_point.ensures) (discharge-IfSome (λ q. IsDischarge q) left.discharge c.loop-reading.invariant.left_discharge))
           (subst IsDischargePoint (sym c.discharge_point-in-loop-reading.ensures) (discharge-IfSome (λ q. IsDischarge q) right.discharge c.unit_of-right.ensures.discharge)) c.loop-reading.invariant.discharge_within;
     }
+
+pub returns-clause-stage : goal.returns-clause-stage
+returns-clause-stage c =
+    let day = c.args.parts.now in
+    let all = neighbours (map stage_point (units_of day)) in
+    let none = units-done day c.args.rest.now c.loop-reading.reading-index c.loop-reading-test.false in
+    let summed = subst (λ (us : List Unit). IsSumOfRest day (neighbours (map stage_point (c.loop-reading.left ∷ us))) all c.loop-reading.stage) none c.loop-reading.invariant.stages in
+    let done = sum-done day all c.loop-reading.stage summed in
+    sum-is stage_point day c.loop-reading.stage done.0 done.1
+
+pub returns-clause-discharge : goal.returns-clause-discharge
+returns-clause-discharge c =
+    let day = c.args.parts.now in
+    let all = neighbours (map discharge_point (units_of day)) in
+    let none = units-done day c.args.rest.now c.loop-reading.reading-index c.loop-reading-test.false in
+    let summed = subst (λ (us : List Unit). IsSumOfRest day (neighbours (map discharge_point (c.loop-reading.left ∷ us))) all c.loop-reading.discharge) none c.loop-reading.invariant.discharges in
+    let done = sum-done day all c.loop-reading.discharge summed in
+    sum-is discharge_point day c.loop-reading.discharge done.0 done.1
 
 pub returns-clause-counts_within : goal.returns-clause-counts_within
 returns-clause-counts_within c =
@@ -185,3 +208,10 @@ pub returns-clause-discharge_covered : goal.returns-clause-discharge_covered
 returns-clause-discharge_covered c =
     let all = covered-le discharge_point (λ u. refl) c.args.parts.now c.requires.parts in
     omega (arith, all, c.loop-reading.invariant.discharges.covered)
+
+pub returns-clause-extremes : goal.returns-clause-extremes
+returns-clause-extremes c =
+    let day = c.args.parts.now in
+    let i = c.loop-reading.reading-index in
+    extremes-done day (map (unit_of day) (drop i c.args.rest.now)) (units_of day) c.loop-reading.extremes
+    (units-done day c.args.rest.now i c.loop-reading-test.false) c.loop-reading.invariant.extremes

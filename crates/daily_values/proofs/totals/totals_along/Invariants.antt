@@ -7,6 +7,7 @@ use Rattle.daily_values.specs.DayValue.{unit_of, units_of, neighbours, stage_poi
 use Rattle.daily_values.specs.Figures.{IsSumWithin}
 use Rattle.daily_values.proofs.AreaLemmas.{AreRising}
 use Rattle.daily_values.proofs.CountLemmas.{AreCountsOfRest}
+use Rattle.daily_values.proofs.ExtremeLemmas.{AreExtremesOfRest}
 use Rattle.daily_values.proofs.SumLemmas.{IsSumOfRest}
 use Rattle.daily_values.proofs.totals.totals_along.Given as goal
 
@@ -18,6 +19,7 @@ invariant-loop-reading l = record {
   stages : IsSumOfRest l.parts (neighbours (map stage_point (l.left ∷ map (unit_of l.parts) (drop l.reading-index l.rest)))) (neighbours (map stage_point (units_of l.parts))) l.stage;
   discharges : IsSumOfRest l.parts (neighbours (map discharge_point (l.left ∷ map (unit_of l.parts) (drop l.reading-index l.rest)))) (neighbours (map discharge_point (units_of l.parts))) l.discharge;
   counted : AreCountsOfRest l.parts (map (unit_of l.parts) (drop l.reading-index l.rest)) (units_of l.parts) l.counts;
+  extremes : AreExtremesOfRest l.parts (map (unit_of l.parts) (drop l.reading-index l.rest)) (units_of l.parts) l.extremes;
   stage_fits : IsSumWithin most_millionths most_millionths l.stage;
   discharge_fits : IsSumWithin most_millionths most_millionths l.discharge;
   stage_within : IsSumWithin most_corrected most_corrected l.stage;

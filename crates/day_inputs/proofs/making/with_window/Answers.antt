@@ -1,32 +1,36 @@
 -- By the ends of the window.
-use Rattle.std.proofs.Common.{◌≡◌, refl, ap, sym, ◌∙◌}
+use Rattle.std.specs.Prelude.{◌≡◌, Bool, false, not, ◌&&◌, Option, is_none, is_some, ℤ}
+use Rattle.std.proofs.Common.{ap, ◌∙◌}
 use Rattle.curves.specs.Series.{Contents}
 use Rattle.curves.specs.Corrections.{entries_of}
-use Rattle.day_inputs.specs.DayInputs.{window_ends}
-use Rattle.day_inputs.proofs.WindowEnds.{end_stamp, no_ends, made}
+use Rattle.day_inputs.specs.DayInputs.{bearing_on, window_ends}
+use Rattle.day_inputs.proofs.WindowEnds.{and_false, end_stamp, made}
+use Rattle.day_inputs.proofs.making.with_window.Goals.{else-is_none-via-then-is_none+else-is_none-2, else-is_none-via-else-is_none}
 use Rattle.day_inputs.proofs.making.with_window.Goals as goal
 
-entries_same : {s t : Contents} → s ≡ t → s.entries ≡ t.entries
-entries_same e = ap (λ (s : Contents). s.entries) e
+on_set : {s t : Contents} (span : Option (ℤ × ℤ)) → s ≡ t → bearing_on span s.entries ≡ bearing_on span t.entries
+on_set span e = ap (λ (s : Contents). bearing_on span s.entries) e
+
+is_told : {A : Type 0} (o : Option A) (r : Bool) → is_some o ≡ not r → r ≡ false → is_none o ≡ false
+is_told o r e f = ap not e ∙ ap (λ (b : Bool). not (not b)) f
+
+pub cut_parts-requires : goal.cut_parts-requires
+cut_parts-requires c =
+    let w : c.as_slice.result.now ≡ c.args.window.items = c.as_slice.ensures.value in
+    rw (c.ends-span.ensures, w) (end_stamp c.args.window.items c.requires)
 
 pub returns : goal.returns
 returns c =
     let w : c.as_slice.result.now ≡ c.args.window.items = c.as_slice.ensures.value in
-    made c.args.gap c.args.stage_array c.args.discharge_array c.args.from c.args.until (entries_of c.args.corrections.now)
-    c.args.shifts.now.series.entries c.args.ratings.now.ratings c.args.window.items c.from_vec.result c.in-Some.span c.set.result.now.entries c.set-2.result.now.entries
-    c.set-3.result.now.entries c.series.result.now.entries c.in_ok-bearing_list.field-0 c.in_ok-bearing_list-2.field-0
-    c.in_ok-bearing_list-3.field-0 c.in_ok-bearing_list-4.field-0 c.args.ratings.now.ratings c.in_ok-parts.field-0 (ap window_ends (sym w) ∙ sym c.ends.ensures ∙ c.in-Some.is)
-    c.from_vec.ensures c.in_ok-bearing_list.ensures c.in_ok-bearing_list-2.ensures c.in_ok-bearing_list-3.ensures
-    c.in_ok-bearing_list-4.ensures c.in_ok-parts.ensures.list (entries_same c.set.ensures) (entries_same c.set-2.ensures) (entries_same c.set-3.ensures)
-    (entries_same c.series.ensures) refl
-
-pub returns-in_default : goal.returns-in_default
-returns-in_default c =
-    let w : c.as_slice.result.now ≡ c.args.window.items = c.as_slice.ensures.value in
-    no_ends c.args.gap c.args.stage_array c.args.discharge_array c.args.from c.args.until (entries_of c.args.corrections.now)
-    c.args.shifts.now.series.entries c.args.ratings.now.ratings c.args.window.items (ap window_ends (sym w) ∙ sym c.ends.ensures ∙ c.in_default.is)
-
-pub parts-requires : goal.parts-requires
-parts-requires c =
-    let w : c.as_slice.result.now ≡ c.args.window.items = c.as_slice.ensures.value in
-    end_stamp c.args.window.items c.in-Some.span c.requires (ap window_ends (sym w) ∙ sym c.ends.ensures ∙ c.in-Some.is)
+    let some : (is_none c.ends-span.result && is_none c.args.estimate) ≡ false =
+    elim c.else-is_none.branch [
+      | else-is_none-via-then-is_none+else-is_none-2 w ↦ ap (λ (b : Bool). is_none c.ends-span.result && b) (is_told c.args.estimate w.is_none-then-is_none.result w.is_none-then-is_none.ensures w.if-is_none-2.false) ∙ and_false (is_none c.ends-span.result)
+      | else-is_none-via-else-is_none w ↦ ap (λ (b : Bool). b && is_none c.args.estimate) (is_told c.ends-span.result c.is_none.result c.is_none.ensures w.if-is_none.false)
+    ] in
+    let span = c.ends-span.result in
+    made c.args.settings.gap c.args.settings.stage_array c.args.settings.discharge_array c.args.from c.args.until (entries_of c.args.corrections.now)
+    c.args.shifts.now.series.entries c.args.ratings.now.ratings c.args.estimate c.args.window.items c.from_vec.result span c.in_ok-bearing_list.field-0
+    c.in_ok-bearing_list-2.field-0 c.in_ok-bearing_list-3.field-0 c.in_ok-bearing_list-4.field-0 c.in_ok-cut_parts.field-0
+    (c.ends-span.ensures ∙ ap window_ends w) some c.from_vec.ensures (c.in_ok-bearing_list.ensures ∙ on_set span c.set.ensures)
+    (c.in_ok-bearing_list-2.ensures ∙ on_set span c.set-2.ensures) (c.in_ok-bearing_list-3.ensures ∙ on_set span c.set-3.ensures)
+    (c.in_ok-bearing_list-4.ensures ∙ on_set span c.series.ensures) c.in_ok-cut_parts.ensures

@@ -1,11 +1,4 @@
-use Rattle.std.proofs.Common.{refl}
-use Rattle.edits.specs.Lawful.{AreSettings, IsStationZone}
-use Rattle.edits.proofs.TestLemmas.{told_as_well}
 use Rattle.edits.proofs.making.is_lawful.Goals as goal
 
-pub returns-else-not-are_settings-clause-told : goal.returns-else-not-are_settings-clause-told
-returns-else-not-are_settings-clause-told c =
-    let a = c.in-AddStation in
-    let settings : AreSettings a.name a.gap a.stage_array a.discharge_array = rw (← c.as_slice.ensures.text, ← c.digits.ensures.text, ← c.digits-in-AddStation.ensures.text) (c.if-not-are_settings.ensures.0 refl) in
-    rw c.in-AddStation.is
-    (told_as_well (IsStationZone a.zone) _ c.is_zone.result (λ zone. (settings, zone)) (λ lawful. lawful.1) (rw (← c.as_slice-in-AddStation.ensures.text) c.is_zone.ensures.told))
+pub returns-in-AddStation-clause-told : goal.returns-in-AddStation-clause-told
+returns-in-AddStation-clause-told c = rw c.in-AddStation.is c.is_added_station.ensures.told

@@ -1,70 +1,78 @@
--- Each return by where the reading stands about the day.
-use Rattle.std.specs.Prelude.{◌≡◌, pos, ◌*◌}
-use Rattle.std.proofs.Common.{ap, sym, ◌∙◌, subst}
-use Rattle.rising.specs.Lists.{Kept}
+-- The used readings of the day tell, and where it keeps one those as far as its neighbours do.
+use Rattle.std.specs.Prelude.{◌≡◌, ◌*◌, true, false, not, pos, List}
+use Rattle.std.proofs.Common.{arith, ap, sym, ◌∙◌, subst, w64, to_z, of_z}
+use Rattle.std.proofs.lemmas.Int.{to_z-of_z}
 use Rattle.fixed_units.specs.declared.readings.Reading.{Reading}
-use Rattle.readings.specs.Readings.{IsRising, at_instant}
-use Rattle.readings.proofs.Instants.{cmp_before, cmp_from}
-use Rattle.readings.proofs.AlteringLemmas.{others_in, is_early, is_late, early_alters, late_alters, early_leaves, late_leaves, early_too_far, late_too_far, there_leaves}
-use Rattle.readings.proofs.ShownReadings.{middle_changed}
+use Rattle.readings.specs.Changes.{changed}
+use Rattle.readings.specs.Equality.{same_readings}
+use Rattle.readings.specs.Halves.{joined}
+use Rattle.readings.specs.Reach.{lead_from, follow_until}
+use Rattle.readings.specs.Window.{window, neighbour_before, neighbour_after}
+use Rattle.readings.proofs.Altering.{changed_rises, moved, same_stretch, unused_day, used_day}
+use Rattle.readings.proofs.Comparing.{day_altered, day_unused, lead_altered, neighbours_told}
 use Rattle.readings.proofs.lists.Readings.alters_window.Goals as goal
 
-pub returns-then-is_same-clause-same : goal.returns-then-is_same-clause-same
-returns-then-is_same-clause-same c _ =
-    let rising : IsRising c.args.self.now.list = subst (λ (k : Kept Reading). IsRising k.list) c.self.view_is c.parts-around.ensures.rising in
-    let here : c.copied.result ≡ at_instant c.args.reading.at c.args.self.now.list =
-    c.copied.ensures ∙ c.parts-around.ensures.here ∙ ap (λ (k : Kept Reading). at_instant c.args.reading.at k.list) c.self.view_is in
-    there_leaves c.args.a c.args.b (pos (60 * c.args.gap)) c.args.reading c.args.self.now.list rising (sym here ∙ c.is_same.ensures.there c.if-is_same.true)
+pub returns-then-alters_used : goal.returns-then-alters_used
+returns-then-alters_used c =
+    let rs = joined c.halves-kept.result in
+    let change = c.args.change.now in
+    let a = c.args.a in
+    let b = c.args.b in
+    let gap = pos (60 * c.args.gap) in
+    let start : to_z w64 (of_z w64 c.get-start.result) ≡ a = grind (arith, to_z-of_z) in
+    let end : to_z w64 (of_z w64 c.get-end.result) ≡ b = grind (arith, to_z-of_z) in
+    subst (λ (l : List Reading). true ≡ not (same_readings (window a b gap l) (window a b gap (changed change l)))) c.halves-kept.ensures.list
+    (day_altered a b gap rs (changed change rs) c.halves-kept.ensures.rising (changed_rises change rs c.requires.rising c.halves-kept.ensures.rising)
+    (moved a b _ _ rs (changed change rs) true start end (sym c.if-alters_used.true ∙ c.alters_used.ensures)))
 
-pub returns-then-is_found_in_day-clause-changed : goal.returns-then-is_found_in_day-clause-changed
-returns-then-is_found_in_day-clause-changed c near =
-    let others = others_in _ c.args.self.now c.args.reading c.copied.result c.self.view_is c.parts-around.ensures.rising (c.copied.ensures ∙ c.parts-around.ensures.here)
-    (c.is_same.ensures.other c.if-is_same.false) in
-    let early =
-    is_early _ c.args.self.now c.args.a c.args.b (pos (60 * c.args.gap)) c.args.reading _ c.first_used.result c.self.view_is c.parts-around.ensures.rising c.parts-around.ensures.after c.first_used.ensures
-    c.requires.ordered (cmp_before c.args.reading.at c.args.a (sym c.lt.ensures ∙ c.if-lt.true)) in
-    early_alters c.args.a c.args.b (pos (60 * c.args.gap)) c.args.reading c.args.self.now.list c.first_used.result early others c.requires.used (sym c.is_found_in_day.ensures ∙ c.if-is_found_in_day.true) (sym c.is_near.ensures ∙ near)
+pub returns-then-is_none : goal.returns-then-is_none
+returns-then-is_none c =
+    let rs = joined c.halves-kept.result in
+    let change = c.args.change.now in
+    let a = c.args.a in
+    let b = c.args.b in
+    let gap = pos (60 * c.args.gap) in
+    let start : to_z w64 (of_z w64 c.get-start.result) ≡ a = grind (arith, to_z-of_z) in
+    let end : to_z w64 (of_z w64 c.get-end.result) ≡ b = grind (arith, to_z-of_z) in
+    subst (λ (l : List Reading). false ≡ not (same_readings (window a b gap l) (window a b gap (changed change l)))) c.halves-kept.ensures.list
+    (day_unused a b gap rs (changed change rs)
+    (moved a b _ _ rs (changed change rs) false start end (sym c.if-alters_used.false ∙ c.alters_used.ensures))
+    (unused_day a b rs (joined c.stretch.result) c.first_used.result (c.is_none.ensures ∙ ap not c.if-is_none.true) c.first_used.ensures
+    (same_stretch a b _ _ rs (joined c.stretch.result) start end c.stretch.ensures)))
 
-pub returns-then-is_found_in_day-clause-same : goal.returns-then-is_found_in_day-clause-same
-returns-then-is_found_in_day-clause-same c near =
-    let early =
-    is_early _ c.args.self.now c.args.a c.args.b (pos (60 * c.args.gap)) c.args.reading _ c.first_used.result c.self.view_is c.parts-around.ensures.rising c.parts-around.ensures.after c.first_used.ensures
-    c.requires.ordered (cmp_before c.args.reading.at c.args.a (sym c.lt.ensures ∙ c.if-lt.true)) in
-    early_too_far c.args.a c.args.b (pos (60 * c.args.gap)) c.args.reading c.args.self.now.list c.first_used.result early (sym c.is_near.ensures ∙ near)
+pub returns-then-alters_used-2 : goal.returns-then-alters_used-2
+returns-then-alters_used-2 c =
+    let rs = joined c.halves-kept.result in
+    let change = c.args.change.now in
+    let a = c.args.a in
+    let b = c.args.b in
+    let gap = pos (60 * c.args.gap) in
+    let start : to_z w64 (of_z w64 c.get-start.result) ≡ a = grind (arith, to_z-of_z) in
+    let end : to_z w64 (of_z w64 c.get-end.result) ≡ b = grind (arith, to_z-of_z) in
+    let reach : to_z w64 (of_z w64 c.lead_from.result) ≡ lead_from a gap (neighbour_before a gap rs) = grind (arith, to_z-of_z) in
+    subst (λ (l : List Reading). c.alters_used-2.result ≡ not (same_readings (window a b gap l) (window a b gap (changed change l)))) c.halves-kept.ensures.list
+    (c.if-alters_used-2.true
+    ∙ lead_altered a b gap rs (changed change rs) c.halves-kept.ensures.rising (changed_rises change rs c.requires.rising c.halves-kept.ensures.rising)
+    (moved a b _ _ rs (changed change rs) false start end (sym c.if-alters_used.false ∙ c.alters_used.ensures))
+    (used_day a b rs (joined c.stretch.result) c.first_used.result (c.is_none.ensures ∙ ap not c.if-is_none.false) c.first_used.ensures
+    (same_stretch a b _ _ rs (joined c.stretch.result) start end c.stretch.ensures))
+    (moved _ a _ _ rs (changed change rs) true reach start (sym c.if-alters_used-2.true ∙ c.alters_used-2.ensures)))
 
-pub returns-else-is_found_in_day-clause-same : goal.returns-else-is_found_in_day-clause-same
-returns-else-is_found_in_day-clause-same c found =
-    let early =
-    is_early _ c.args.self.now c.args.a c.args.b (pos (60 * c.args.gap)) c.args.reading _ c.first_used.result c.self.view_is c.parts-around.ensures.rising c.parts-around.ensures.after c.first_used.ensures
-    c.requires.ordered (cmp_before c.args.reading.at c.args.a (sym c.lt.ensures ∙ c.if-lt.true)) in
-    early_leaves c.args.a c.args.b (pos (60 * c.args.gap)) c.args.reading c.args.self.now.list c.first_used.result early (sym c.is_found_in_day.ensures ∙ found)
-
-pub returns-then-lt-2-clause-changed : goal.returns-then-lt-2-clause-changed
-returns-then-lt-2-clause-changed c _ =
-    let others = others_in _ c.args.self.now c.args.reading c.copied.result c.self.view_is c.parts-around.ensures.rising (c.copied.ensures ∙ c.parts-around.ensures.here)
-    (c.is_same.ensures.other c.if-is_same.false) in
-    middle_changed c.args.a c.args.b (pos (60 * c.args.gap)) c.args.reading c.args.self.now.list others c.requires.used
-    (cmp_from c.args.reading.at c.args.a (sym c.lt.ensures ∙ c.if-lt.false)) (cmp_before c.args.reading.at c.args.b (sym c.lt-else-lt.ensures ∙ c.if-lt-2.true))
-
-pub returns-then-is_found_in_day-2-clause-changed : goal.returns-then-is_found_in_day-2-clause-changed
-returns-then-is_found_in_day-2-clause-changed c near =
-    let others = others_in _ c.args.self.now c.args.reading c.copied.result c.self.view_is c.parts-around.ensures.rising (c.copied.ensures ∙ c.parts-around.ensures.here)
-    (c.is_same.ensures.other c.if-is_same.false) in
-    let late =
-    is_late _ c.args.self.now c.args.a c.args.b (pos (60 * c.args.gap)) c.args.reading _ c.last_used.result c.self.view_is c.parts-around.ensures.rising c.parts-around.ensures.before c.last_used.ensures
-    c.requires.ordered (cmp_from c.args.reading.at c.args.b (sym c.lt-else-lt.ensures ∙ c.if-lt-2.false)) in
-    late_alters c.args.a c.args.b (pos (60 * c.args.gap)) c.args.reading c.args.self.now.list c.last_used.result late others c.requires.used (sym c.is_found_in_day-else-lt-2.ensures ∙ c.if-is_found_in_day-2.true) (sym c.is_near-then-is_found_in_day-2.ensures ∙ near)
-
-pub returns-then-is_found_in_day-2-clause-same : goal.returns-then-is_found_in_day-2-clause-same
-returns-then-is_found_in_day-2-clause-same c near =
-    let late =
-    is_late _ c.args.self.now c.args.a c.args.b (pos (60 * c.args.gap)) c.args.reading _ c.last_used.result c.self.view_is c.parts-around.ensures.rising c.parts-around.ensures.before c.last_used.ensures
-    c.requires.ordered (cmp_from c.args.reading.at c.args.b (sym c.lt-else-lt.ensures ∙ c.if-lt-2.false)) in
-    late_too_far c.args.a c.args.b (pos (60 * c.args.gap)) c.args.reading c.args.self.now.list c.last_used.result late (sym c.is_near-then-is_found_in_day-2.ensures ∙ near)
-
-pub returns-else-is_found_in_day-2-clause-same : goal.returns-else-is_found_in_day-2-clause-same
-returns-else-is_found_in_day-2-clause-same c found =
-    let late =
-    is_late _ c.args.self.now c.args.a c.args.b (pos (60 * c.args.gap)) c.args.reading _ c.last_used.result c.self.view_is c.parts-around.ensures.rising c.parts-around.ensures.before c.last_used.ensures
-    c.requires.ordered (cmp_from c.args.reading.at c.args.b (sym c.lt-else-lt.ensures ∙ c.if-lt-2.false)) in
-    late_leaves c.args.a c.args.b (pos (60 * c.args.gap)) c.args.reading c.args.self.now.list c.last_used.result late (sym c.is_found_in_day-else-lt-2.ensures ∙ found)
+pub returns-else-alters_used-2 : goal.returns-else-alters_used-2
+returns-else-alters_used-2 c =
+    let rs = joined c.halves-kept.result in
+    let change = c.args.change.now in
+    let a = c.args.a in
+    let b = c.args.b in
+    let gap = pos (60 * c.args.gap) in
+    let start : to_z w64 (of_z w64 c.get-start.result) ≡ a = grind (arith, to_z-of_z) in
+    let end : to_z w64 (of_z w64 c.get-end.result) ≡ b = grind (arith, to_z-of_z) in
+    let reach : to_z w64 (of_z w64 c.lead_from.result) ≡ lead_from a gap (neighbour_before a gap rs) = grind (arith, to_z-of_z) in
+    let until : to_z w64 (of_z w64 c.follow_until.result) ≡ follow_until b gap (neighbour_after b gap rs) = grind (arith, to_z-of_z) in
+    subst (λ (l : List Reading). c.alters_used-else-alters_used-2.result ≡ not (same_readings (window a b gap l) (window a b gap (changed change l)))) c.halves-kept.ensures.list
+    (neighbours_told a b gap rs (changed change rs) _ c.halves-kept.ensures.rising (changed_rises change rs c.requires.rising c.halves-kept.ensures.rising)
+    (moved a b _ _ rs (changed change rs) false start end (sym c.if-alters_used.false ∙ c.alters_used.ensures))
+    (used_day a b rs (joined c.stretch.result) c.first_used.result (c.is_none.ensures ∙ ap not c.if-is_none.false) c.first_used.ensures
+    (same_stretch a b _ _ rs (joined c.stretch.result) start end c.stretch.ensures))
+    (moved _ a _ _ rs (changed change rs) false reach start (sym c.if-alters_used-2.false ∙ c.alters_used-2.ensures))
+    (moved b _ _ _ rs (changed change rs) _ end until c.alters_used-else-alters_used-2.ensures))

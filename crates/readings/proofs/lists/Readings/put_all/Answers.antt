@@ -1,0 +1,23 @@
+-- One more of the list is put, and the next stands behind it.
+use Rattle.std.specs.Prelude.{◌≡◌, ◌+◌, ◌∷◌, ◌≤◌, List, length, drop, get_or}
+use Rattle.std.proofs.Common.{arith, ap, sym, ◌∙◌, subst}
+use Rattle.fixed_units.specs.declared.readings.Reading.{Reading}
+use Rattle.readings.specs.Readings.{before_instant, put_all}
+use Rattle.readings.proofs.PuttingLemmas.{next_is, passed_next}
+use Rattle.readings.proofs.lists.Readings.put_all.Goals as goal
+
+pub loop-reading-preserved : goal.loop-reading-preserved
+loop-reading-preserved c =
+    let list = c.args.list.now in
+    let i = c.loop-reading.reading-index in
+    let r = c.reading-item.result in
+    let rs = c.loop-reading.self.list in
+    let rest = drop (i + 1) list in
+    let next : drop i list ≡ r ∷ rest = next_is list i r c.loop-reading-test.true c.reading-item.is in
+    record {
+      list = ap (put_all rest) c.put_from-from.ensures.list ∙ sym (ap (λ (l : List Reading). put_all l rs) next) ∙ c.loop-reading.invariant.list;
+      room = c.put_from-from.ensures.room ∙ c.loop-reading.invariant.room;
+      spare = omega (arith, c.put_from-from.ensures.spare, c.loop-reading.invariant.spare);
+      passed = λ d l. subst (λ (x : List Reading). c.put_from-from.result ≤ length (before_instant (get_or list (i + 1) d).at x)) (sym c.put_from-from.ensures.list)
+          (passed_next list rs i c.put_from-from.result r d c.requires.rising c.loop-reading-test.true c.reading-item.is l c.put_from-from.ensures.next);
+    }

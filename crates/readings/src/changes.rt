@@ -1,0 +1,116 @@
+//! The changes of a station's readings, and which of them alter the window of a day.
+
+ghost use Rattle.std.specs.Prelude.{◌≡◌, ◌*◌, ◌∷◌, [], not, pos, filter, option_to_list};
+ghost use Rattle.std.specs.List.{list_any};
+ghost use Rattle.readings.specs.Changes.{changed, IsRisingChange};
+ghost use Rattle.readings.specs.Equality.{same_flag, same_readings};
+ghost use Rattle.readings.specs.Halves.{joined};
+ghost use Rattle.readings.specs.Readings.{IsRising, at_instant, is_used, put_all, with_flag, without_span};
+ghost use Rattle.readings.specs.Window.{inner, window};
+
+use crate::halves::Halves;
+use crate::lists::Readings;
+use crate::reach::{follow_until, lead_from, part, stretch};
+use crate::used::is_usable;
+use fixed_units::{Flag, Reading, Second};
+
+/// A change of a station's readings.
+#[derive(Clone, Copy, Debug)]
+pub enum Change<'a> {
+    /// Puts readings, each in place of the one at its instant.
+    Put(&'a [Reading]),
+    /// Takes out every reading of a span.
+    Drop {
+        /// The first instant of the span.
+        from: Second,
+        /// The last instant of the span.
+        to: Second,
+    },
+    /// Flags every reading of a span.
+    Flag {
+        /// The first instant of the span.
+        from: Second,
+        /// The last instant of the span.
+        to: Second,
+        /// The flag that each of them has then.
+        flag: Flag,
+    },
+}
+
+impl Readings {
+    /// Whether a change alters the window of the day from `a` to `b`; `gap` is in minutes. The used readings of the day are
+    /// compared first, and those as far as its neighbours only where it keeps a used reading. No memory is taken.
+    pub fn alters_window(&self, change: &Change<'_>, a: Second, b: Second, gap: u32) -> bool
+        requires rising { IsRisingChange change.now }
+        ensures { result ≡ not (same_readings (window a b (pos (60 * gap)) self.now.list) (window a b (pos (60 * gap)) (changed change.now self.now.list))) }
+    {
+        let kept = self.halves();
+        let (start, end) = (a.get(), b.get());
+        if alters_used(&kept, change, start, end) {
+            return true;
+        }
+        if stretch(&kept, start, end).first_used().is_none() {
+            return false;
+        }
+        alters_used(&kept, change, lead_from(&kept, a, gap), start)
+            || alters_used(&kept, change, end, follow_until(&kept, b, gap))
+    }
+}
+
+/// Whether a change alters the used readings from a number of seconds on and before another.
+fn alters_used(kept: &Halves<'_>, change: &Change<'_>, from: i64, end: i64) -> bool
+    requires kept { IsRising (joined kept.now) }
+    requires change { IsRisingChange change.now }
+    ensures { result ≡ not (same_readings (inner from end (joined kept.now)) (inner from end (changed change.now (joined kept.now)))) }
+{
+    let kept = stretch(kept, from, end);
+    match change {
+        Change::Put(list) => put_alters(&kept, part(list, from, end)),
+        Change::Drop { from, to } => drop_alters(&kept, *from, *to),
+        Change::Flag { from, to, flag } => flag_alters(&kept, *from, *to, *flag),
+    }
+}
+
+/// Whether readings that are put alter the used ones.
+fn put_alters(kept: &Halves<'_>, list: &[Reading]) -> bool
+    requires kept { IsRising (joined kept.now) }
+    requires list { IsRising list.now }
+    ensures { result ≡ not (same_readings (filter is_used (joined kept.now)) (filter is_used (put_all list.now (joined kept.now)))) }
+{
+    list.iter().any(|reading| is_used_anew(kept, reading))
+}
+
+/// Whether a reading is used otherwise than the one at its instant: one of them is used, and they are not one.
+fn is_used_anew(kept: &Halves<'_>, reading: &Reading) -> bool
+    requires { IsRising (joined kept.now) }
+    ensures { result ≡ not (same_readings (filter is_used (option_to_list (at_instant reading.now.at (joined kept.now)))) (filter is_used (reading.now ∷ []))) }
+{
+    match kept.at(reading.at) {
+        Some(found) if is_usable(&found) => found != *reading,
+        _ => is_usable(reading),
+    }
+}
+
+/// Whether the used readings are others without those of a span.
+fn drop_alters(kept: &Halves<'_>, from: Second, to: Second) -> bool
+    requires { IsRising (joined kept.now) }
+    ensures { result ≡ not (same_readings (filter is_used (joined kept.now)) (filter is_used (without_span from to (joined kept.now)))) }
+{
+    kept.span(from, to).first_used().is_some()
+}
+
+/// Whether the used readings are others where those of a span are flagged.
+fn flag_alters(kept: &Halves<'_>, from: Second, to: Second, flag: Flag) -> bool
+    requires { IsRising (joined kept.now) }
+    ensures { result ≡ not (same_readings (filter is_used (joined kept.now)) (filter is_used (with_flag from to flag (joined kept.now)))) }
+{
+    let span = kept.span(from, to);
+    has_other_flag(span.left, flag) || has_other_flag(span.right, flag)
+}
+
+/// Whether some reading has another flag.
+fn has_other_flag(list: &[Reading], flag: Flag) -> bool
+    ensures { result ≡ list_any (λ r. not (same_flag r.flag flag)) list.now }
+{
+    list.iter().any(|reading| reading.flag != flag)
+}

@@ -6,7 +6,7 @@ use Rattle.std.specs.Ordering.{int_eq}
 use Rattle.std.proofs.Common.{arith, refl, ap, sym, subst, ◌∙◌, inl, inr}
 use Rattle.std.proofs.lemmas.Int.{ints, by_lt_z}
 use Rattle.std.proofs.lemmas.Bool.Decides.{Decides-int_eq}
-use Rattle.std.proofs.lemmas.List.Elements.{All-head, All-tail, All-weaker}
+use Rattle.std.proofs.lemmas.List.Elements.{All-filter, All-head, All-tail, All-weaker}
 use Rattle.fixed_units.specs.Quantities.{IsDay, IsStamp, SiteNumber, first_day, last_day}
 use Rattle.fixed_units.specs.declared.readings.Reading.{Reading}
 use Rattle.fixed_units.specs.Calendar.{calendar}
@@ -19,7 +19,8 @@ use Rattle.civil_days.specs.Starts.{IsZone, IsIn, day_start_of, calendar_end}
 use Rattle.civil_days.proofs.RiseLemmas.{rise, zone_steps, zone_lengths}
 use Rattle.edits.specs.Lawful.{IsLawful, IsPutPeriod, IsPutReading}
 use Rattle.edits.specs.declared.content.What.{What}
-use Rattle.edits.specs.declared.content.What.TheVariants.{PutReadings, PutCorrection, DropCorrection, PutShift, DropShift, PutPeriod, DropPeriod}
+use Rattle.edits.specs.declared.content.What.TheVariants.{PutReadings, DropReadings, FlagReadings, PutCorrection, DropCorrection, PutShift, DropShift, PutPeriod, DropPeriod}
+use Rattle.readings.specs.Readings.{in_span, is_within}
 use Rattle.ratings.specs.Numbered.{period_from}
 use Rattle.ratings.specs.Periods.{begin}
 use Rattle.ratings.specs.Spans.{Span}
@@ -29,7 +30,7 @@ use Rattle.station_inputs.specs.Stations.{StationRecord, series_of}
 use Rattle.station_inputs.specs.declared.series.StationSeries.{StationSeries}
 use Rattle.station_inputs.specs.declared.series.StationSeries.TheVariants.{Correction, Shift}
 use Rattle.office_inputs.specs.Touched.{is_filled, is_between_filled, in_reach, touched_by, meets, most_gap_seconds, IsUsedSpan}
-use Rattle.station_inputs.specs.Touched.{about_dropped_period, about_entry, about_period, between_readings, end_or_last, later_end, period_end, touched_at}
+use Rattle.station_inputs.specs.Touched.{about_dropped_period, about_entry, about_period, about_span, between_readings, end_or_last, later_end, period_end, touched_at}
 use Rattle.station_inputs.specs.declared.touched.Touched.TheVariants.{One, Between}
 use Rattle.depend.specs.Compared.{IsCover, AreCompared}
 use Rattle.depend.proofs.EntryLemmas.{entry_stamps, from_of, series_has, until_of}
@@ -349,6 +350,12 @@ between_stamps (Some r) (Some t) from until cells h k e =
     let g : t.at ≡ until = cc in
     (subst IsStamp f (h r refl), subst IsStamp g (k t refl))
 
+span_between : (s : StationRecord) (a b from until : ℤ) (cells : Bool) → IsStation s → about_span a b s.readings ≡ Between from until cells → IsStamp from × IsStamp until
+span_between s a b from until cells k e =
+    let all = All-filter (is_within a b) (λ (r : Reading). IsStamp r.at) s.readings k.readings_are.stamps in
+    between_stamps (first (in_span a b s.readings)) (last (in_span a b s.readings)) from until cells
+    (λ r f. first-kept (λ (r : Reading). IsStamp r.at) (in_span a b s.readings) r all f) (λ r f. last-kept (λ (r : Reading). IsStamp r.at) (in_span a b s.readings) r all f) e
+
 entry_between : (at : ℤ) (es : List Entry) (from until : ℤ) (cells : Bool) → IsStamp at → All (λ (e : Entry). IsStamp e.at) es
     → about_entry at es ≡ Between from until cells → IsStamp from × IsStamp until
 entry_between at es from until cells h k e =
@@ -393,6 +400,8 @@ stamps_at s (PutReadings readings) from until cells k l e =
     let all = All-weaker IsPutReading (λ (r : Reading). IsStamp r.at) (λ r k. k.stamp) readings l.each in
     between_stamps (first readings) (last readings) from until cells
     (λ r f. first-kept (λ (r : Reading). IsStamp r.at) readings r all f) (λ r f. last-kept (λ (r : Reading). IsStamp r.at) readings r all f) e
+stamps_at s (DropReadings a b) from until cells k l e = span_between s a b from until cells k e
+stamps_at s (FlagReadings a b flag) from until cells k l e = span_between s a b from until cells k e
 stamps_at s (PutCorrection set at curve prorate) from until cells k l e = series_between s (Correction set) at from until cells k l.1 e
 stamps_at s (DropCorrection set at) from until cells k l e = series_between s (Correction set) at from until cells k l.1 e
 stamps_at s (PutShift at curve prorate) from until cells k l e = series_between s Shift at from until cells k l.0 e

@@ -1,31 +1,22 @@
 -- No day outside the interval of an edit changes, kind by kind.
-use Rattle.std.specs.Prelude.{◌≡◌, ◌*◌, ℕ, Bool, true, false, cond, List, [], ◌∷◌, All, ◌⊎◌, Option, Some, None, ℤ, pos, ◌+ℤ◌, ◌-ℤ◌, ◌≤ℤ◌, ◌<ℤ◌}
-use Rattle.std.proofs.Common.{arith, refl, ap, sym, subst, ◌∙◌, inl, inr}
-use Rattle.std.proofs.lemmas.Int.{ints, by_lt_z}
-use Rattle.std.proofs.lemmas.List.Elements.{All-head, All-tail, All-cons, All-weaker}
+use Rattle.std.specs.Prelude.{◌≡◌, ◌||◌, ℕ, Bool, true, false, not, cond, List, [], ◌∷◌, All, Option, Some, None, ℤ}
+use Rattle.std.proofs.Common.{refl, sym, subst, ◌∙◌}
+use Rattle.std.proofs.lemmas.Bool.Decides.{Decides-int_eq}
+use Rattle.std.proofs.lemmas.List.Elements.{All-head, All-tail}
 use Rattle.std.specs.Ordering.{int_eq}
 use Rattle.fixed_units.specs.Quantities.{IsDay, SiteNumber, site_place}
-use Rattle.fixed_units.specs.declared.readings.Reading.{Reading}
-use Rattle.rising.specs.Ends.{last}
 use Rattle.rising.specs.Lists as lists
-use Rattle.rising.proofs.Ends.{last-cons}
-use Rattle.rising.proofs.Selecting.{AllPairs-head, AllPairs-tail}
-use Rattle.readings.specs.Readings.{IsRising, put, put_all}
-use Rattle.readings.specs.Window.{window}
-use Rattle.readings.proofs.WindowLemmas.{far_leaves, put_rises}
-use Rattle.civil_days.proofs.RiseLemmas.{zone_steps}
 use Rattle.curves.specs.declared.entries.Entry.{Entry}
 use Rattle.curves.specs.Entries as series
 use Rattle.curves.specs.Entries.{instant_of, entry_of}
 use Rattle.curves.proofs.ChangeLemmas.{put_unchanged, without_unchanged}
-use Rattle.day_inputs.specs.DayInputs.{with_window}
 use Rattle.day_inputs.specs.Equality.{same_inputs}
 use Rattle.day_inputs.proofs.EqualityLemmas.{Decides-same_inputs}
 use Rattle.day_inputs.specs.declared.day_inputs.DayInputs.{DayInputs}
 use Rattle.day_inputs.specs.declared.day_inputs.DayInputs.TheVariants.{Empty, Day}
 use Rattle.edits.specs.Lawful.{IsLawful}
 use Rattle.edits.specs.declared.content.What.{What}
-use Rattle.edits.specs.declared.content.What.TheVariants.{AddStation, SetStation, PutReadings, PutCorrection, DropCorrection, PutShift, DropShift, AddRating, PutPeriod, DropPeriod, PutMeasurement, DropMeasurement}
+use Rattle.edits.specs.declared.content.What.TheVariants.{AddStation, SetStation, PutReadings, DropReadings, FlagReadings, PutCorrection, DropCorrection, PutShift, DropShift, AddRating, PutPeriod, DropPeriod, PutEstimate, DropEstimate, PutMeasurement, DropMeasurement}
 use Rattle.edits.specs.declared.content.Edit.{Edit}
 use Rattle.office_inputs.specs.Changes.{keeps_day}
 use Rattle.office_inputs.specs.Kept.{AreStations, records_of}
@@ -33,19 +24,20 @@ use Rattle.station_inputs.specs.KeptStation.{KeptStation, IsStation}
 use Rattle.office_inputs.specs.Refusals.{refusal_of}
 use Rattle.office_inputs.specs.Stations.{place_of, station_of}
 use Rattle.station_inputs.specs.Changes.{keeps_station_day}
-use Rattle.station_inputs.specs.Stations.{StationRecord, station_day, described, series_of, with_readings, with_series, day_start}
+use Rattle.station_inputs.specs.Stations.{StationRecord, station_day, described, series_of, with_series}
 use Rattle.station_inputs.specs.declared.series.StationSeries.{StationSeries}
 use Rattle.station_inputs.specs.declared.series.StationSeries.TheVariants.{Correction, Shift}
-use Rattle.station_inputs.specs.declared.touched.Touched.TheVariants.{Between}
-use Rattle.office_inputs.specs.Touched.{in_reach, touched_by, touched_of, meets, most_gap_seconds}
-use Rattle.station_inputs.specs.Touched.{about_entry, between_readings, has_inputs, touched_at}
+use Rattle.office_inputs.specs.Touched.{in_reach, touched_by, touched_of}
+use Rattle.station_inputs.specs.Touched.{about_entry, has_inputs, touched_at}
 use Rattle.office_inputs.specs.declared.limits.Limits.{Limits}
 use Rattle.office_inputs.proofs.KeepLemmas.{adds_none, add_told, change_told}
+use Rattle.station_inputs.proofs.EstimateDays.{drop_told, put_told}
 use Rattle.station_inputs.proofs.PeriodDays.{rating_told}
-use Rattle.station_inputs.proofs.StationLemmas.{day_any}
-use Rattle.depend.proofs.EntryLemmas.{by_test, gap_seconds, Keeps, entry_meets}
+use Rattle.station_inputs.proofs.StationLemmas.{filled_told}
+use Rattle.depend.proofs.EntryLemmas.{by_test, Keeps, entry_meets}
 use Rattle.depend.proofs.PeriodLemmas.{dropped_period_day, put_period_day}
-use Rattle.depend.proofs.TouchedDays.{IsTouchedDay, meets_at, of_interval}
+use Rattle.depend.proofs.ReadingDays.{drop_day, flag_day, put_day}
+use Rattle.depend.proofs.TouchedDays.{IsTouchedDay, of_interval}
 
 -- a station that is found keeps to its ranges
 station_step : (s t : StationRecord) (o : Option StationRecord) (b : Bool) → IsStation s → cond b (Some s) o ≡ Some t → (o ≡ Some t → IsStation t) → IsStation t
@@ -70,72 +62,8 @@ empty_kept : (s : StationRecord) (day : ℤ) (name : List ℕ) (gap : ℕ) (stag
 empty_kept s day name gap stages discharges h =
     let t = described name gap stages discharges s in
     let before = is_empty (station_day s day) h in
-    let after = is_empty (station_day t day) (day_any t day ∙ sym (day_any s day) ∙ h) in
+    let after = is_empty (station_day t day) (sym (filled_told t day) ∙ filled_told s day ∙ h) in
     rw (before, after) refl
-
--- readings that lie farther from a day than the gap leave its window
-abbrev IsFar : ℤ → ℤ → ℤ → Reading → Type 0
-IsFar a b gap r = ((r.at +ℤ gap) <ℤ a) ⊎ ((b +ℤ gap) <ℤ r.at)
-
-far_leave : (a b gap : ℤ) (rs xs : List Reading) → IsRising xs → pos 0 ≤ℤ gap → a ≤ℤ b → All (IsFar a b gap) rs → window a b gap (put_all rs xs) ≡ window a b gap xs
-far_leave a b gap [] xs h g o far = refl
-far_leave a b gap (r ∷ rs) xs h g o far =
-    far_leave a b gap rs (put r xs) (put_rises r xs h) g o (All-tail (IsFar a b gap) r rs far)
-    ∙ far_leaves a b gap r xs h g o (All-head (IsFar a b gap) r rs far)
-
--- the last of some readings
-last_of : Reading → List Reading → Reading
-last_of r [] = r
-last_of r (s ∷ ss) = last_of s ss
-
-last_is : (r : Reading) (rs : List Reading) → last (r ∷ rs) ≡ Some (last_of r rs)
-unfolding last_of
-last_is r [] = refl
-last_is r (s ∷ ss) = last-cons r s ss ∙ last_is s ss
-
--- rising readings stand from the first instant to the last
-abbrev IsFrom : ℤ → ℤ → Reading → Type 0
-IsFrom first last r = (first ≤ℤ r.at) × (r.at ≤ℤ last)
-
-from_first : (r : Reading) (rs : List Reading) → IsRising (r ∷ rs) → All (IsFrom r.at (last_of r rs).at) (r ∷ rs)
-unfolding last_of
-from_first r [] h = All-cons (IsFrom r.at r.at) r [] (omega (arith, ints), omega (arith, ints)) (λ k d l. absurd (omega arith))
-from_first r (s ∷ ss) h =
-    let rest = from_first s ss (AllPairs-tail (λ (x y : Reading). x.at <ℤ y.at) r (s ∷ ss) h) in
-    let next = All-head (λ (y : Reading). r.at <ℤ y.at) s ss (AllPairs-head (λ (x y : Reading). x.at <ℤ y.at) r (s ∷ ss) h) in
-    let own = All-head (IsFrom s.at (last_of s ss).at) s ss rest in
-    let high = own.1 in
-    All-cons (IsFrom r.at (last_of s ss).at) r (s ∷ ss) (omega (arith, ints), omega (arith, ints))
-    (All-weaker (IsFrom s.at (last_of s ss).at) (IsFrom r.at (last_of s ss).at) (λ x k. let low = k.0 in (omega (arith, ints), k.1)) (s ∷ ss) rest)
-
--- a day that does not meet the time about an instant is far from it
-not_met : (first last a b : ℤ) → meets first last a b ≡ false → (b <ℤ (first -ℤ most_gap_seconds)) ⊎ ((last +ℤ most_gap_seconds) <ℤ a)
-not_met first last a b h =
-    by_lt_z b (first -ℤ most_gap_seconds) (λ l. inl l) (λ l. inr (grind (arith, ints)))
-
-far_from : (first last a b gap : ℤ) (r : Reading) → gap ≤ℤ most_gap_seconds → meets first last a b ≡ false → IsFrom first last r → IsFar a b gap r
-far_from first last a b gap r g h k =
-    let low = k.0 in
-    let high = k.1 in
-    elim (not_met first last a b h) [
-      | inl l ↦ inr (omega (arith, ints))
-      | inr l ↦ inl (omega (arith, ints))
-    ]
-
-far_day : (s : StationRecord) (day : ℤ) (r : Reading) (rs : List Reading) → IsStation s → IsDay day → IsRising (r ∷ rs)
-    → meets r.at (last_of r rs).at (day_start s day) (day_start s (day +ℤ pos 1)) ≡ false
-    → true ≡ same_inputs (station_day s day) (station_day (with_readings (r ∷ rs) s) day)
-far_day s day r rs k d h m =
-    let a = day_start s day in
-    let b = day_start s (day +ℤ pos 1) in
-    let gap = pos (60 * s.gap) in
-    let g : gap ≤ℤ most_gap_seconds = gap_seconds s.gap k.gap_high in
-    let longer = zone_steps s.zone k.zone_is day d.low d.high in
-    let same : window a b gap (put_all (r ∷ rs) s.readings) ≡ window a b gap s.readings =
-    far_leave a b gap (r ∷ rs) s.readings k.readings_are.rising (omega (arith, ints)) (omega (arith, ints))
-    (All-weaker (IsFrom r.at (last_of r rs).at) (IsFar a b gap) (λ x i. far_from r.at (last_of r rs).at a b gap x g m i) (r ∷ rs) (from_first r rs h)) in
-    sym ((Decides-same_inputs (station_day s day) (station_day (with_readings (r ∷ rs) s) day)).1
-    (ap (λ (w : List Reading). with_window s.gap s.stage_array s.discharge_array a b s.corrections s.shifts s.ratings w) (sym same)))
 
 -- equal inputs do not differ
 same_not : (inputs : DayInputs) → same_inputs inputs inputs ≡ false → ⊥
@@ -143,14 +71,6 @@ same_not inputs n = let k : true ≡ false = sym ((Decides-same_inputs inputs in
 
 told_not : (b : Bool) → true ≡ b → b ≡ false → ⊥
 told_not b e n = let k : true ≡ false = e ∙ n in absurd (cc)
-
--- a day that readings change meets the time from the first of them to the last
-put_day : (s : StationRecord) (day : ℤ) (r : Reading) (rs : List Reading) → IsStation s → IsDay day → IsRising (r ∷ rs)
-    → keeps_station_day s (PutReadings (r ∷ rs)) day ≡ false → IsTouchedDay s (Between r.at (last_of r rs).at false) day
-put_day s day r rs k d h n = (
-  by_test (meets_at s r.at (last_of r rs).at day) (λ t. t) (λ f. absurd (told_not _ (far_day s day r rs k d h f) n)),
-  λ t. absurd (cc),
-)
 
 -- one that an entry changes has inputs, and meets the time in which the entry has a say
 entry_day : (s : StationRecord) (day : ℤ) (which : StationSeries) (at : ℤ) (change : List Entry → List Entry) → IsStation s → IsDay day
@@ -165,15 +85,23 @@ put_entry at curve prorate es h lo hi o t = put_unchanged lo hi (entry_of at cur
 drop_entry : (at : ℤ) (es : List Entry) → series.IsRising es → Keeps at (series.without at) es
 drop_entry at es h lo hi o t = without_unchanged lo hi at es (lists.at instant_of at es) h o refl t
 
+-- an estimate changes its own day alone
+own_step : (same other : Bool) → (not same || other) ≡ false → same ≡ true
+own_step true other e = refl
+own_step false other e = absurd (cc)
+
+own_day : (own day : ℤ) (other : Bool) → (not (int_eq own day) || other) ≡ false → own ≡ day
+own_day own day other e = (Decides-int_eq own day).0 (own_step (int_eq own day) other e)
+
 -- a day that an edit of a station changes is one that what it touches can change
 changed_day : (s : StationRecord) (what : What) (day : ℤ) → IsStation s → IsLawful what → IsDay day → keeps_station_day s what day ≡ false
     → IsTouchedDay s (touched_at s what) day
 changed_day s (AddStation name zone gap stages discharges) day k l d n = absurd (same_not (station_day s day) n)
 changed_day s (SetStation name gap stages discharges) day k l d n =
     by_test (has_inputs (station_day s day)) (λ t. t) (λ f. absurd (told_not _ (empty_kept s day name gap stages discharges f) n))
-changed_day s (PutReadings []) day k l d n = absurd (let f = l.fewest in omega arith)
-changed_day s (PutReadings (r ∷ rs)) day k l d n =
-    subst (λ (o : Option Reading). IsTouchedDay s (between_readings (Some r) o) day) (sym (last_is r rs)) (put_day s day r rs k d l.rising n)
+changed_day s (PutReadings readings) day k l d n = put_day s day readings k d l n
+changed_day s (DropReadings from to) day k l d n = drop_day s day from to k d n
+changed_day s (FlagReadings from to flag) day k l d n = flag_day s day from to flag k d n
 changed_day s (PutCorrection set at curve prorate) day k l d n = entry_day s day (Correction set) at (series.put (entry_of at curve prorate)) k d (put_entry at curve prorate) n
 changed_day s (DropCorrection set at) day k l d n = entry_day s day (Correction set) at (series.without at) k d (drop_entry at) n
 changed_day s (PutShift at curve prorate) day k l d n = entry_day s day Shift at (series.put (entry_of at curve prorate)) k d (put_entry at curve prorate) n
@@ -181,6 +109,8 @@ changed_day s (DropShift at) day k l d n = entry_day s day Shift at (series.with
 changed_day s (AddRating rating table) day k l d n = told_not _ (rating_told s day (record { number = rating; rows = table }) k) n
 changed_day s (PutPeriod period) day k l d n = put_period_day s day period k d n
 changed_day s (DropPeriod from) day k l d n = dropped_period_day s day from k d n
+changed_day s (PutEstimate estimate) day k l d n = own_day estimate.day day _ (put_told s estimate day ∙ n)
+changed_day s (DropEstimate own) day k l d n = own_day own day _ (drop_told s own day ∙ n)
 changed_day s (PutMeasurement measurement) day k l d n = same_not (station_day s day) n
 changed_day s (DropMeasurement number) day k l d n = same_not (station_day s day) n
 

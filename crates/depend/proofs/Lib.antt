@@ -1,7 +1,8 @@
 pub mod CalendarLemmas
-pub mod TouchedDays
-pub mod EntryLemmas
 pub mod CoverLemmas
-pub mod PeriodLemmas
+pub mod EntryLemmas
 pub mod IntervalLemmas
+pub mod PeriodLemmas
 pub mod ReachLemmas
+pub mod ReadingDays
+pub mod TouchedDays

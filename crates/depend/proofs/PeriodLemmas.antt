@@ -14,15 +14,16 @@ use Rattle.day_inputs.specs.DayInputs.{last_at, window_ends, with_window}
 use Rattle.day_inputs.specs.Equality.{same_inputs}
 use Rattle.ratings.specs.Numbered.{StationRatings, period_from, with_period, without_period}
 use Rattle.ratings.specs.Parts as parts
-use Rattle.ratings.specs.PeriodChanges.{stays_in_place, stays_with, stays_without}
+use Rattle.ratings.proofs.PeriodChanges.{stays_in_place, stays_with, stays_with_period, stays_without, stays_without_period}
+use Rattle.ratings.proofs.PeriodChangeLemmas.{put_changes, taken_changes}
 use Rattle.ratings.specs.Periods.{begin, is_before_end}
 use Rattle.ratings.specs.Spans.{Span}
 use Rattle.office_inputs.specs.Touched.{meets, most_gap_seconds}
 use Rattle.office_inputs.proofs.KeepLemmas.{at_place}
 use Rattle.station_inputs.specs.KeptStation.{IsStation}
-use Rattle.station_inputs.specs.Stations.{StationRecord, day_start, station_day, station_window, with_ratings}
+use Rattle.station_inputs.specs.Stations.{StationRecord, day_start, estimated_discharge, station_day, station_window, with_ratings}
 use Rattle.station_inputs.specs.Touched.{about_dropped_period, about_period, end_or_last, has_inputs, later_end, period_end}
-use Rattle.station_inputs.proofs.PeriodDays.{no_period_told, no_window_told, period_told}
+use Rattle.station_inputs.proofs.PeriodDays.{no_window_told, periods_told}
 use Rattle.depend.proofs.CoverLemmas.{greater}
 use Rattle.depend.proofs.EntryLemmas.{IsNear, gap_seconds, last_has, window_near}
 use Rattle.depend.proofs.TouchedDays.{IsTouchedDay}
@@ -57,14 +58,14 @@ day_near s day lo hi k d e =
     (window_keeps (λ (r : Reading). IsStamp r.at) a b gap s.readings k.readings_are.stamps) e
 
 -- a day whose window has ends has inputs
-ends_filled : (gap : ℕ) (stages discharges : List ℕ) (from until : ℤ) (sets : Corrections) (shifts : List Entry) (ratings : StationRatings) (w : List Reading) (lo hi : ℤ)
-    → window_ends w ≡ Some (lo, hi) → has_inputs (with_window gap stages discharges from until sets shifts ratings w) ≡ true
-ends_filled gap stages discharges from until sets shifts ratings [] lo hi e = absurd (cc)
-ends_filled gap stages discharges from until sets shifts ratings (r ∷ rs) lo hi e = refl
+ends_filled : (gap : ℕ) (stages discharges : List ℕ) (from until : ℤ) (sets : Corrections) (shifts : List Entry) (ratings : StationRatings) (w : List Reading) (estimate : Option ℤ) (lo hi : ℤ)
+    → window_ends w ≡ Some (lo, hi) → has_inputs (with_window gap stages discharges from until sets shifts ratings w estimate) ≡ true
+ends_filled gap stages discharges from until sets shifts ratings [] estimate lo hi e = absurd (cc)
+ends_filled gap stages discharges from until sets shifts ratings (r ∷ rs) estimate lo hi e = refl
 
 day_filled : (s : StationRecord) (day lo hi : ℤ) → window_ends (station_window s day) ≡ Some (lo, hi) → has_inputs (station_day s day) ≡ true
 day_filled s day lo hi e =
-    ends_filled s.gap s.stage_array s.discharge_array (day_start s day) (day_start s (day +ℤ pos 1)) s.corrections s.shifts s.ratings (station_window s day) lo hi e
+    ends_filled s.gap s.stage_array s.discharge_array (day_start s day) (day_start s (day +ℤ pos 1)) s.corrections s.shifts s.ratings (station_window s day) (estimated_discharge s day) lo hi e
 
 -- a period that meets the time of the window: its own time meets the day
 both_of : (b c : Bool) → (b && c) ≡ true → (b ≡ true) × (c ≡ true)
@@ -107,6 +108,15 @@ put_met lo hi a b p (Some q) n own e =
       | inl m ↦ subst (λ (from : ℤ). meets from end a b ≡ true) (own q refl) (met lo hi a b end q n m other)
       | inr m ↦ met lo hi a b end p n m one
     ]
+
+-- a day keeps its inputs where the part of a period stays, with it and without it
+period_told : (s : StationRecord) (day : ℤ) (p : Span) (lo hi : ℤ) → IsStation s → window_ends (station_window s day) ≡ Some (lo, hi)
+    → stays_with_period lo hi p s.ratings.periods ≡ same_inputs (station_day s day) (station_day (with_ratings (with_period p) s) day)
+period_told s day p lo hi k e = sym (put_changes lo hi s.ratings.tables p s.ratings.periods k.ratings_are.apart.rising) ∙ periods_told s day (with_period p) lo hi e
+
+no_period_told : (s : StationRecord) (day from lo hi : ℤ) → IsStation s → window_ends (station_window s day) ≡ Some (lo, hi)
+    → stays_without_period lo hi from s.ratings.periods ≡ same_inputs (station_day s day) (station_day (with_ratings (without_period from) s) day)
+no_period_told s day from lo hi k e = sym (taken_changes lo hi s.ratings.tables from s.ratings.periods k.ratings_are.apart.rising) ∙ periods_told s day (without_period from) lo hi e
 
 -- what is told of a day that is kept and not kept
 kept_not : (b c : Bool) → b ≡ c → b ≡ true → c ≡ false → ⊥

@@ -13,7 +13,9 @@ use Rattle.edits.specs.Grades.{grade_number}
 use Rattle.edits.specs.Same.{is_same, is_same_what, same_end}
 use Rattle.edits.specs.declared.content.Edit.{Edit}
 use Rattle.edits.specs.declared.content.What.{What}
-use Rattle.edits.specs.declared.content.What.TheVariants.{AddStation, SetStation, PutReadings, PutCorrection, DropCorrection, PutShift, DropShift, AddRating, PutPeriod, DropPeriod, PutMeasurement, DropMeasurement}
+use Rattle.edits.specs.declared.content.What.TheVariants.{AddStation, SetStation, PutReadings, DropReadings, FlagReadings, PutCorrection, DropCorrection, PutShift, DropShift, AddRating, PutPeriod, DropPeriod, PutEstimate, DropEstimate, PutMeasurement, DropMeasurement}
+use Rattle.fixed_units.specs.declared.readings.Flag.{Flag}
+use Rattle.fixed_units.specs.declared.readings.Flag.TheVariants.{Usable, Erroneous, Affected}
 use Rattle.history.specs.Accepted.{Numbered, accepted, edit_of, edits_of, named}
 use Rattle.history.specs.Events.{Event, Accepted, Published, Faulted, History}
 use Rattle.history.specs.Legal.{IsLegal}
@@ -25,8 +27,9 @@ use Rattle.rating_tables.proofs.RowLemmas.{rows_decide}
 use Rattle.rating_tables.specs.RowEquality.{same_rows}
 use Rattle.rating_tables.specs.Table.{Row}
 use Rattle.readings.proofs.EqualityLemmas.{told_same}
-use Rattle.station_inputs.specs.declared.refusals.Refusal.{Refusal}
-use Rattle.station_inputs.specs.declared.refusals.Refusal.TheVariants.{RefReused}
+use Rattle.readings.specs.Equality.{same_flag}
+use Rattle.office_inputs.specs.declared.refusals.Refusal.{Refusal}
+use Rattle.office_inputs.specs.declared.refusals.Refusal.TheVariants.{RefReused}
 use Rattle.records.specs.declared.payloads.Record.{Record}
 
 same_bytes : (bytes : List ℕ) → bytes_eq bytes bytes ≡ true
@@ -44,6 +47,11 @@ own_entry entry = (entries_decide entry entry).1 refl
 own_rows : (rows : List Row) → same_rows rows rows ≡ true
 own_rows rows = (rows_decide rows rows).1 refl
 
+own_flag : (flag : Flag) → same_flag flag flag ≡ true
+own_flag Usable = refl
+own_flag Erroneous = refl
+own_flag Affected = refl
+
 same_end_with : (until : Option ℤ) → same_end until until ≡ true
 same_end_with None = refl
 same_end_with (Some until) = same_instant until
@@ -53,6 +61,8 @@ same_what (AddStation name zone gap stages discharges) =
     rw (same_bytes name, same_bytes zone, same_number gap, same_bytes stages, same_bytes discharges) refl
 same_what (SetStation name gap stages discharges) = rw (same_bytes name, same_number gap, same_bytes stages, same_bytes discharges) refl
 same_what (PutReadings readings) = sym (told_same readings readings refl)
+same_what (DropReadings from to) = rw (same_instant from, same_instant to) refl
+same_what (FlagReadings from to flag) = rw (same_instant from, same_instant to) (own_flag flag)
 same_what (PutCorrection set at curve prorate) =
     rw (same_number set) (own_entry (record { at = at; curve = curve; prorate = prorate }))
 same_what (DropCorrection set at) = rw (same_number set, same_instant at) refl
@@ -61,6 +71,8 @@ same_what (DropShift at) = same_instant at
 same_what (AddRating rating table) = rw (same_number rating) (own_rows table)
 same_what (PutPeriod period) = rw (same_instant period.from, same_end_with period.until, same_number period.rating) refl
 same_what (DropPeriod from) = same_instant from
+same_what (PutEstimate e) = rw (same_instant e.day, same_instant e.discharge) refl
+same_what (DropEstimate day) = same_instant day
 same_what (PutMeasurement m) =
     rw (same_number m.number, same_instant m.at, same_instant m.gage, same_instant m.discharge, same_number (grade_number m.grade)) refl
 same_what (DropMeasurement number) = same_number number

@@ -8,9 +8,9 @@ use Rattle.history.specs.Accepted.{Numbered, accepted, edits_of, named, cell_cou
 use Rattle.history.specs.Awaited.{pending_days}
 use Rattle.history.specs.Events.{History}
 use Rattle.history.specs.Verdicts.{Verdict, Repeats, Refuses, Accepts, with_edit, or_else, refused_by_stations, is_full_of_events, is_full_of_cells, is_journal_full, refused_where, refusal_of, verdict_of_refusal, verdict_by, verdict}
-use Rattle.station_inputs.specs.declared.refusals.Refusal.{Refusal}
-use Rattle.station_inputs.specs.declared.refusals.Refusal.TheVariants.{RefReused, HistoryFull, JournalFull}
-use Rattle.station_inputs.specs.declared.refusals.Full.TheVariants as fulls
+use Rattle.office_inputs.specs.declared.refusals.Refusal.{Refusal}
+use Rattle.office_inputs.specs.declared.refusals.Refusal.TheVariants.{RefReused, HistoryFull, JournalFull}
+use Rattle.office_inputs.specs.declared.refusals.Full.TheVariants as fulls
 
 -- its reference names no accepted edit, the stations in force do not refuse it, and there is room
 pub record IsAccepted (h : History) (edit : Edit) : Type 0 where

@@ -6,9 +6,9 @@ use Rattle.history.specs.Accepted.{Numbered, accepted, edits_of, stations_at, na
 use Rattle.history.specs.Awaited.{pending_days}
 use Rattle.history.specs.Events.{Event, Accepted, History}
 use Rattle.office_inputs.specs.Refusals as inputs
-use Rattle.station_inputs.specs.declared.refusals.Refusal.{Refusal}
-use Rattle.station_inputs.specs.declared.refusals.Refusal.TheVariants.{RefReused, HistoryFull, JournalFull}
-use Rattle.station_inputs.specs.declared.refusals.Full.TheVariants as fulls
+use Rattle.office_inputs.specs.declared.refusals.Refusal.{Refusal}
+use Rattle.office_inputs.specs.declared.refusals.Refusal.TheVariants.{RefReused, HistoryFull, JournalFull}
+use Rattle.office_inputs.specs.declared.refusals.Full.TheVariants as fulls
 use Rattle.office_inputs.specs.declared.limits.Limits.{Limits}
 use Rattle.records.specs.declared.payloads.Record.{Record}
 

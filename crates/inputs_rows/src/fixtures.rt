@@ -9,7 +9,7 @@ ghost use Rattle.office_inputs.specs.Stations.{stations_after};
 use civil_days::{read_day, read_instant};
 use curves::Curve;
 use depend::{DayList, reach};
-use edits::{By, Edit, Grade, Measurement, Name, Ref, What};
+use edits::{By, Edit, Estimate, Grade, Measurement, Name, Ref, What};
 use fixed_units::{Day, Flag, Micro, NoMemory, Reading, RoundingArray, Second, Site, Text};
 use office_inputs::{Inputs, Limits, Refusal};
 use ratings::{Period, SharedTable, Table};
@@ -24,6 +24,12 @@ pub const POTOMAC: u64 = 1_646_500;
 
 /// The instant at which a stage is read, and the stage in millionths of a foot.
 pub type Stage = (&'static str, i64);
+
+/// When the first of some readings is read, how many there are, and how many seconds apart: stages of 1 foot.
+pub type Many = (&'static str, u32, u32);
+
+/// The first and the last instant of a span.
+pub type Between = (&'static str, &'static str);
 
 /// The instant of an entry, its amount at every stage in millionths of a foot, and whether it prorates.
 pub type Amount = (&'static str, i64, bool);
@@ -53,6 +59,12 @@ pub enum Sent {
     Setting(u32),
     /// Puts a reading at a station.
     Put(u64, Stage),
+    /// Puts many readings.
+    PutMany(Many),
+    /// Takes out the readings of a span.
+    NoReadings(Between),
+    /// Flags the readings of a span.
+    Flags(Between, Flag),
     /// Puts an entry into the correction set of a number.
     Correction(u8, Amount),
     /// Takes the entry at an instant out of the correction set of a number.
@@ -67,6 +79,10 @@ pub enum Sent {
     Period(Rated),
     /// Takes out the period that begins at an instant.
     NoPeriod(&'static str),
+    /// Puts an estimate of a day, in millionths of a cubic foot per second.
+    Estimate(&'static str, i64),
+    /// Takes out the estimate of a day.
+    NoEstimate(&'static str),
     /// Puts a measurement of a number.
     Measurement(u32),
     /// Takes out the measurement of a number.
@@ -135,6 +151,61 @@ fn put(alloc: Global, stage: Stage) -> Option<What> {
     Some(What::PutReadings {
         readings: ReadingList::from_vec([reading].to_vec(alloc).ok()?),
     })
+}
+
+/// A stage of 1 foot, read so many seconds after another instant.
+fn foot_at(from: Second, seconds: i64) -> Option<Reading> {
+    Some(Reading {
+        at: Second::new(from.get().checked_add(seconds)?)?,
+        raw: Micro::new(1_000_000)?,
+        flag: Flag::Usable,
+    })
+}
+
+fn many_readings(alloc: Global, many: Many) -> Option<Vec<Reading>> {
+    let from = read_instant(many.0.as_bytes())?;
+    let mut readings = Vec::new(alloc);
+    for place in 0..many.1 {
+        let seconds = i64::from(place).checked_mul(i64::from(many.2))?;
+        readings.push(foot_at(from, seconds)?).ok()?;
+    }
+    Some(readings)
+}
+
+fn put_many(alloc: Global, many: Many) -> Option<What> {
+    let readings = many_readings(alloc, many)?;
+    Some(What::PutReadings {
+        readings: ReadingList::from_vec(readings),
+    })
+}
+
+fn no_readings(span: Between) -> Option<What> {
+    Some(What::DropReadings {
+        from: read_instant(span.0.as_bytes())?,
+        to: read_instant(span.1.as_bytes())?,
+    })
+}
+
+fn flags(span: Between, flag: Flag) -> Option<What> {
+    Some(What::FlagReadings {
+        from: read_instant(span.0.as_bytes())?,
+        to: read_instant(span.1.as_bytes())?,
+        flag,
+    })
+}
+
+fn estimate(day: &str, discharge: i64) -> Option<What> {
+    Some(What::PutEstimate {
+        estimate: Estimate {
+            day: read_day(day.as_bytes())?,
+            discharge: Micro::new(discharge)?,
+        },
+    })
+}
+
+fn no_estimate(day: &str) -> Option<What> {
+    let day = read_day(day.as_bytes())?;
+    Some(What::DropEstimate { day })
 }
 
 /// The curve of one point, which has this amount at every stage.
@@ -247,6 +318,9 @@ fn change(alloc: Global, sent: &Sent) -> Option<What> {
         Sent::Addition(_) => addition(alloc),
         Sent::Setting(gap) => setting(alloc, gap),
         Sent::Put(_, stage) => put(alloc, stage),
+        Sent::PutMany(many) => put_many(alloc, many),
+        Sent::NoReadings(span) => no_readings(span),
+        Sent::Flags(span, flag) => flags(span, flag),
         Sent::Correction(set, entry) => correction(set, entry),
         Sent::NoCorrection(set, at) => no_correction(set, at),
         Sent::Shift(entry) => shift(entry),
@@ -254,6 +328,8 @@ fn change(alloc: Global, sent: &Sent) -> Option<What> {
         Sent::Rating(number) => rating(alloc, number),
         Sent::Period(rated) => period(rated),
         Sent::NoPeriod(from) => no_period(from),
+        Sent::Estimate(day, discharge) => estimate(day, discharge),
+        Sent::NoEstimate(day) => no_estimate(day),
         Sent::Measurement(number) => measurement(number),
         Sent::NoMeasurement(number) => Some(What::DropMeasurement { number }),
         Sent::Nth(limited, place) => nth(alloc, limited, place),

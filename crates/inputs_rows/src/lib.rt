@@ -2,6 +2,8 @@
 #![tactic(auto)]
 
 #[cfg(test)]
+mod bulk_rows;
+#[cfg(test)]
 mod entry_rows;
 #[cfg(test)]
 mod fixtures;

@@ -44,7 +44,7 @@ const UNTIL_A_SECOND_LATER: &Sent = &Sent::Period((BEGINNING, Some("2024-01-05T1
 const UNTIL_NEXT_DAY: &Sent = &Sent::Period((BEGINNING, Some("2024-01-06T05:00:00Z"), 1));
 
 /// What was sent, what is sent then, and the days that it changes.
-type Change = (
+pub type Change = (
     &'static str,
     &'static [&'static Sent],
     &'static Sent,
@@ -200,21 +200,25 @@ fn changes(alloc: Global, before: &[&Sent], sent: &Sent, days: &[&str]) -> Optio
     are_changed(alloc, &inputs, &edit, days)
 }
 
-/// The first row in which other days are changed.
-#[test]
-fn an_edit_changes_the_days_near_it(rt: HostRuntime) -> Result<(), &'static str> {
-    for (row, before, sent, days) in &CHANGES {
-        if changes(rt.alloc(), before, sent, days) != Some(true) {
+/// The first of some rows in which other days are changed.
+pub fn change_all(alloc: Global, rows: &[Change]) -> Result<(), &'static str> {
+    for (row, before, sent, days) in rows {
+        if changes(alloc, before, sent, days) != Some(true) {
             return Err(row);
         }
     }
     Ok(())
 }
 
+#[test]
+fn an_edit_changes_the_days_near_it(rt: HostRuntime) -> Result<(), &'static str> {
+    change_all(rt.alloc(), &CHANGES)
+}
+
 /// What was sent, what is sent then, and the first and the last of the days that are compared for it.
 type Compared = (&'static str, &'static [&'static Sent], &'static Sent, Span);
 
-static COMPARED: [Compared; 7] = [
+static COMPARED: [Compared; 9] = [
     ("a station", &[], ADDITION, None),
     (
         "the first reading",
@@ -251,6 +255,18 @@ static COMPARED: [Compared; 7] = [
         &[ADDITION, FIRST, LATE, RATING],
         &Sent::Rating(2),
         None,
+    ),
+    (
+        "the readings of a long span, of which one stands",
+        &[ADDITION, FIRST],
+        &Sent::NoReadings(("2020-01-01T00:00:00Z", "2025-01-01T00:00:00Z")),
+        Some(("2024-01-04", "2024-01-06")),
+    ),
+    (
+        "an estimate",
+        &[ADDITION],
+        &Sent::Estimate("2024-01-05", 60_000),
+        Some(("2024-01-05", "2024-01-05")),
     ),
 ];
 

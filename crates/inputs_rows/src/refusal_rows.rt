@@ -42,16 +42,16 @@ fn told_cause(refusal: Option<Refusal>) -> Option<Cause> {
 /// What is sent, and why it is refused. What is not refused is accepted.
 pub type Row = (&'static Sent, Option<Cause>);
 
-const NO_STATION: Option<Cause> = Some(Cause::NoStation);
+pub const NO_STATION: Option<Cause> = Some(Cause::NoStation);
 
 const STATION_EXISTS: Option<Cause> = Some(Cause::StationExists);
 
 /// A count that would pass its limit.
 const STATIONS: Option<Cause> = Some(Cause::Limit(Which::Stations));
 
-const READINGS: Option<Cause> = Some(Cause::Limit(Which::Readings));
+pub const READINGS: Option<Cause> = Some(Cause::Limit(Which::Readings));
 
-const DAY_READINGS: Option<Cause> = Some(Cause::Limit(Which::DayReadings));
+pub const DAY_READINGS: Option<Cause> = Some(Cause::Limit(Which::DayReadings));
 
 const STATIONS_FIRST: [Row; 6] = [
     (FIRST, NO_STATION),
@@ -97,7 +97,7 @@ const TWO_READINGS_OF_A_DAY: [Row; 7] = [
     (LAST, None),
 ];
 
-const NO_ENTRY: Option<Cause> = Some(Cause::NoEntry);
+pub const NO_ENTRY: Option<Cause> = Some(Cause::NoEntry);
 
 /// A correction and a shift at one instant, and the instant a second later.
 pub const CORRECTION: &Sent = &Sent::Correction(1, (AT, 100_000, false));
@@ -168,7 +168,7 @@ const MEASUREMENTS: [Row; 7] = [
 ];
 
 /// The limits of the stations, of all readings and of the readings of a local day, and what is sent under them.
-type History = (&'static str, u32, u64, u32, &'static [Row]);
+pub type History = (&'static str, u32, u64, u32, &'static [Row]);
 
 static HISTORIES: [History; 7] = [
     (
@@ -247,17 +247,21 @@ fn count_right_under(alloc: Global, limits: Limits, rows: &[Row]) -> usize {
     }
 }
 
-/// The first history with such an edit, and the number of the edit from 0 on.
-#[test]
-fn edits_are_refused_for_the_first_cause(rt: HostRuntime) -> Result<(), (&'static str, usize)> {
-    for (history, stations, readings, day_readings, rows) in &HISTORIES {
+/// The first of some histories with such an edit, and the number of the edit from 0 on.
+pub fn are_right(alloc: Global, histories: &[History]) -> Result<(), (&'static str, usize)> {
+    for (history, stations, readings, day_readings, rows) in histories {
         let limits = limits(*stations, *readings, *day_readings);
-        let right = count_right_under(rt.alloc(), limits, rows);
+        let right = count_right_under(alloc, limits, rows);
         if right < rows.len() {
             return Err((history, right));
         }
     }
     Ok(())
+}
+
+#[test]
+fn edits_are_refused_for_the_first_cause(rt: HostRuntime) -> Result<(), (&'static str, usize)> {
+    are_right(rt.alloc(), &HISTORIES)
 }
 
 /// What stands already, what is sent then, and the start of the period that it overlaps, if there is one.

@@ -9,7 +9,7 @@ use Rattle.history.specs.Events.{History}
 use Rattle.office.specs.Edits.{EditsClaims, TakesClaims}
 use Rattle.office.specs.declared.offices.Accepted.{Accepted}
 use Rattle.office_inputs.specs.Changes.{changed_days}
-use Rattle.station_inputs.specs.declared.refusals.Refusal.{Refusal}
+use Rattle.office_inputs.specs.declared.refusals.Refusal.{Refusal}
 use Rattle.register.specs.Registered.{Registered, KeepsClaims, MarksClaims, is_out}
 
 -- claims that were kept while room was made, and then marked

@@ -19,7 +19,7 @@ use Rattle.journal.proofs.Walks.{goes_past, not_damaged, one_list}
 use Rattle.office.specs.Openings.{IsDamagedFor, IsRefusedAt, MayOpen}
 use Rattle.office.specs.Stops.{IsLeft, IsLeftBefore, IsLeftBetween, MayFollow, in_flight}
 use Rattle.office_inputs.specs.declared.limits.Limits.{Limits}
-use Rattle.station_inputs.specs.declared.refusals.Refusal.{Refusal}
+use Rattle.office_inputs.specs.declared.refusals.Refusal.{Refusal}
 use Rattle.records.specs.declared.payloads.Record.{Record}
 use Rattle.register.specs.Asked.{readmission_refusal, reused}
 

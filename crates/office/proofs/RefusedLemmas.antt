@@ -1,11 +1,8 @@
 -- A history refuses no edit for a fault of the journal.
-use Rattle.std.specs.Prelude.{◌≡◌, ℕ, Bool, true, false, not, ◌&&◌, cond, List, [], Option, Some, None, is_some, IfSome, ℤ}
+use Rattle.std.specs.Prelude.{◌≡◌, ℕ, Bool, true, false, not, ◌&&◌, cond, List, [], Option, Some, None, IfSome, option_map}
 use Rattle.std.proofs.Common.{refl, ap, sym, subst, inl, append-nil}
 use Rattle.edits.specs.Same.{is_same}
-use Rattle.curves.specs.Entries.{stands_at}
 use Rattle.edits.specs.declared.content.Edit.{Edit}
-use Rattle.edits.specs.declared.content.What.{What}
-use Rattle.edits.specs.declared.content.What.TheVariants.{AddStation, SetStation, PutReadings, PutCorrection, DropCorrection, PutShift, DropShift, AddRating, PutPeriod, DropPeriod, PutMeasurement, DropMeasurement}
 use Rattle.history.specs.Accepted.{Numbered, edits_of, named, stations_at}
 use Rattle.history.specs.Events.{History}
 use Rattle.history.specs.Verdicts.{Repeats, Refuses, or_else, refused_by_stations, is_full_of_events, is_full_of_cells, is_journal_full, refused_where, refusal_of, verdict_of_refusal, verdict_by, verdict}
@@ -13,50 +10,23 @@ use Rattle.journal.specs.Writing.{Lists}
 use Rattle.office.specs.Edits.{IsRefusedBy, RefusalCalls, is_fault}
 use Rattle.office_inputs.specs.Refusals as inputs
 use Rattle.office_inputs.specs.Stations.{station_of, stations_after}
-use Rattle.ratings.specs.Numbered.{period_from, rating_of}
-use Rattle.ratings.specs.Periods.{overlap}
-use Rattle.station_inputs.specs.Obstacles.{obstacle, period_obstacle, unless_there}
-use Rattle.station_inputs.specs.Stations.{StationRecord, measurement_of, series_of}
-use Rattle.station_inputs.specs.declared.series.StationSeries.TheVariants.{Correction, Shift}
-use Rattle.station_inputs.specs.declared.refusals.Full.TheVariants as fulls
-use Rattle.station_inputs.specs.declared.refusals.Refusal.{Refusal}
-use Rattle.station_inputs.specs.declared.refusals.Refusal.TheVariants.{RefReused, NoStation, StationExists, Limit, NoRating, RatingExists, PeriodOverlap, NoEntry, HistoryFull, JournalFull, NoMemory, JournalFault}
-use Rattle.station_inputs.specs.declared.refusals.Which.{Which}
+use Rattle.station_inputs.specs.declared.obstacles.Obstacle.{Obstacle}
+use Rattle.station_inputs.specs.declared.obstacles.Obstacle.TheVariants as obstacles
+use Rattle.office_inputs.specs.declared.refusals.Full.TheVariants as fulls
+use Rattle.office_inputs.specs.declared.refusals.Refusal.{Refusal}
+use Rattle.office_inputs.specs.declared.refusals.Refusal.TheVariants.{RefReused, NoStation, StationExists, Limit, NoRating, RatingExists, PeriodOverlap, NoEntry, HistoryFull, JournalFull, NoMemory, JournalFault}
+use Rattle.office_inputs.specs.declared.refusals.Which.{Which}
 
 abbrev NoFault : Option Refusal → Type 0
 NoFault o = IfSome o (λ refusal. is_fault refusal ≡ false)
 
 -- what of a station stands in the way of an edit
-of_drop : (there : Bool) → NoFault (unless_there there)
-of_drop true = tt
-of_drop false = refl
-
-of_rating : (there : Bool) → NoFault (cond there (Some RatingExists) None)
-of_rating true = refl
-of_rating false = tt
-
-of_period : (rated : Bool) (overlapped : Option ℤ) → NoFault (period_obstacle rated overlapped)
-of_period true None = tt
-of_period true (Some from) = refl
-of_period false overlapped = refl
-
-of_station : (s : StationRecord) (what : What) → NoFault (obstacle s what)
-of_station s (AddStation name zone gap stages discharges) = tt
-of_station s (SetStation name gap stages discharges) = tt
-of_station s (PutReadings readings) = tt
-of_station s (PutCorrection set at curve prorate) = tt
-of_station s (DropCorrection set at) = of_drop (stands_at at (series_of (Correction set) s))
-of_station s (PutShift at curve prorate) = tt
-of_station s (DropShift at) = of_drop (stands_at at (series_of Shift s))
-of_station s (AddRating rating table) = of_rating (is_some (rating_of rating s.ratings.tables))
-of_station s (PutPeriod period) = of_period (is_some (rating_of period.rating s.ratings.tables)) (overlap period s.ratings.periods)
-of_station s (DropPeriod from) = of_drop (is_some (period_from from s.ratings.periods))
-of_station s (PutMeasurement measurement) = tt
-of_station s (DropMeasurement number) = of_drop (is_some (measurement_of number s))
-
-of_obstacle : (o : Option StationRecord) (what : What) → NoFault (inputs.obstacle_of o what)
-of_obstacle None what = tt
-of_obstacle (Some s) what = of_station s what
+of_obstacle : (o : Option Obstacle) → NoFault (option_map inputs.refusal_for o)
+of_obstacle None = tt
+of_obstacle (Some obstacles.NoRating) = refl
+of_obstacle (Some obstacles.RatingExists) = refl
+of_obstacle (Some (obstacles.PeriodOverlap from)) = refl
+of_obstacle (Some obstacles.NoEntry) = refl
 
 of_inputs : (o : Option Which) (r : Option Refusal) → NoFault r → NoFault (inputs.refusal_by o r)
 of_inputs None r n = n
@@ -83,8 +53,9 @@ by_stations : (h : History) (edit : Edit) → NoFault (refused_by_stations h edi
 by_stations h edit =
     let stations = stations_at h.events in
     of_stations (not (inputs.adds_station edit.what) && not (inputs.is_kept stations edit.site)) (inputs.adds_station edit.what && inputs.is_kept stations edit.site)
-    (inputs.passed_limit h.limits edit.site stations (stations_after stations edit)) (inputs.obstacle_of (station_of stations edit.site) edit.what)
-    (of_obstacle (station_of stations edit.site) edit.what)
+    (inputs.passed_limit h.limits edit.site stations (stations_after stations edit))
+    (option_map inputs.refusal_for (inputs.obstacle_of (station_of stations edit.site) edit.what))
+    (of_obstacle (inputs.obstacle_of (station_of stations edit.site) edit.what))
 
 by_history : (h : History) (edit : Edit) → NoFault (refusal_of h edit)
 by_history h edit =

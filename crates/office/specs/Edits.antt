@@ -10,8 +10,8 @@ use Rattle.history.specs.declared.recorded.NotKept.TheVariants as not_kept
 use Rattle.journal.specs.Keeping.{AppendCalls}
 use Rattle.journal.specs.declared.keeping.AppendFault.TheVariants as append
 use Rattle.office.specs.declared.offices.Accepted.{Accepted}
-use Rattle.station_inputs.specs.declared.refusals.Refusal.{Refusal}
-use Rattle.station_inputs.specs.declared.refusals.Refusal.TheVariants.{RefReused, NoStation, StationExists, Limit, NoRating, RatingExists, PeriodOverlap, NoEntry, HistoryFull, JournalFull, NoMemory, JournalFault}
+use Rattle.office_inputs.specs.declared.refusals.Refusal.{Refusal}
+use Rattle.office_inputs.specs.declared.refusals.Refusal.TheVariants.{RefReused, NoStation, StationExists, Limit, NoRating, RatingExists, PeriodOverlap, NoEntry, HistoryFull, JournalFull, NoMemory, JournalFault}
 use Rattle.records.specs.declared.payloads.Record.{Record}
 use Rattle.register.specs.Registered.{Registered, KeepsClaims, MarksClaims}
 

@@ -10,7 +10,7 @@ use Rattle.history.specs.Events.{History}
 use Rattle.history.specs.Verdicts.{Accepts, record_of, verdict}
 use Rattle.office.specs.Edits.{Edits, EditsClaims}
 use Rattle.office.specs.declared.offices.Accepted.{Accepted}
-use Rattle.station_inputs.specs.declared.refusals.Refusal.{Refusal}
+use Rattle.office_inputs.specs.declared.refusals.Refusal.{Refusal}
 use Rattle.recompute.specs.Jobs.{DayJob}
 use Rattle.recompute.specs.declared.jobs.Publish.{Publish}
 use Rattle.recompute.specs.declared.jobs.Publish.TheVariants.{Settled, Superseded, Foreign, Published}

@@ -1,5 +1,5 @@
 -- What an edit makes of the stations that are kept, of their records and of how many readings they have.
-use Rattle.std.specs.Prelude.{◌≡◌, ℕ, zero, suc, ◌+◌, ◌<◌, Bool, true, false, cond, List, [], ◌∷◌, ◌++◌, filter, length, slice_set, slice_index_or, option_to_list, option_map, Option, Some, None, ℤ, ◌<ℤ◌, int_lt, All}
+use Rattle.std.specs.Prelude.{◌≡◌, ℕ, zero, suc, ◌+◌, ◌<◌, ◌≤◌, Bool, true, false, cond, List, [], ◌∷◌, ◌++◌, filter, length, slice_set, slice_index_or, option_to_list, option_map, Option, Some, None, ℤ, ◌<ℤ◌, int_lt, All}
 use Rattle.std.proofs.Common.{arith, refl, ap, sym, subst, ◌∙◌}
 use Rattle.std.proofs.lemmas.List.Sums.{sum_by-append, sum_by-cons}
 use Rattle.std.proofs.lemmas.List.Elements.{All-head, All-tail, All-cons, All-nil, All-append, All-filter}
@@ -93,6 +93,21 @@ count_set (k ∷ kept) (suc i) x y l e =
     let b : reading_count (records_of (k ∷ kept)) ≡ length k.station.readings + reading_count (records_of kept) =
     sum_by-cons (λ (s : StationRecord). length s.readings) k.station (records_of kept) in
     omega (arith, h, a, b)
+
+-- and a station has no more of them than all
+pub count_within : (kept : List KeptStation) (i : ℕ) (x : KeptStation) → i < length kept → x ≡ slice_index_or kept i x
+    → length x.station.readings ≤ reading_count (records_of kept)
+count_within [] i x l e = absurd (omega arith)
+count_within (k ∷ kept) zero x l e =
+    let f : length x.station.readings ≡ length k.station.readings = ap (λ (k : KeptStation). length k.station.readings) e in
+    let b : reading_count (records_of (k ∷ kept)) ≡ length k.station.readings + reading_count (records_of kept) =
+    sum_by-cons (λ (s : StationRecord). length s.readings) k.station (records_of kept) in
+    omega (arith, f, b)
+count_within (k ∷ kept) (suc i) x l e =
+    let h = count_within kept i x (omega arith) e in
+    let b : reading_count (records_of (k ∷ kept)) ≡ length k.station.readings + reading_count (records_of kept) =
+    sum_by-cons (λ (s : StationRecord). length s.readings) k.station (records_of kept) in
+    omega (arith, h, b)
 
 -- the records with a station of the site written over
 pub records_set : (kept : List KeptStation) (site : SiteNumber) (i : ℕ) (x y : KeptStation) (change : StationRecord → StationRecord) → StandsAt site i kept

@@ -14,7 +14,7 @@ use Rattle.edits.specs.declared.content.Edit.{Edit}
 use Rattle.station_inputs.specs.Changes.{keeps_station_day}
 use Rattle.station_inputs.specs.KeptStation.{KeptStation}
 use Rattle.station_inputs.specs.Stations.{StationRecord, new_station, station_after, station_day}
-use Rattle.station_inputs.specs.declared.refusals.Refusal.TheVariants.{NoStation, StationExists}
+use Rattle.office_inputs.specs.declared.refusals.Refusal.TheVariants.{NoStation, StationExists}
 use Rattle.station_inputs.proofs.LawLemmas.{same_site}
 use Rattle.office_inputs.specs.Changes.{keeps_day}
 use Rattle.office_inputs.specs.Refusals.{refusal_of, adds_station}

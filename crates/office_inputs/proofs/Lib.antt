@@ -1,5 +1,6 @@
 pub mod ApplyLemmas
 pub mod CountLemmas
+pub mod FewerLemmas
 pub mod InputsLemmas
 pub mod KeepLemmas
 pub mod LawLemmas

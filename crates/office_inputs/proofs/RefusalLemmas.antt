@@ -4,15 +4,16 @@ use Rattle.std.proofs.Common.{refl, ap, sym, ◌∙◌}
 use Rattle.edits.specs.declared.content.Edit.{Edit}
 use Rattle.station_inputs.specs.KeptStation.{KeptStation}
 use Rattle.office_inputs.specs.Kept.{records_of, kept_at}
-use Rattle.office_inputs.specs.Refusals.{refusal_of, adds_station, is_kept, obstacle_of, passed_limit, refusal_by, reading_count}
+use Rattle.office_inputs.specs.Refusals.{refusal_of, adds_station, is_kept, obstacle_of, passed_limit, refusal_by, refusal_for, reading_count}
 use Rattle.station_inputs.specs.Counts.{passes}
 use Rattle.office_inputs.specs.Stations.{station_of, stations_after}
 use Rattle.station_inputs.specs.Stations.{StationRecord}
+use Rattle.station_inputs.specs.declared.obstacles.Obstacle.{Obstacle}
 use Rattle.office_inputs.specs.declared.limits.Limits.{Limits}
-use Rattle.station_inputs.specs.declared.refusals.Refusal.{Refusal}
-use Rattle.station_inputs.specs.declared.refusals.Refusal.TheVariants.{NoStation, StationExists}
-use Rattle.station_inputs.specs.declared.refusals.Which.{Which}
-use Rattle.station_inputs.specs.declared.refusals.Which.TheVariants as counts
+use Rattle.office_inputs.specs.declared.refusals.Refusal.{Refusal}
+use Rattle.office_inputs.specs.declared.refusals.Refusal.TheVariants.{NoStation, StationExists}
+use Rattle.office_inputs.specs.declared.refusals.Which.{Which}
+use Rattle.office_inputs.specs.declared.refusals.Which.TheVariants as counts
 use Rattle.office_inputs.proofs.InputsLemmas.{record_at}
 
 pub some_none : {X : Type 0} {x : X} → Some x ≡ None → ⊥
@@ -22,6 +23,10 @@ some_none e = absurd (cc)
 first_off : (b : Bool) (r : Refusal) (o : Option Refusal) → cond b (Some r) o ≡ None → (b ≡ false) × (o ≡ None)
 first_off true r o e = absurd (some_none e)
 first_off false r o e = (refl, e)
+
+unmapped : (o : Option Obstacle) → option_map refusal_for o ≡ None → o ≡ None
+unmapped None e = refl
+unmapped (Some x) e = absurd (some_none e)
 
 both_none : (limit : Option Which) (obstacle : Option Refusal) → refusal_by limit obstacle ≡ None → (limit ≡ None) × (obstacle ≡ None)
 both_none None obstacle e = (refl, e)
@@ -42,10 +47,10 @@ accepted limits stations edit e =
     let after = stations_after stations edit in
     let a = first_off (not (adds_station edit.what) && not (is_kept stations edit.site)) NoStation _ e in
     let b = first_off (adds_station edit.what && is_kept stations edit.site) StationExists _ a.1 in
-    let w = both_none (passed_limit limits edit.site stations after) (obstacle_of (station_of stations edit.site) edit.what) b.1 in
+    let w = both_none (passed_limit limits edit.site stations after) (option_map refusal_for (obstacle_of (station_of stations edit.site) edit.what)) b.1 in
     let c = first_which _ counts.Stations _ w.0 in
     let d = first_which (passes limits.readings (reading_count stations) (reading_count after)) counts.Readings _ c.1 in
-    record { needed = a.0; new = b.0; readings = d.0; free = w.1 }
+    record { needed = a.0; new = b.0; readings = d.0; free = unmapped (obstacle_of (station_of stations edit.site) edit.what) w.1 }
 
 both_off : (a b : Bool) → (a && b) ≡ false → a ≡ true → b ≡ false
 both_off true b e f = e

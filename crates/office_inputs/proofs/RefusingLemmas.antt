@@ -1,28 +1,32 @@
 -- The refusal of an edit by its kind, and by whether its site is kept.
-use Rattle.std.specs.Prelude.{◌≡◌, Bool, true, false, not, ◌&&◌, cond, List, [], ◌∷◌, length, is_some, Option, Some, None, ℤ}
-use Rattle.std.proofs.Common.{arith, refl, ap, sym, ◌∙◌, inl, inr}
+use Rattle.std.specs.Prelude.{◌≡◌, ℕ, ◌+◌, ◌-◌, ◌≤◌, Bool, true, false, not, ◌&&◌, cond, nat_le, nat_lt, List, length, is_some, option_map, Option, Some, None, ℤ}
+use Rattle.std.proofs.Common.{arith, refl, ap, sym, ◌∙◌}
 use Rattle.std.proofs.lemmas.List.{length-map}
 use Rattle.rising.specs.Lists as lists
-use Rattle.edits.specs.Lawful.{IsLawful}
+use Rattle.edits.specs.declared.content.Edit.{Edit}
 use Rattle.edits.specs.declared.content.What.{What}
 use Rattle.edits.specs.declared.content.What.TheVariants.{AddStation, PutReadings}
-use Rattle.fixed_units.specs.Quantities.{SiteNumber}
-use Rattle.station_inputs.specs.Counts.{passed_count}
-use Rattle.station_inputs.specs.KeptStation.{KeptStation, IsStation}
+use Rattle.fixed_units.specs.Quantities.{SiteNumber, site_place}
+use Rattle.fixed_units.specs.declared.readings.Reading.{Reading}
+use Rattle.readings.specs.Readings.{IsRising, put_all}
+use Rattle.station_inputs.specs.Counts.{passed_count, passes, passes_a_day}
+use Rattle.station_inputs.specs.KeptStation.{KeptStation}
 use Rattle.station_inputs.specs.Obstacles.{obstacle}
-use Rattle.station_inputs.specs.Stations.{StationRecord, new_station, station_after}
-use Rattle.station_inputs.specs.declared.refusals.Refusal.{Refusal}
-use Rattle.station_inputs.specs.declared.refusals.Refusal.TheVariants.{NoStation, StationExists}
-use Rattle.station_inputs.specs.declared.refusals.Which.{Which}
-use Rattle.station_inputs.proofs.CountLemmas.{none_raised}
-use Rattle.office_inputs.specs.Counting.{reading_limit, station_limit, without_station, IsRefusalAt}
+use Rattle.station_inputs.specs.Stations.{StationRecord, new_station, station_after, with_readings}
+use Rattle.office_inputs.specs.declared.refusals.Refusal.{Refusal}
+use Rattle.office_inputs.specs.declared.refusals.Refusal.TheVariants.{Limit, NoStation, StationExists}
+use Rattle.office_inputs.specs.declared.refusals.Which.{Which}
+use Rattle.office_inputs.specs.declared.refusals.Which.TheVariants as counts
+use Rattle.station_inputs.proofs.CountLemmas.{same_count}
+use Rattle.station_inputs.proofs.DayCounts.{added, few_step, free_told}
 use Rattle.office_inputs.specs.Kept.{records_of}
-use Rattle.office_inputs.specs.Refusals.{adds_station, day_count, is_kept, limit_refusal, obstacle_of, passed_limit, reading_count, refusal_by}
+use Rattle.office_inputs.specs.Refusals.{adds_station, is_kept, limit_of, obstacle_of, passed_alone, passed_limit, passes_a_day_of, reading_count, refusal_by, refusal_for, refusal_of}
 use Rattle.office_inputs.specs.Stations.{after_what, place_of, station_of, with_changed}
 use Rattle.office_inputs.specs.declared.limits.Limits.{Limits}
 use Rattle.office_inputs.proofs.ApplyLemmas.{count_put_new}
-use Rattle.office_inputs.proofs.CountLemmas.{added_limit, put_limit, same_limit}
-use Rattle.office_inputs.proofs.KeepLemmas.{only_changed, same_place}
+use Rattle.office_inputs.proofs.CountLemmas.{added_limit, count_put_same, fewer_limit, replaced_at, replaced_limit}
+use Rattle.office_inputs.proofs.FewerLemmas.{fewer}
+use Rattle.office_inputs.proofs.KeepLemmas.{at_place, only_changed, same_place}
 
 -- the refusal of an edit with its parts apart
 abbrev in_order : Bool → Bool → Option Which → Option Refusal → Option Refusal
@@ -34,65 +38,128 @@ order_same adds adds' kept kept' limit limit' free free' d e f g = rw (d, e, f, 
 
 abbrev refusal_parts : Limits → List StationRecord → SiteNumber → What → Option Refusal
 refusal_parts limits stations site what =
-    in_order (adds_station what) (is_kept stations site) (passed_limit limits site stations (after_what site what stations)) (obstacle_of (station_of stations site) what)
+    in_order (adds_station what) (is_kept stations site) (passed_limit limits site stations (after_what site what stations)) (option_map refusal_for (obstacle_of (station_of stations site) what))
 
 -- where nothing stands in the way the limit alone refuses
-by_limit : (o : Option Which) → refusal_by o None ≡ limit_refusal o
+by_limit : (o : Option Which) → refusal_by o None ≡ option_map Limit o
 by_limit None = refl
 by_limit (Some which) = refl
 
--- an edit of a site that is not kept
-absent : (limits : Limits) (stations : List StationRecord) (site : SiteNumber) (what : What) → adds_station what ≡ false → station_of stations site ≡ None
-    → Some NoStation ≡ refusal_parts limits stations site what
-absent limits stations site what a e =
-    sym (order_same (adds_station what) false (is_kept stations site) false (passed_limit limits site stations (after_what site what stations))
-    (passed_limit limits site stations (after_what site what stations)) (obstacle_of (station_of stations site) what) (obstacle_of (station_of stations site) what)
-    a (ap is_some e) refl refl)
+-- an addition of a site that is not kept
+abbrev pub one_more : Bool → Option Refusal
+one_more full = cond full (Some (Limit counts.Stations)) None
 
-pub refused_without : (limits : Limits) (stations : List StationRecord) (site : SiteNumber) (what : What) → lists.IsRising place_of stations
-    → station_of stations site ≡ None → without_station limits (length stations) what ≡ refusal_parts limits stations site what
-refused_without limits stations site (AddStation name zone gap stages discharges) h e =
+one_told : (full : Bool) → refusal_by (cond full (Some counts.Stations) None) None ≡ one_more full
+one_told true = refl
+one_told false = refl
+
+add_parts : (limits : Limits) (stations : List StationRecord) (site : SiteNumber) (name zone : List ℕ) (gap : ℕ) (stages discharges : List ℕ)
+    → lists.IsRising place_of stations → station_of stations site ≡ None
+    → one_more (nat_le limits.stations (length stations)) ≡ refusal_parts limits stations site (AddStation name zone gap stages discharges)
+add_parts limits stations site name zone gap stages discharges h e =
     let n = new_station site name zone gap stages discharges in
     let what = AddStation name zone gap stages discharges in
-    let limit = added_limit limits site stations n h e refl refl (count_put_new n stations h e refl) in
-    sym (by_limit (station_limit limits (length stations)))
-    ∙ sym (order_same true true (is_kept stations site) false (passed_limit limits site stations (lists.put place_of n stations)) (station_limit limits (length stations))
-    (obstacle_of (station_of stations site) what) None refl (ap is_some e) limit (ap (λ (o : Option StationRecord). obstacle_of o what) e))
-refused_without limits stations site what h e = absent limits stations site what refl e
+    let full = nat_le limits.stations (length stations) in
+    let limit = added_limit limits site stations n h e refl (count_put_new n stations h e refl) in
+    sym (one_told full)
+    ∙ sym (order_same true true (is_kept stations site) false (passed_limit limits site stations (lists.put place_of n stations)) (cond full (Some counts.Stations) None)
+    (option_map refusal_for (obstacle_of (station_of stations site) what)) None refl (ap is_some e) limit (ap (λ (o : Option StationRecord). option_map refusal_for (obstacle_of o what)) e))
+
+pub refused_addition : (limits : Limits) (stations : List StationRecord) (edit : Edit) (name zone : List ℕ) (gap : ℕ) (stages discharges : List ℕ)
+    → lists.IsRising place_of stations → station_of stations edit.site ≡ None → edit.what ≡ AddStation name zone gap stages discharges
+    → one_more (nat_le limits.stations (length stations)) ≡ refusal_of limits stations edit
+refused_addition limits stations edit name zone gap stages discharges h e w =
+    add_parts limits stations edit.site name zone gap stages discharges h e ∙ ap (refusal_parts limits stations edit.site) (sym w)
 
 -- an edit of a station that is kept is refused by the limit that it passes, or else by what stands in its way
 by_change : (limits : Limits) (stations : List StationRecord) (site : SiteNumber) (what : What) (s : StationRecord) (limit : Option Which) → adds_station what ≡ false
     → station_of stations site ≡ Some s → passed_limit limits site stations (lists.put place_of (station_after what s) stations) ≡ limit
-    → refusal_by limit (obstacle s what) ≡ refusal_parts limits stations site what
+    → refusal_by limit (option_map refusal_for (obstacle s what)) ≡ refusal_parts limits stations site what
 by_change limits stations site what s limit a e f =
     sym (order_same (adds_station what) false (is_kept stations site) true (passed_limit limits site stations (after_what site what stations)) limit
-    (obstacle_of (station_of stations site) what) (obstacle s what) a (ap is_some e)
+    (option_map refusal_for (obstacle_of (station_of stations site) what)) (option_map refusal_for (obstacle s what)) a (ap is_some e)
     (ap (passed_limit limits site stations) (only_changed site what stations a)
     ∙ ap (λ (o : Option StationRecord). passed_limit limits site stations (with_changed (station_after what) o stations)) e ∙ f)
-    (ap (λ (o : Option StationRecord). obstacle_of o what) e))
+    (ap (λ (o : Option StationRecord). option_map refusal_for (obstacle_of o what)) e))
 
--- one that leaves the readings raises no count but those of the station alone
-by_kind : (limits : Limits) (stations : List StationRecord) (site : SiteNumber) (what : What) (s : StationRecord) → adds_station what ≡ false
-    → lists.IsRising place_of stations → station_of stations site ≡ Some s → length (station_after what s).readings ≡ length s.readings
-    → ((d : ℤ) → day_count (Some (station_after what s)) d ≡ day_count (Some s) d)
-    → refusal_by (passed_count s (station_after what s)) (obstacle s what) ≡ refusal_parts limits stations site what
-by_kind limits stations site what s a h e l d =
-    by_change limits stations site what s (passed_count s (station_after what s)) a e
-    (same_limit limits site stations s (station_after what s) h (e, same_place what s) l d)
+-- one that puts no readings raises no count but those of the station alone
+pub refused_other : (limits : Limits) (stations : List StationRecord) (edit : Edit) (s : StationRecord) (limit : Option Which) → lists.IsRising place_of stations
+    → station_of stations edit.site ≡ Some s → adds_station edit.what ≡ false → ((readings : List Reading) → edit.what ≡ PutReadings readings → ⊥)
+    → limit ≡ option_map limit_of (passed_count s (station_after edit.what s))
+    → refusal_by limit (option_map refusal_for (obstacle s edit.what)) ≡ refusal_of limits stations edit
+refused_other limits stations edit s limit h e a n l =
+    by_change limits stations edit.site edit.what s limit a e
+    (fewer_limit limits edit.site stations s (station_after edit.what s) h (e, same_place edit.what s) (fewer edit.what s n) ∙ sym l)
 
-pub refused_at : (limits : Limits) (stations : List StationRecord) (site : SiteNumber) (what : What) (s : StationRecord) (refusal : Option Refusal)
-    → lists.IsRising place_of stations → station_of stations site ≡ Some s → IsStation s → IsLawful what
-    → IsRefusalAt limits (reading_count stations) s what refusal → refusal ≡ refusal_parts limits stations site what
-refused_at limits stations site (AddStation name zone gap stages discharges) s refusal h e i l r =
-    let k : is_kept stations site ≡ true = ap is_some e in
-    r ∙ rw k refl
-refused_at limits stations site (PutReadings []) s refusal h e i l r = absurd (let m = l.fewest in omega arith)
-refused_at limits stations site (PutReadings (x ∷ y ∷ ys)) s refusal h e i l r = absurd (let m = l.most in omega arith)
-refused_at limits stations site (PutReadings (x ∷ [])) s refusal h e i l r =
-    let limit = reading_limit limits (reading_count stations) s r.0 x in
-    let none = none_raised s (PutReadings (x ∷ [])) i l (inr (inr (inl (x ∷ [], refl)))) in
-    r.3 ∙ sym (by_limit limit) ∙ by_change limits stations site (PutReadings (x ∷ [])) s limit refl e (put_limit limits site stations s r.0 x h e i r.1 r.2 (sym none))
-refused_at limits stations site what s refusal h e i l r = r ∙ by_kind limits stations site what s refl h e refl (λ d. refl)
+-- a station stands at its own site
+pub own_site : (stations : List StationRecord) (site : SiteNumber) (s : StationRecord) → station_of stations site ≡ Some s → station_of stations s.site ≡ Some s
+own_site stations site s e = ap (λ (n : ℤ). lists.at place_of n stations) (at_place place_of (site_place site) stations s e) ∙ e
+
+-- the limit that is passed hangs on the site's place alone
+abbrev limit_at : Limits → List StationRecord → List StationRecord → ℤ → Option Which
+limit_at limits before after n =
+    cond (passes limits.stations (length before) (length after)) (Some counts.Stations)
+    (cond (passes limits.readings (reading_count before) (reading_count after)) (Some counts.Readings)
+    (cond (passes_a_day_of limits.day_readings (lists.at place_of n before) (lists.at place_of n after)) (Some counts.DayReadings)
+    (passed_alone (lists.at place_of n before) (lists.at place_of n after))))
+
+site_same : (limits : Limits) (site other : SiteNumber) (before after : List StationRecord) → site_place site ≡ site_place other
+    → passed_limit limits site before after ≡ passed_limit limits other before after
+site_same limits site other before after e = ap (limit_at limits before after) e
+
+put_parts : (limits : Limits) (stations : List StationRecord) (site : SiteNumber) (s : StationRecord) (rs : List Reading) → station_of stations site ≡ Some s
+    → option_map Limit (passed_limit limits s.site stations (lists.put place_of (with_readings (put_all rs) s) stations)) ≡ refusal_parts limits stations site (PutReadings rs)
+put_parts limits stations site s rs e =
+    let after = lists.put place_of (with_readings (put_all rs) s) stations in
+    sym (by_limit (passed_limit limits s.site stations after))
+    ∙ by_change limits stations site (PutReadings rs) s (passed_limit limits s.site stations after) refl e
+    (sym (site_same limits s.site site stations after (at_place place_of (site_place site) stations s e)))
+
+pub refused_readings : (limits : Limits) (stations : List StationRecord) (edit : Edit) (s : StationRecord) (rs : List Reading) → station_of stations edit.site ≡ Some s
+    → edit.what ≡ PutReadings rs
+    → option_map Limit (passed_limit limits s.site stations (lists.put place_of (with_readings (put_all rs) s) stations)) ≡ refusal_of limits stations edit
+refused_readings limits stations edit s rs e w = put_parts limits stations edit.site s rs e ∙ ap (refusal_parts limits stations edit.site) (sym w)
+
+-- the limit that readings pass: that of all stations' readings, or else that of a local day's
+abbrev pub of_readings : Bool → Bool → Option Refusal
+of_readings all day = cond all (Some (Limit counts.Readings)) (cond day (Some (Limit counts.DayReadings)) None)
+
+readings_step : (all day : Bool) → of_readings all day ≡ option_map Limit (cond all (Some counts.Readings) (cond day (Some counts.DayReadings) None))
+readings_step true day = refl
+readings_step false true = refl
+readings_step false false = refl
+
+pub readings_told : (limits : Limits) (stations : List StationRecord) (s : StationRecord) (rs : List Reading) (all day : Bool) → lists.IsRising place_of stations
+    → station_of stations s.site ≡ Some s
+    → all ≡ passes limits.readings (reading_count stations) (reading_count (lists.put place_of (with_readings (put_all rs) s) stations))
+    → day ≡ passes_a_day limits.day_readings s (with_readings (put_all rs) s)
+    → of_readings all day ≡ option_map Limit (passed_limit limits s.site stations (lists.put place_of (with_readings (put_all rs) s) stations))
+readings_told limits stations s rs all day h e a d =
+    let t = with_readings (put_all rs) s in
+    let alone : option_map limit_of (passed_count s t) ≡ None = ap (option_map limit_of) (same_count s) in
+    readings_step all day
+    ∙ ap (option_map Limit) (sym (replaced_limit limits s.site stations s t all day h (e, refl) (sym a) (sym d)
+    ∙ ap (λ (o : Option Which). cond all (Some counts.Readings) (cond day (Some counts.DayReadings) o)) alone))
+
+sums_swapped : (n m : ℕ) → n + m ≡ m + n
+sums_swapped n m = omega arith
+
+-- whether they pass that of all stations' readings, by those that are new, or by all of them where they are few
+pub new_in_all : (limit free more : ℕ) (stations : List StationRecord) (s : StationRecord) (rs : List Reading) → lists.IsRising place_of stations
+    → station_of stations s.site ≡ Some s → free ≡ limit - reading_count stations → length (put_all rs s.readings) ≡ length s.readings + more
+    → nat_lt free more ≡ passes limit (reading_count stations) (reading_count (lists.put place_of (with_readings (put_all rs) s) stations))
+new_in_all limit free more stations s rs h e f c =
+    let t = with_readings (put_all rs) s in
+    free_told limit free more (reading_count stations) (reading_count (lists.put place_of t stations)) (length s.readings) (length (put_all rs s.readings)) f
+    (count_put_same t s stations h (replaced_at s.site stations s t (e, refl)) ∙ sums_swapped (reading_count stations) (length t.readings)) c
+
+pub few_in_all : (limit free : ℕ) (stations : List StationRecord) (s : StationRecord) (rs : List Reading) → lists.IsRising place_of stations
+    → station_of stations s.site ≡ Some s → IsRising s.readings → free ≡ limit - reading_count stations → length rs ≤ free
+    → nat_lt free (length rs) ≡ passes limit (reading_count stations) (reading_count (lists.put place_of (with_readings (put_all rs) s) stations))
+few_in_all limit free stations s rs h e k f l =
+    let a = added rs s.readings k in
+    few_step free a.more (length rs) (passes limit (reading_count stations) (reading_count (lists.put place_of (with_readings (put_all rs) s) stations))) a.most l
+    (new_in_all limit free a.more stations s rs h e f a.count)
 
 pub records_length : (kept : List KeptStation) → length (records_of kept) ≡ length kept
 records_length kept = length-map kept (λ (k : KeptStation). k.station)

@@ -1,5 +1,4 @@
 pub mod Changes
-pub mod Counting
 pub mod Kept
 pub mod Measured
 pub mod Places

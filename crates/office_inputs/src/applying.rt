@@ -1,6 +1,6 @@
 //! The acceptance of an edit: what is in force changes, and no memory is taken.
 
-ghost use Rattle.std.specs.Prelude.{◌≡◌, ◌+◌, ◌<◌, false, None, [], vec_len, vec_capacity};
+ghost use Rattle.std.specs.Prelude.{◌≡◌, ◌+◌, ◌<◌, ◌≤◌, false, None, [], vec_len, vec_capacity};
 ghost use Rattle.edits.specs.Lawful.{IsLawful};
 ghost use Rattle.office_inputs.specs.Kept.{AreStations, HasRoom, HasRoomThere, IsStagedNew, IsStagedStation, in_force, kept_at, records_of, staged_part};
 ghost use Rattle.office_inputs.specs.Places.{IsPlace, IsPlaceOf};
@@ -69,8 +69,8 @@ impl Inputs {
         ensures limits { self.new.limits ≡ self.old.limits }
     {
         let staged = part_of(self.take_staged());
-        let added = change_in(&mut self.stations, place, what, staged);
-        self.readings += added as u64;
+        let (before, after) = change_in(&mut self.stations, place, what, staged);
+        self.readings = self.readings - before as u64 + after as u64;
     }
 
     /// Takes what is staged.
@@ -108,19 +108,30 @@ fn add_in(stations: &mut Vec<Station>, station: Station)
     put_in(stations, station);
 }
 
-/// Makes an edit of the station at a place, where its site is kept, and tells how many readings more it has then.
-fn change_in(stations: &mut Vec<Station>, place: Place, what: &What, staged: Staged) -> usize
+/// Makes an edit of the station at a place, where its site is kept, and tells how many readings it had before and has then.
+fn change_in(
+    stations: &mut Vec<Station>,
+    place: Place,
+    what: &What,
+    staged: Staged,
+) -> (usize, usize)
     requires kept { AreStations stations.old.items }
     requires place { IsPlace (records_of stations.old.items) place }
     requires lawful { IsLawful what.now }
     requires free { obstacle_of (station_of (records_of stations.old.items) place.site) what.now ≡ None }
     requires room { HasRoomThere stations.old.items staged place.site what.now }
     ensures records { records_of stations.new.items ≡ changed_at place.site (station_after what.now) (records_of stations.old.items) }
-    ensures count { reading_count (records_of stations.new.items) ≡ reading_count (records_of stations.old.items) + result }
+    ensures count { reading_count (records_of stations.new.items) + result.0 ≡ reading_count (records_of stations.old.items) + result.1 }
+    ensures within { result.0 ≤ reading_count (records_of stations.old.items) }
     ensures kept { AreStations stations.new.items }
 {
     match place.index() {
-        Some(index) => stations[index].apply(what, staged),
-        None => 0,
+        Some(index) => {
+            let station = &mut stations[index];
+            let before = station.count();
+            station.apply(what, staged);
+            (before, station.count())
+        }
+        None => (0, 0),
     }
 }

@@ -10,8 +10,8 @@ use Rattle.history.specs.Events.{Event, History}
 use Rattle.history.specs.Verdicts.{Verdict, Repeats, Refuses, Accepts, or_else, refused_by_stations}
 use Rattle.office_inputs.specs.Changes.{changed_days}
 use Rattle.office_inputs.specs.Places.{IsPlaceOf}
-use Rattle.station_inputs.specs.declared.refusals.Refusal.{Refusal}
-use Rattle.station_inputs.specs.declared.refusals.Refusal.TheVariants.{RefReused}
+use Rattle.office_inputs.specs.declared.refusals.Refusal.{Refusal}
+use Rattle.office_inputs.specs.declared.refusals.Refusal.TheVariants.{RefReused}
 use Rattle.recompute.specs.Jobs.{DayJob, outcome_by}
 use Rattle.recompute.specs.declared.jobs.Publish.{Publish}
 use Rattle.records.specs.declared.payloads.Record.{Record}

@@ -16,7 +16,7 @@ use Rattle.day_inputs.specs.Equality.{same_inputs}
 use Rattle.day_inputs.specs.declared.day_inputs.DayInputs.{DayInputs}
 use Rattle.day_inputs.specs.declared.day_inputs.DayInputs.TheVariants.{Empty, Day}
 use Rattle.station_inputs.specs.Series.{corrections_with, entries_in, shifts_with}
-use Rattle.station_inputs.specs.Stations.{StationRecord, series_of, station_day, station_window, day_start, with_series, with_entry, without_entry}
+use Rattle.station_inputs.specs.Stations.{StationRecord, estimated_discharge, series_of, station_day, station_window, day_start, with_series, with_entry, without_entry}
 use Rattle.station_inputs.specs.declared.series.StationSeries.{StationSeries}
 use Rattle.station_inputs.specs.declared.series.StationSeries.TheVariants.{Correction, Shift}
 use Rattle.station_inputs.proofs.SeriesLemmas.{nothing_taken}
@@ -40,7 +40,7 @@ in_shifts Empty = []
 in_shifts (Day p) = p.shifts
 
 -- the inputs of a day that has this window
-module _ (gap : ℕ) (stages discharges : List ℕ) (from until : ℤ) (w : List Reading) (lo hi : ℤ) (ratings : StationRatings) where
+module _ (gap : ℕ) (stages discharges : List ℕ) (from until : ℤ) (w : List Reading) (lo hi : ℤ) (ratings : StationRatings) (estimate : Option ℤ) where
   abbrev carrying : List Entry → List Entry → List Entry → List Entry → DayInputs
   carrying one two three four = Day (record {
     gap = gap;
@@ -54,6 +54,7 @@ module _ (gap : ℕ) (stages discharges : List ℕ) (from until : ℤ) (w : List
     third = three;
     shifts = four;
     periods = rating_parts.parts lo hi ratings.tables ratings.periods;
+    estimate = estimate;
   })
 
   abbrev day_with : Corrections → List Entry → DayInputs
@@ -105,10 +106,10 @@ module _ (gap : ℕ) (stages discharges : List ℕ) (from until : ℤ) (w : List
       (λ d. absurd (let t = (lists_decide (bearing lo hi (entries_in which c sh)) (bearing lo hi (change (entries_in which c sh)))).1 (same_back which change c sh d) in cc)))
 
 -- the inputs of a day by the ends of its window
-with_ends : (gap : ℕ) (stages discharges : List ℕ) (from until : ℤ) (w : List Reading) (lo hi : ℤ) (c : Corrections) (sh : List Entry) (ratings : StationRatings)
-    → window_ends w ≡ Some (lo, hi) → with_window gap stages discharges from until c sh ratings w ≡ day_with gap stages discharges from until w lo hi ratings c sh
-with_ends gap stages discharges from until [] lo hi c sh ratings e = absurd (cc)
-with_ends gap stages discharges from until (r ∷ rs) lo hi c sh ratings e =
+with_ends : (gap : ℕ) (stages discharges : List ℕ) (from until : ℤ) (w : List Reading) (lo hi : ℤ) (c : Corrections) (sh : List Entry) (ratings : StationRatings) (estimate : Option ℤ)
+    → window_ends w ≡ Some (lo, hi) → with_window gap stages discharges from until c sh ratings w estimate ≡ day_with gap stages discharges from until w lo hi ratings estimate c sh
+with_ends gap stages discharges from until [] lo hi c sh ratings estimate e = absurd (cc)
+with_ends gap stages discharges from until (r ∷ rs) lo hi c sh ratings estimate e =
     let p : ◌≡◌ {A = ℤ × ℤ} (r.at, last_at r rs) (lo, hi) = cc in
     let f : lo ≡ r.at = sym (ap (λ (x : ℤ × ℤ). x.0) p) in
     let g : hi ≡ last_at r rs = sym (ap (λ (x : ℤ × ℤ). x.1) p) in
@@ -121,25 +122,27 @@ series_told s day which change lo hi e =
     let a = day_start s day in
     let b = day_start s (day +ℤ pos 1) in
     let w = station_window s day in
+    let q = estimated_discharge s day in
     let c = corrections_with which change s.corrections in
     let sh = shifts_with which change s.shifts in
-    told_step s.gap s.stage_array s.discharge_array a b w lo hi s.ratings which change s.corrections s.shifts
+    told_step s.gap s.stage_array s.discharge_array a b w lo hi s.ratings q which change s.corrections s.shifts
     (same_entries (bearing lo hi (series_of which s)) (bearing lo hi (change (series_of which s)))) refl
-    ∙ ap (λ (x : DayInputs). same_inputs x (day_with s.gap s.stage_array s.discharge_array a b w lo hi s.ratings c sh))
-    (sym (with_ends s.gap s.stage_array s.discharge_array a b w lo hi s.corrections s.shifts s.ratings e))
-    ∙ ap (λ (x : DayInputs). same_inputs (station_day s day) x) (sym (with_ends s.gap s.stage_array s.discharge_array a b w lo hi c sh s.ratings e))
+    ∙ ap (λ (x : DayInputs). same_inputs x (day_with s.gap s.stage_array s.discharge_array a b w lo hi s.ratings q c sh))
+    (sym (with_ends s.gap s.stage_array s.discharge_array a b w lo hi s.corrections s.shifts s.ratings q e))
+    ∙ ap (λ (x : DayInputs). same_inputs (station_day s day) x) (sym (with_ends s.gap s.stage_array s.discharge_array a b w lo hi c sh s.ratings q e))
 
 -- a day without a window keeps them whatever is changed
-empty_step : (gap : ℕ) (stages discharges : List ℕ) (from until : ℤ) (w : List Reading) (c d : Corrections) (sh th : List Entry) (ratings : StationRatings) → window_ends w ≡ None
-    → true ≡ same_inputs (with_window gap stages discharges from until c sh ratings w) (with_window gap stages discharges from until d th ratings w)
-empty_step gap stages discharges from until [] c d sh th ratings e = refl
-empty_step gap stages discharges from until (r ∷ rs) c d sh th ratings e = absurd (cc)
+empty_step : (gap : ℕ) (stages discharges : List ℕ) (from until : ℤ) (w : List Reading) (c d : Corrections) (sh th : List Entry) (ratings : StationRatings) (estimate : Option ℤ) → window_ends w ≡ None
+    → with_window gap stages discharges from until c sh ratings w estimate ≡ with_window gap stages discharges from until d th ratings w estimate
+empty_step gap stages discharges from until [] c d sh th ratings estimate e = refl
+empty_step gap stages discharges from until (r ∷ rs) c d sh th ratings estimate e = absurd (cc)
 
 pub empty_told : (s : StationRecord) (day : ℤ) (which : StationSeries) (change : List Entry → List Entry) → window_ends (station_window s day) ≡ None
     → true ≡ same_inputs (station_day s day) (station_day (with_series which change s) day)
 empty_told s day which change e =
-    empty_step s.gap s.stage_array s.discharge_array (day_start s day) (day_start s (day +ℤ pos 1)) (station_window s day) s.corrections
-    (corrections_with which change s.corrections) s.shifts (shifts_with which change s.shifts) s.ratings e
+    sym (same_of (station_day s day) (station_day (with_series which change s) day)
+    (empty_step s.gap s.stage_array s.discharge_array (day_start s day) (day_start s (day +ℤ pos 1)) (station_window s day) s.corrections
+    (corrections_with which change s.corrections) s.shifts (shifts_with which change s.shifts) s.ratings (estimated_discharge s day) e))
 
 -- the window of a day goes from one instant to another, not before it
 pub record IsSpanned (s : StationRecord) (day lo hi : ℤ) : Type 0 where

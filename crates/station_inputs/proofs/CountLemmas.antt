@@ -1,5 +1,5 @@
 -- How an edit of a station raises its counts that have limits.
-use Rattle.std.specs.Prelude.{◌≡◌, ℕ, zero, suc, ◌+◌, ◌≤◌, Bool, true, false, ◌||◌, cond, ◌⊎◌, nat_lt, List, length, is_some, Option, Some, None, ℤ, pos}
+use Rattle.std.specs.Prelude.{◌≡◌, ℕ, zero, suc, ◌+◌, ◌≤◌, Bool, true, false, not, ◌&&◌, ◌||◌, cond, if◌then◌else◌, ◌⊎◌, nat_le, nat_lt, List, length, is_some, Option, Some, None, ℤ, pos}
 use Rattle.std.specs.List.{list_any}
 use Rattle.std.proofs.Common.{arith, refl, ap, sym, subst, inl, inr, ◌∙◌}
 use Rattle.rising.specs.Lists.{IsRising, at, put, without}
@@ -7,20 +7,22 @@ use Rattle.curves.specs.declared.entries.Entry.{Entry}
 use Rattle.curves.specs.Entries as entries
 use Rattle.edits.specs.Lawful.{IsLawful, IsSetNumber}
 use Rattle.edits.specs.declared.content.What.{What}
-use Rattle.edits.specs.declared.content.What.TheVariants.{AddStation, SetStation, PutReadings, DropCorrection, DropShift, DropPeriod, DropMeasurement}
+use Rattle.edits.specs.declared.content.What.TheVariants.{AddStation, SetStation, PutReadings, DropReadings, FlagReadings, DropCorrection, DropShift, DropPeriod, PutEstimate, DropEstimate, DropMeasurement}
+use Rattle.edits.specs.declared.estimates.Estimate.{Estimate}
 use Rattle.edits.specs.declared.measurements.Measurement.{Measurement}
 use Rattle.fixed_units.specs.Quantities.{IsStamp}
+use Rattle.fixed_units.specs.declared.readings.Flag.{Flag}
 use Rattle.fixed_units.specs.declared.readings.Reading.{Reading}
 use Rattle.ratings.specs.Numbered as numbered
 use Rattle.ratings.specs.Numbered.{Numbered, period_from, rating_of, with_period, with_rating, with_table, without_period}
 use Rattle.ratings.specs.Periods.{begin}
 use Rattle.ratings.specs.Spans.{Span}
-use Rattle.station_inputs.specs.Counts.{passed_count, passes, passes_a_series, raised_past, most_ratings, most_entries, most_periods, most_measurements}
+use Rattle.station_inputs.specs.Counts.{passed_count, passes, passes_a_series, most_ratings, most_entries, most_periods, most_measurements}
 use Rattle.station_inputs.specs.KeptStation.{IsStation}
 use Rattle.station_inputs.specs.Series.{IsOfStation, all_series}
 use Rattle.station_inputs.specs.Stations.{StationRecord, measurement_of, number_of, series_of, station_after, with_entry, with_measurements, with_ratings, with_series, without_entry}
-use Rattle.station_inputs.specs.declared.refusals.Which.{Which}
-use Rattle.station_inputs.specs.declared.refusals.Which.TheVariants as counts
+use Rattle.station_inputs.specs.declared.counts.Counted.{Counted}
+use Rattle.station_inputs.specs.declared.counts.Counted.TheVariants as counts
 use Rattle.station_inputs.specs.declared.series.StationSeries.{StationSeries}
 use Rattle.station_inputs.specs.declared.series.StationSeries.TheVariants.{Correction, Shift}
 use Rattle.station_inputs.proofs.LengthLemmas.{length_put_new, length_put_same, without_shorter}
@@ -36,15 +38,18 @@ not_raised limit n m h = let k = below_not n m h in rw k refl
 below_next : (n : ℕ) → nat_lt n (n + 1) ≡ true
 below_next n = grind arith
 
-next_passes : (limit n m : ℕ) → m ≡ n + 1 → passes limit n m ≡ nat_lt limit (n + 1)
-next_passes limit n m e = rw (e, below_next n) refl
+reached : (limit n : ℕ) → nat_lt limit (n + 1) ≡ nat_le limit n
+reached limit n = grind arith
+
+next_passes : (limit n m : ℕ) → m ≡ n + 1 → passes limit n m ≡ nat_le limit n
+next_passes limit n m e = rw (e, below_next n) (reached limit n)
 
 as_many : (limit n : ℕ) → passes limit n n ≡ false
 as_many limit n = not_raised limit n n (omega arith)
 
--- whether one more passes, where nothing stands in the place of which it is put
+-- whether one more passes, where nothing stands in the place that it is put
 abbrev one_more : ℕ → Bool → ℕ → Bool
-one_more limit there count = cond there false (nat_lt limit (count + 1))
+one_more limit there count = not there && nat_le limit count
 
 module _ {X : Type 0} (place : X → ℤ) where
   put_step : (limit : ℕ) (x : X) (xs : List X) (o : Option X) → IsRising place xs → at place (place x) xs ≡ o
@@ -100,7 +105,7 @@ kept_series s =
     (few s.corrections.first) (few s.corrections.second) (few s.corrections.third) (few s.shifts)
 
 -- the first count that is passed, by the four tests
-abbrev in_order : Bool → Bool → Bool → Bool → Option Which
+abbrev in_order : Bool → Bool → Bool → Bool → Option Counted
 in_order a b c d = cond a (Some counts.Ratings) (cond b (Some counts.Entries) (cond c (Some counts.Periods) (cond d (Some counts.Measurements) None)))
 
 order_same : (a b c d a' b' c' d' : Bool) → a ≡ a' → b ≡ b' → c ≡ c' → d ≡ d' → in_order a b c d ≡ in_order a' b' c' d'
@@ -123,9 +128,9 @@ few_periods s = as_many most_periods (length s.ratings.periods)
 few_measurements : (s : StationRecord) → passes most_measurements (length s.measurements) (length s.measurements) ≡ false
 few_measurements s = as_many most_measurements (length s.measurements)
 
-told : (which : Which) (limit : ℕ) (there : Bool) (count : ℕ) → cond (one_more limit there count) (Some which) None ≡ raised_past which limit there count
-told which limit true count = refl
-told which limit false count = refl
+-- the refusal where one more passes, and none where not
+abbrev pub raised_past : Counted → ℕ → Bool → ℕ → Option Counted
+raised_past which limit there count = if one_more limit there count then Some which else None
 
 -- the count of each kind
 pub rating_count : (s : StationRecord) (x : Numbered) → IsStation s
@@ -134,7 +139,6 @@ rating_count s x k =
     let there = is_some (rating_of x.number s.ratings.tables) in
     by_tests s (with_ratings (with_rating x) s) (one_more most_ratings there (length s.ratings.tables)) false false false
     (table_passes most_ratings x s.ratings.tables (rating_of x.number s.ratings.tables) k.ratings_are.rising refl) (kept_series s) (few_periods s) (few_measurements s)
-    ∙ told counts.Ratings most_ratings there (length s.ratings.tables)
 
 pub entry_count : (s : StationRecord) (which : StationSeries) (entry : Entry) → IsStation s → IsOfStation which
     → passed_count s (with_entry which entry s) ≡ raised_past counts.Entries most_entries (entries.stands_at entry.at (series_of which s)) (length (series_of which s))
@@ -144,7 +148,6 @@ entry_count s which entry k i =
     by_tests s (with_entry which entry s) false (one_more most_entries there (length es)) false false (few_ratings s)
     (one_series s which (entries.put entry) (one_more most_entries there (length es)) i
     (put_passes entries.instant_of most_entries entry es (series_are s which k i).series.rising)) (few_periods s) (few_measurements s)
-    ∙ told counts.Entries most_entries there (length es)
 
 pub period_count : (s : StationRecord) (p : Span) → IsStation s
     → passed_count s (with_ratings (with_period p) s) ≡ raised_past counts.Periods most_periods (is_some (period_from p.from s.ratings.periods)) (length s.ratings.periods)
@@ -152,7 +155,6 @@ period_count s p k =
     let there = is_some (period_from p.from s.ratings.periods) in
     by_tests s (with_ratings (with_period p) s) false false (one_more most_periods there (length s.ratings.periods)) false (few_ratings s) (kept_series s)
     (put_passes begin most_periods p s.ratings.periods k.ratings_are.apart.rising) (few_measurements s)
-    ∙ told counts.Periods most_periods there (length s.ratings.periods)
 
 pub measurement_count : (s : StationRecord) (m : Measurement) → IsStation s
     → passed_count s (with_measurements (put number_of m) s) ≡ raised_past counts.Measurements most_measurements (is_some (measurement_of m.number s)) (length s.measurements)
@@ -160,7 +162,6 @@ measurement_count s m k =
     let there = is_some (measurement_of m.number s) in
     by_tests s (with_measurements (put number_of m) s) false false false (one_more most_measurements there (length s.measurements)) (few_ratings s) (kept_series s)
     (few_periods s) (put_passes number_of most_measurements m s.measurements k.measurements_are.rising)
-    ∙ told counts.Measurements most_measurements there (length s.measurements)
 
 -- what is taken out raises none
 no_entry_count : (s : StationRecord) (which : StationSeries) (at : ℤ) → IsStation s → IsOfStation which → passed_count s (without_entry which at s) ≡ None
@@ -180,7 +181,7 @@ no_measurement_count s number k =
     (without_passes number_of most_measurements (pos number) s.measurements k.measurements_are.rising)
 
 -- nor does what keeps all that is counted
-same_count : (s : StationRecord) → passed_count s s ≡ None
+pub same_count : (s : StationRecord) → passed_count s s ≡ None
 same_count s = by_tests s s false false false false (few_ratings s) (kept_series s) (few_periods s) (few_measurements s)
 
 -- the edits that raise no count are these
@@ -189,10 +190,14 @@ RaisesNone what =
     ((name : List ℕ) × (zone : List ℕ) × (gap : ℕ) × (stages : List ℕ) × (discharges : List ℕ) × (what ≡ AddStation name zone gap stages discharges))
     ⊎ (((name : List ℕ) × (gap : ℕ) × (stages : List ℕ) × (discharges : List ℕ) × (what ≡ SetStation name gap stages discharges))
     ⊎ (((readings : List Reading) × (what ≡ PutReadings readings))
+    ⊎ (((from : ℤ) × (to : ℤ) × (what ≡ DropReadings from to))
+    ⊎ (((from : ℤ) × (to : ℤ) × (flag : Flag) × (what ≡ FlagReadings from to flag))
     ⊎ (((set : ℕ) × (at : ℤ) × (what ≡ DropCorrection set at))
     ⊎ (((at : ℤ) × (what ≡ DropShift at))
     ⊎ (((from : ℤ) × (what ≡ DropPeriod from))
-    ⊎ ((number : ℕ) × (what ≡ DropMeasurement number)))))))
+    ⊎ (((estimate : Estimate) × (what ≡ PutEstimate estimate))
+    ⊎ (((day : ℤ) × (what ≡ DropEstimate day))
+    ⊎ ((number : ℕ) × (what ≡ DropMeasurement number)))))))))))
 
 told_at : (s : StationRecord) (what other : What) → what ≡ other → passed_count s (station_after other s) ≡ None → None ≡ passed_count s (station_after what s)
 told_at s what other e h = sym (ap (λ (w : What). passed_count s (station_after w s)) e ∙ h)
@@ -201,9 +206,13 @@ pub none_raised : (s : StationRecord) (what : What) → IsStation s → IsLawful
 none_raised s what k l (inl p) = told_at s what (AddStation p.0 p.1 p.2 p.3 p.4) p.5 (same_count s)
 none_raised s what k l (inr (inl p)) = told_at s what (SetStation p.0 p.1 p.2 p.3) p.4 (same_count s)
 none_raised s what k l (inr (inr (inl p))) = told_at s what (PutReadings p.0) p.1 (same_count s)
-none_raised s what k l (inr (inr (inr (inl p)))) =
+none_raised s what k l (inr (inr (inr (inl p)))) = told_at s what (DropReadings p.0 p.1) p.2 (same_count s)
+none_raised s what k l (inr (inr (inr (inr (inl p))))) = told_at s what (FlagReadings p.0 p.1 p.2) p.3 (same_count s)
+none_raised s what k l (inr (inr (inr (inr (inr (inl p)))))) =
     let lawful : IsSetNumber p.0 × IsStamp p.1 = subst IsLawful p.2 l in
     told_at s what (DropCorrection p.0 p.1) p.2 (no_entry_count s (Correction p.0) p.1 k lawful.0)
-none_raised s what k l (inr (inr (inr (inr (inl p))))) = told_at s what (DropShift p.0) p.1 (no_entry_count s Shift p.0 k tt)
-none_raised s what k l (inr (inr (inr (inr (inr (inl p)))))) = told_at s what (DropPeriod p.0) p.1 (no_period_count s p.0 k)
-none_raised s what k l (inr (inr (inr (inr (inr (inr p)))))) = told_at s what (DropMeasurement p.0) p.1 (no_measurement_count s p.0 k)
+none_raised s what k l (inr (inr (inr (inr (inr (inr (inl p))))))) = told_at s what (DropShift p.0) p.1 (no_entry_count s Shift p.0 k tt)
+none_raised s what k l (inr (inr (inr (inr (inr (inr (inr (inl p)))))))) = told_at s what (DropPeriod p.0) p.1 (no_period_count s p.0 k)
+none_raised s what k l (inr (inr (inr (inr (inr (inr (inr (inr (inl p))))))))) = told_at s what (PutEstimate p.0) p.1 (same_count s)
+none_raised s what k l (inr (inr (inr (inr (inr (inr (inr (inr (inr (inl p)))))))))) = told_at s what (DropEstimate p.0) p.1 (same_count s)
+none_raised s what k l (inr (inr (inr (inr (inr (inr (inr (inr (inr (inr p)))))))))) = told_at s what (DropMeasurement p.0) p.1 (no_measurement_count s p.0 k)

@@ -1,20 +1,30 @@
 -- A station that is edited keeps to what stations do.
-use Rattle.std.specs.Prelude.{◌≡◌, ℕ, ◌≤◌, List, All, IsSome, Option, Some, None, ℤ, pos}
-use Rattle.std.proofs.Common.{sym, subst}
-use Rattle.edits.specs.Lawful.{IsPutMeasurement, IsPutPeriod, IsPutReading}
+use Rattle.std.specs.Prelude.{◌≡◌, ℕ, ◌≤◌, Bool, not, List, [], ◌∷◌, filter, map, All, IsSome, Option, Some, None, ℤ, ◌<ℤ◌, pos}
+use Rattle.std.proofs.Common.{refl, sym, subst}
+use Rattle.std.proofs.lemmas.List.Elements.{All-filter, All-head, All-map, All-tail, All-weaker}
+use Rattle.std.proofs.lemmas.List.Kept.{AllPairs-cons, AllPairs-filter}
+use Rattle.curves.specs.Corrections.{Corrections, AreCorrections}
+use Rattle.curves.specs.Entries.{IsSeries}
+use Rattle.curves.specs.declared.entries.Entry.{Entry}
+use Rattle.edits.specs.Lawful.{ArePutReadings, IsPutEstimate, IsPutMeasurement, IsPutPeriod, IsPutReading}
+use Rattle.edits.specs.declared.estimates.Estimate.{Estimate}
 use Rattle.edits.specs.declared.measurements.Measurement.{Measurement}
+use Rattle.fixed_units.specs.Quantities.{IsStage, IsStamp}
+use Rattle.fixed_units.specs.declared.readings.Flag.{Flag}
 use Rattle.fixed_units.specs.declared.readings.Reading.{Reading}
 use Rattle.rating_tables.specs.Table.{IsRating}
 use Rattle.ratings.specs.Numbered.{AreRatings, Numbered, StationRatings, rating_of, with_period, with_rating, with_table, without_period}
 use Rattle.ratings.specs.Periods.{begin, overlap}
 use Rattle.ratings.specs.Spans.{Span}
 use Rattle.ratings.proofs.RatingsLemmas.{more_ratings_are, with_period_are, without_period_are}
+use Rattle.readings.specs.Readings as readings
+use Rattle.readings.specs.Readings.{IsRising, flagged_where, instant_of, is_within, put_all, with_flag, without_span}
 use Rattle.rising.specs.Lists.{put, without}
 use Rattle.rising.proofs.Placing.{put_keeps, put_rises, without_keeps, without_rises}
+use Rattle.rising.proofs.Selecting.{AllPairs-head, AllPairs-tail}
 use Rattle.day_inputs.specs.DayInputs.{most_gap}
-use Rattle.station_inputs.specs.KeptStation.{AreMeasurements, AreReadings, IsStation}
-use Rattle.station_inputs.specs.Stations.{StationRecord, described, number_of, with_measurements, with_ratings, with_readings}
-use Rattle.station_inputs.proofs.StationLemmas.{put_all_are}
+use Rattle.station_inputs.specs.KeptStation.{AreAtStamps, AreEstimates, AreMeasurements, AreReadings, IsStation}
+use Rattle.station_inputs.specs.Stations.{StationRecord, described, estimated_day, number_of, with_estimates, with_inputs, with_measurements, with_ratings, with_readings}
 
 -- described anew
 pub described_is : (s : StationRecord) (name : List ℕ) (gap : ℕ) (stages discharges : List ℕ) → IsStation s → 1 ≤ gap → gap ≤ most_gap
@@ -30,50 +40,94 @@ described_is s name gap stages discharges k low high = record {
   ratings_are = k.ratings_are;
   periods_are = k.periods_are;
   measurements_are = k.measurements_are;
+  estimates_are = k.estimates_are;
   readings_are = k.readings_are;
 }
 
--- with readings put
-abbrev reading : StationRecord → List Reading → StationRecord
-reading s new = record { site = s.site; name = s.name; zone = s.zone; gap = s.gap; stage_array = s.stage_array; discharge_array = s.discharge_array; corrections = s.corrections; shifts = s.shifts; ratings = s.ratings; measurements = s.measurements; readings = new }
-
-reading_is : (s : StationRecord) (new : List Reading) → IsStation s → AreReadings new → IsStation (reading s new)
-reading_is s new k h = record {
+-- with other inputs
+pub inputs_are : (sets : Corrections) (shifts : List Entry) (ratings : StationRatings) (measurements : List Measurement) (estimates : List Estimate) (rs : List Reading)
+    (s : StationRecord) → IsStation s → AreCorrections sets → IsSeries shifts → AreAtStamps sets shifts → AreRatings ratings → All IsPutPeriod ratings.periods
+    → AreMeasurements measurements → AreEstimates estimates → AreReadings rs → IsStation (with_inputs sets shifts ratings measurements estimates rs s)
+inputs_are sets shifts ratings measurements estimates rs s k c h t r p m e l = record {
   site_range = k.site_range;
   zone_is = k.zone_is;
   gap_low = k.gap_low;
   gap_high = k.gap_high;
-  corrections_are = k.corrections_are;
-  shifts_are = k.shifts_are;
-  entries_at_stamps = k.entries_at_stamps;
-  ratings_are = k.ratings_are;
-  periods_are = k.periods_are;
-  measurements_are = k.measurements_are;
-  readings_are = h;
+  corrections_are = c;
+  shifts_are = h;
+  entries_at_stamps = t;
+  ratings_are = r;
+  periods_are = p;
+  measurements_are = m;
+  estimates_are = e;
+  readings_are = l;
 }
 
-pub readings_put : (s : StationRecord) (rs new : List Reading) → IsStation s → All IsPutReading rs → new ≡ (with_readings rs s).readings → IsStation (reading s new)
+-- with its readings changed
+abbrev reread : StationRecord → List Reading → StationRecord
+reread s new = with_readings (λ old. new) s
+
+reread_is : (s : StationRecord) (new : List Reading) → IsStation s → AreReadings new → IsStation (reread s new)
+reread_is s new k h =
+    inputs_are s.corrections s.shifts s.ratings s.measurements s.estimates new s k
+    k.corrections_are k.shifts_are k.entries_at_stamps k.ratings_are k.periods_are k.measurements_are k.estimates_are h
+
+put_all_are : (rs xs : List Reading) → All IsPutReading rs → AreReadings xs → AreReadings (put_all rs xs)
+put_all_are [] xs h k = k
+put_all_are (r ∷ rs) xs h k =
+    let own = All-head IsPutReading r rs h in
+    put_all_are rs (readings.put r xs) (All-tail IsPutReading r rs h) (record {
+      rising = put_rises instant_of r xs k.rising;
+      stages = put_keeps instant_of (λ (x : Reading). IsStage x.raw) r xs own.stage k.stages;
+      stamps = put_keeps instant_of (λ (x : Reading). IsStamp x.at) r xs own.stamp k.stamps;
+    })
+
+pub readings_put : (s : StationRecord) (rs new : List Reading) → IsStation s → ArePutReadings rs → new ≡ put_all rs s.readings → IsStation (reread s new)
 readings_put s rs new k h e =
-    subst (λ (x : List Reading). IsStation (reading s x)) (sym e) (reading_is s (with_readings rs s).readings k (put_all_are rs s.readings h k.readings_are))
+    subst (λ (x : List Reading). IsStation (reread s x)) (sym e) (reread_is s (put_all rs s.readings) k (put_all_are rs s.readings h.each k.readings_are))
+
+filtered_are : (p : Reading → Bool) (xs : List Reading) → AreReadings xs → AreReadings (filter p xs)
+filtered_are p xs k = record {
+  rising = AllPairs-filter (λ (x y : Reading). x.at <ℤ y.at) p xs k.rising;
+  stages = All-filter p (λ (x : Reading). IsStage x.raw) xs k.stages;
+  stamps = All-filter p (λ (x : Reading). IsStamp x.at) xs k.stamps;
+}
+
+pub readings_dropped : (s : StationRecord) (from to : ℤ) (new : List Reading) → IsStation s → new ≡ without_span from to s.readings → IsStation (reread s new)
+readings_dropped s from to new k e =
+    subst (λ (x : List Reading). IsStation (reread s x)) (sym e)
+    (reread_is s (without_span from to s.readings) k (filtered_are (λ r. not (is_within from to r)) s.readings k.readings_are))
+
+-- a flag moves no reading
+abbrev later : Reading → Reading → Type 0
+later x y = x.at <ℤ y.at
+
+flagged_rise : (f : Reading → Reading) → ((r : Reading) → (f r).at ≡ r.at) → (xs : List Reading) → IsRising xs → IsRising (map f xs)
+flagged_rise f same [] h = h
+flagged_rise f same (x ∷ xs) h =
+    AllPairs-cons later (f x) (map f xs)
+    (All-map (later (f x)) f xs (All-weaker (later x) (λ y. later (f x) (f y)) (λ y l. rw (same x, same y) l) xs (AllPairs-head later x xs h)))
+    (flagged_rise f same xs (AllPairs-tail later x xs h))
+
+pub readings_flagged : (s : StationRecord) (from to : ℤ) (flag : Flag) (new : List Reading) → IsStation s → new ≡ with_flag from to flag s.readings
+    → IsStation (reread s new)
+readings_flagged s from to flag new k e =
+    let f : Reading → Reading = λ r. flagged_where (is_within from to r) flag r in
+    subst (λ (x : List Reading). IsStation (reread s x)) (sym e)
+    (reread_is s (with_flag from to flag s.readings) k (record {
+      rising = flagged_rise f (λ r. refl) s.readings k.readings_are.rising;
+      stages = All-map (λ (x : Reading). IsStage x.raw) f s.readings k.readings_are.stages;
+      stamps = All-map (λ (x : Reading). IsStamp x.at) f s.readings k.readings_are.stamps;
+    }))
 
 -- with its ratings changed
 abbrev rated : StationRecord → StationRatings → StationRecord
 rated s new = with_ratings (λ old. new) s
 
 rated_is : (s : StationRecord) (new : StationRatings) → IsStation s → AreRatings new → All IsPutPeriod new.periods → IsStation (rated s new)
-rated_is s new k h p = record {
-  site_range = k.site_range;
-  zone_is = k.zone_is;
-  gap_low = k.gap_low;
-  gap_high = k.gap_high;
-  corrections_are = k.corrections_are;
-  shifts_are = k.shifts_are;
-  entries_at_stamps = k.entries_at_stamps;
-  ratings_are = h;
-  periods_are = p;
-  measurements_are = k.measurements_are;
-  readings_are = k.readings_are;
-}
+rated_is s new k h p =
+    inputs_are s.corrections s.shifts new s.measurements s.estimates s.readings s k
+    k.corrections_are k.shifts_are k.entries_at_stamps h p k.measurements_are k.estimates_are k.readings_are
 
 more_tables : (x : Numbered) (ratings : StationRatings) (o : Option Numbered) → o ≡ None → AreRatings ratings → IsRating x.rows
     → AreRatings (record { tables = with_table o x ratings.tables; periods = ratings.periods })
@@ -102,19 +156,9 @@ abbrev measured : StationRecord → List Measurement → StationRecord
 measured s new = with_measurements (λ old. new) s
 
 measured_is : (s : StationRecord) (new : List Measurement) → IsStation s → AreMeasurements new → IsStation (measured s new)
-measured_is s new k h = record {
-  site_range = k.site_range;
-  zone_is = k.zone_is;
-  gap_low = k.gap_low;
-  gap_high = k.gap_high;
-  corrections_are = k.corrections_are;
-  shifts_are = k.shifts_are;
-  entries_at_stamps = k.entries_at_stamps;
-  ratings_are = k.ratings_are;
-  periods_are = k.periods_are;
-  measurements_are = h;
-  readings_are = k.readings_are;
-}
+measured_is s new k h =
+    inputs_are s.corrections s.shifts s.ratings new s.estimates s.readings s k
+    k.corrections_are k.shifts_are k.entries_at_stamps k.ratings_are k.periods_are h k.estimates_are k.readings_are
 
 pub measurement_put : (s : StationRecord) (m : Measurement) (new : List Measurement) → IsStation s → IsPutMeasurement m → new ≡ put number_of m s.measurements
     → IsStation (measured s new)
@@ -132,4 +176,31 @@ measurement_dropped s number new k e =
     (measured_is s (without number_of (pos number) s.measurements) k (record {
       rising = without_rises number_of (pos number) s.measurements k.measurements_are.rising;
       each = without_keeps number_of IsPutMeasurement (pos number) s.measurements k.measurements_are.each;
+    }))
+
+-- with its estimates changed
+abbrev estimated : StationRecord → List Estimate → StationRecord
+estimated s new = with_estimates (λ old. new) s
+
+estimated_is : (s : StationRecord) (new : List Estimate) → IsStation s → AreEstimates new → IsStation (estimated s new)
+estimated_is s new k h =
+    inputs_are s.corrections s.shifts s.ratings s.measurements new s.readings s k
+    k.corrections_are k.shifts_are k.entries_at_stamps k.ratings_are k.periods_are k.measurements_are h k.readings_are
+
+pub estimate_put : (s : StationRecord) (e : Estimate) (new : List Estimate) → IsStation s → IsPutEstimate e → new ≡ put estimated_day e s.estimates
+    → IsStation (estimated s new)
+estimate_put s x new k l e =
+    subst (λ (n : List Estimate). IsStation (estimated s n)) (sym e)
+    (estimated_is s (put estimated_day x s.estimates) k (record {
+      rising = put_rises estimated_day x s.estimates k.estimates_are.rising;
+      each = put_keeps estimated_day IsPutEstimate x s.estimates l k.estimates_are.each;
+    }))
+
+pub estimate_dropped : (s : StationRecord) (day : ℤ) (new : List Estimate) → IsStation s → new ≡ without estimated_day day s.estimates
+    → IsStation (estimated s new)
+estimate_dropped s day new k e =
+    subst (λ (n : List Estimate). IsStation (estimated s n)) (sym e)
+    (estimated_is s (without estimated_day day s.estimates) k (record {
+      rising = without_rises estimated_day day s.estimates k.estimates_are.rising;
+      each = without_keeps estimated_day IsPutEstimate day s.estimates k.estimates_are.each;
     }))

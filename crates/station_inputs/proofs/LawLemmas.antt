@@ -1,13 +1,9 @@
 -- What holds of every edit of a station.
-use Rattle.std.specs.Prelude.{◌≡◌, ℕ, ◌⊎◌, List, [], ◌∷◌, All, Option, Some, None, is_some, IsSome, true, ℤ}
-use Rattle.std.proofs.Common.{refl, ap, sym, subst, inl, inr, ◌∙◌}
-use Rattle.std.proofs.lemmas.List.Elements.{All-head}
-use Rattle.fixed_units.specs.declared.readings.Flag.TheVariants.{Usable}
-use Rattle.fixed_units.specs.declared.readings.Reading.{Reading}
-use Rattle.readings.specs.Readings.{is_used}
-use Rattle.edits.specs.Lawful.{ArePutReadings, IsLawful, IsPutReading}
+use Rattle.std.specs.Prelude.{◌≡◌, ℕ, ◌⊎◌, List, Option, Some, None, is_some, IsSome, true, ℤ}
+use Rattle.std.proofs.Common.{refl, ap, sym, inl, inr, ◌∙◌}
+use Rattle.edits.specs.Lawful.{IsLawful}
 use Rattle.edits.specs.declared.content.What.{What}
-use Rattle.edits.specs.declared.content.What.TheVariants.{AddStation, SetStation, PutReadings, PutCorrection, DropCorrection, PutShift, DropShift, AddRating, PutPeriod, DropPeriod, PutMeasurement, DropMeasurement}
+use Rattle.edits.specs.declared.content.What.TheVariants.{AddStation, SetStation, PutReadings, DropReadings, FlagReadings, PutCorrection, DropCorrection, PutShift, DropShift, AddRating, PutPeriod, DropPeriod, PutEstimate, DropEstimate, PutMeasurement, DropMeasurement}
 use Rattle.curves.specs.Entries.{entry_of}
 use Rattle.edits.specs.declared.measurements.Measurement.{Measurement}
 use Rattle.rating_tables.specs.Table.{Row}
@@ -21,13 +17,15 @@ use Rattle.station_inputs.specs.KeptStation.{IsStation}
 use Rattle.station_inputs.specs.Obstacles.{obstacle, period_obstacle, rating_obstacle}
 use Rattle.station_inputs.specs.Stations.{StationRecord, day_start, station_after, station_day}
 use Rattle.station_inputs.specs.declared.series.StationSeries.TheVariants.{Correction, Shift}
-use Rattle.station_inputs.proofs.KeptLemmas.{described_is, readings_put, rating_added, period_put, period_dropped, measurement_put, measurement_dropped}
+use Rattle.station_inputs.proofs.KeptLemmas.{described_is, readings_put, readings_dropped, readings_flagged, rating_added, period_put, period_dropped, estimate_put, estimate_dropped, measurement_put, measurement_dropped}
 use Rattle.station_inputs.proofs.SeriesLemmas.{put_station, without_station}
 
 pub same_site : (what : What) (s : StationRecord) → (station_after what s).site ≡ s.site
 same_site (AddStation name zone gap stages discharges) s = refl
 same_site (SetStation name gap stages discharges) s = refl
 same_site (PutReadings readings) s = refl
+same_site (DropReadings from to) s = refl
+same_site (FlagReadings from to flag) s = refl
 same_site (PutCorrection set at curve prorate) s = refl
 same_site (DropCorrection set at) s = refl
 same_site (PutShift at curve prorate) s = refl
@@ -35,6 +33,8 @@ same_site (DropShift at) s = refl
 same_site (AddRating rating table) s = refl
 same_site (PutPeriod period) s = refl
 same_site (DropPeriod from) s = refl
+same_site (PutEstimate estimate) s = refl
+same_site (DropEstimate own) s = refl
 same_site (PutMeasurement measurement) s = refl
 same_site (DropMeasurement number) s = refl
 
@@ -42,6 +42,8 @@ pub same_days : (what : What) (s : StationRecord) (day : ℤ) → day_start (sta
 same_days (AddStation name zone gap stages discharges) s day = refl
 same_days (SetStation name gap stages discharges) s day = refl
 same_days (PutReadings readings) s day = refl
+same_days (DropReadings from to) s day = refl
+same_days (FlagReadings from to flag) s day = refl
 same_days (PutCorrection set at curve prorate) s day = refl
 same_days (DropCorrection set at) s day = refl
 same_days (PutShift at curve prorate) s day = refl
@@ -49,6 +51,8 @@ same_days (DropShift at) s day = refl
 same_days (AddRating rating table) s day = refl
 same_days (PutPeriod period) s day = refl
 same_days (DropPeriod from) s day = refl
+same_days (PutEstimate estimate) s day = refl
+same_days (DropEstimate own) s day = refl
 same_days (PutMeasurement measurement) s day = refl
 same_days (DropMeasurement number) s day = refl
 
@@ -65,7 +69,9 @@ is_known (Some kept) (Some at) e = absurd (cc)
 pub still_station : (what : What) (s : StationRecord) → IsStation s → IsLawful what → obstacle s what ≡ None → IsStation (station_after what s)
 still_station (AddStation name zone gap stages discharges) s k l e = k
 still_station (SetStation name gap stages discharges) s k l e = described_is s name gap stages discharges k l.near.low l.near.high
-still_station (PutReadings readings) s k l e = readings_put s readings _ k l.each refl
+still_station (PutReadings readings) s k l e = readings_put s readings _ k l refl
+still_station (DropReadings from to) s k l e = readings_dropped s from to _ k refl
+still_station (FlagReadings from to flag) s k l e = readings_flagged s from to flag _ k refl
 still_station (PutCorrection set at curve prorate) s k l e = put_station s (Correction set) (entry_of at curve prorate) k l.0 l.2 l.1
 still_station (DropCorrection set at) s k l e = without_station s (Correction set) at k l.0
 still_station (PutShift at curve prorate) s k l e = put_station s Shift (entry_of at curve prorate) k tt l.1 l.0
@@ -76,19 +82,10 @@ still_station (PutPeriod period) s k l e =
     let h = is_known (rating_of period.rating s.ratings.tables) (overlap period s.ratings.periods) e in
     period_put s period _ k l h.0 h.1 refl
 still_station (DropPeriod from) s k l e = period_dropped s from _ k refl
+still_station (PutEstimate estimate) s k l e = estimate_put s estimate _ k l refl
+still_station (DropEstimate own) s k l e = estimate_dropped s own _ k refl
 still_station (PutMeasurement measurement) s k l e = measurement_put s measurement _ k l refl
 still_station (DropMeasurement number) s k l e = measurement_dropped s number _ k refl
-
--- the one reading that is put is used
-usable_is : (r : Reading) → r.flag ≡ Usable → is_used r ≡ true
-usable_is r e = rw e refl
-
-pub one_used : (what : What) (readings list : List Reading) (r : Reading) → IsLawful what → what ≡ PutReadings readings → list ≡ readings → list ≡ r ∷ []
-    → is_used r ≡ true
-one_used what readings list r l e f g =
-    let put : ArePutReadings readings = subst IsLawful e l in
-    let each : All IsPutReading (r ∷ []) = subst (λ (rs : List Reading). All IsPutReading rs) (sym f ∙ g) put.each in
-    usable_is r (All-head IsPutReading r [] each).usable
 
 -- the edits that change no inputs of a day are these
 abbrev pub ChangesNone : What → Type 0

@@ -1,5 +1,9 @@
 pub mod BearingDays
 pub mod CountLemmas
+pub mod DayCounts
+pub mod DayWalk
+pub mod EstimateDays
+pub mod HeldInputs
 pub mod KeptLemmas
 pub mod LawLemmas
 pub mod LengthLemmas

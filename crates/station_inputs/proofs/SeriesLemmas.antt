@@ -12,7 +12,8 @@ use Rattle.curves.specs.Entries.{IsSeries, IsRising, instant_of, put, without, s
 use Rattle.edits.specs.Lawful.{IsPutCurve, IsPutPoint, IsSetNumber}
 use Rattle.station_inputs.specs.KeptStation.{IsStation, AreAtStamps}
 use Rattle.station_inputs.specs.Series.{IsOfStation, corrections_with, shifts_with}
-use Rattle.station_inputs.specs.Stations.{StationRecord, series_of, with_series, with_entry, without_entry}
+use Rattle.station_inputs.specs.Stations.{StationRecord, series_of, with_entry, with_inputs, with_series, without_entry}
+use Rattle.station_inputs.proofs.KeptLemmas.{inputs_are}
 use Rattle.station_inputs.specs.declared.series.StationSeries.{StationSeries}
 use Rattle.station_inputs.specs.declared.series.StationSeries.TheVariants.{Correction, Shift}
 
@@ -77,19 +78,8 @@ changed_station : (s : StationRecord) (which : StationSeries) (change : List Ent
     → AreEntries (change (series_of which s)) → IsStation (with_series which change s)
 changed_station s which change k i h =
     let all = changed_are s which change k i h in
-    record {
-      site_range = k.site_range;
-      zone_is = k.zone_is;
-      gap_low = k.gap_low;
-      gap_high = k.gap_high;
-      corrections_are = all.0;
-      shifts_are = all.1.0;
-      entries_at_stamps = all.1.1;
-      ratings_are = k.ratings_are;
-      periods_are = k.periods_are;
-      measurements_are = k.measurements_are;
-      readings_are = k.readings_are;
-    }
+    inputs_are (corrections_with which change s.corrections) (shifts_with which change s.shifts) s.ratings s.measurements s.estimates s.readings s k
+    all.0 all.1.0 all.1.1 k.ratings_are k.periods_are k.measurements_are k.estimates_are k.readings_are
 
 pub put_station : (s : StationRecord) (which : StationSeries) (e : Entry) → IsStation s → IsOfStation which → IsPutCurve e.curve → IsStamp e.at
     → IsStation (with_entry which e s)
@@ -100,10 +90,10 @@ without_station s which at k i = changed_station s which (without at) k i (witho
 
 -- the same with the entries that its sets, or its shifts, end with
 abbrev with_sets : StationRecord → Corrections → StationRecord
-with_sets s sets = record { site = s.site; name = s.name; zone = s.zone; gap = s.gap; stage_array = s.stage_array; discharge_array = s.discharge_array; corrections = sets; shifts = s.shifts; ratings = s.ratings; measurements = s.measurements; readings = s.readings }
+with_sets s sets = with_inputs sets s.shifts s.ratings s.measurements s.estimates s.readings s
 
 abbrev with_shifts : StationRecord → List Entry → StationRecord
-with_shifts s shifts = record { site = s.site; name = s.name; zone = s.zone; gap = s.gap; stage_array = s.stage_array; discharge_array = s.discharge_array; corrections = s.corrections; shifts = shifts; ratings = s.ratings; measurements = s.measurements; readings = s.readings }
+with_shifts s shifts = with_inputs s.corrections shifts s.ratings s.measurements s.estimates s.readings s
 
 pub set_put : (s : StationRecord) (set : ℕ) (e : Entry) (new : Corrections) → IsStation s → IsSetNumber set → IsPutCurve e.curve → IsStamp e.at
     → new ≡ with_set_changed set (put e) s.corrections → IsStation (with_sets s new)

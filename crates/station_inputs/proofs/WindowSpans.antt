@@ -10,14 +10,14 @@ use Rattle.rising.specs.Ends.{first, last}
 use Rattle.rising.proofs.Ends.{last-cons, last-append}
 use Rattle.rising.proofs.Selecting.{AllPairs-head, AllPairs-tail}
 use Rattle.readings.specs.Readings.{IsRising, is_used}
-use Rattle.readings.specs.Window.{inner, of_day, with_neighbours, neighbour_before, neighbour_after}
+use Rattle.readings.specs.Window.{of_day, with_neighbours, window_after, window_before}
 use Rattle.readings.proofs.Selecting.{reverse-cons, reverse-filter}
 use Rattle.readings.proofs.WindowLemmas.{window_rises}
-use Rattle.readings.proofs.WindowParts.{inner_found}
 use Rattle.day_inputs.specs.DayInputs.{ends_of, last_at, window_ends}
 use Rattle.day_inputs.proofs.WindowEnds.{ends_are}
 use Rattle.station_inputs.specs.KeptStation.{IsStation, KeptStation}
 use Rattle.station_inputs.specs.Stations.{StationRecord, day_start, station_window}
+use Rattle.station_inputs.proofs.HeldInputs.{lent_window}
 
 -- the first that is found is the first of those that pass, and the last is the last of them
 first_step : {X : Type 0} (x : X) (b : Bool) (o : Option X) (xs : List X) → o ≡ first xs → cond b (Some x) o ≡ first (cond b (x ∷ xs) xs)
@@ -103,24 +103,15 @@ pub ordered_kept : (kept view : KeptStation) → view ≡ kept → IsStation vie
 ordered_kept kept view e k day span h = span_ordered kept.station day span (subst (λ (s : KeptStation). IsStation s.station) e k) h
 
 -- what a station's readings lend is its window
-abbrev LentWindow : ℤ → ℤ → ℤ → Option Reading → Option Reading → List Reading → Option (ℤ × ℤ) → KeptStation → KeptStation → Type 0
-LentWindow day from until before after rs span view kept =
+abbrev LentSpan : ℤ → ℤ → ℤ → Option Reading → Option Reading → List Reading → Option (ℤ × ℤ) → KeptStation → KeptStation → Type 0
+LentSpan day from until before after rs span view kept =
     from ≡ day_start kept.station day → until ≡ day_start kept.station (day +ℤ pos 1)
-    → before ≡ neighbour_before from (pos (60 * view.station.gap)) view.station.readings → rs ≡ of_day from until view.station.readings
-    → after ≡ neighbour_after until (pos (60 * view.station.gap)) view.station.readings
+    → before ≡ window_before from until (pos (60 * view.station.gap)) view.station.readings → rs ≡ of_day from until view.station.readings
+    → after ≡ window_after from until (pos (60 * view.station.gap)) view.station.readings
     → span ≡ window_ends (with_neighbours before (filter is_used rs) after) → span ≡ window_ends (station_window kept.station day)
 
-lent_here : (s : StationRecord) (day from until : ℤ) (before after : Option Reading) (rs : List Reading) (span : Option (ℤ × ℤ))
-    → from ≡ day_start s day → until ≡ day_start s (day +ℤ pos 1)
-    → before ≡ neighbour_before from (pos (60 * s.gap)) s.readings → rs ≡ of_day from until s.readings
-    → after ≡ neighbour_after until (pos (60 * s.gap)) s.readings
-    → span ≡ window_ends (with_neighbours before (filter is_used rs) after) → span ≡ window_ends (station_window s day)
-lent_here s day from until before after rs span e f b i a t =
-    let used : filter is_used rs ≡ inner from until s.readings = ap (filter is_used) i ∙ inner_found from until s.readings in
-    let w : with_neighbours before (filter is_used rs) after ≡ station_window s day = rw (b, used, a, e, f) refl in
-    t ∙ ap window_ends w
-
 pub lent_span : (kept view : KeptStation) → view ≡ kept → (day from until : ℤ) (before after : Option Reading) (rs : List Reading) (span : Option (ℤ × ℤ))
-    → LentWindow day from until before after rs span view kept
+    → LentSpan day from until before after rs span view kept
 lent_span kept view e day from until before after rs span =
-    subst (λ (k : KeptStation). LentWindow day from until before after rs span view k) e (lent_here view.station day from until before after rs span)
+    subst (λ (k : KeptStation). LentSpan day from until before after rs span view k) e
+    (λ a b c d g t. t ∙ ap window_ends (lent_window view.station day from until before after rs a b c d g))

@@ -1,18 +1,24 @@
 -- The counts of one station that have limits.
 use Rattle.std.specs.List.{list_any}
-use Rattle.std.specs.Prelude.{ℕ, ◌+◌, Bool, ◌&&◌, nat_lt, length, Option, Some, None, if◌then◌else◌}
+use Rattle.std.specs.Prelude.{ℕ, Bool, ◌&&◌, nat_lt, length, Option, Some, None, if◌then◌else◌, ℤ, pos, ◌+ℤ◌}
+use Rattle.fixed_units.specs.Calendar.{calendar}
+use Rattle.readings.specs.Window.{of_day}
 use Rattle.station_inputs.specs.Series.{all_series}
-use Rattle.station_inputs.specs.Stations.{StationRecord, series_of}
-use Rattle.station_inputs.specs.declared.refusals.Which.{Which}
-use Rattle.station_inputs.specs.declared.refusals.Which.TheVariants.{Ratings, Entries, Periods, Measurements}
+use Rattle.station_inputs.specs.Stations.{StationRecord, day_start, series_of}
+use Rattle.station_inputs.specs.declared.counts.Counted.{Counted}
+use Rattle.station_inputs.specs.declared.counts.Counted.TheVariants.{Ratings, Entries, Periods, Measurements}
 
 -- a count that was raised passes its limit
 abbrev pub passes : ℕ → ℕ → ℕ → Bool
 passes limit before after = nat_lt before after && nat_lt limit after
 
--- the count that one more raises past its limit, where nothing stands in the place of which it is put
-abbrev pub raised_past : Which → ℕ → Bool → ℕ → Option Which
-raised_past which limit there count = if there then None else (if nat_lt limit (count + 1) then Some which else None)
+-- the readings of a local day of a station, erroneous ones among them
+abbrev pub day_count : StationRecord → ℤ → ℕ
+day_count s day = length (of_day (day_start s day) (day_start s (day +ℤ pos 1)) s.readings)
+
+-- some local day of the station has too many
+abbrev pub passes_a_day : ℕ → StationRecord → StationRecord → Bool
+passes_a_day limit before after = list_any (λ day. passes limit (day_count before day) (day_count after day)) calendar
 
 -- how many ratings a station has at most, entries in one series, periods, and measurements
 abbrev pub most_ratings : ℕ
@@ -31,8 +37,8 @@ most_measurements = 10_000
 abbrev pub passes_a_series : StationRecord → StationRecord → Bool
 passes_a_series before after = list_any (λ which. passes most_entries (length (series_of which before)) (length (series_of which after))) all_series
 
--- the first count of the station alone that a change of it raises past its limit
-abbrev pub passed_count : StationRecord → StationRecord → Option Which
+-- the first of these counts that a change of the station raises past its limit
+abbrev pub passed_count : StationRecord → StationRecord → Option Counted
 passed_count before after =
     if passes most_ratings (length before.ratings.tables) (length after.ratings.tables) then Some Ratings
     else (if passes_a_series before after then Some Entries

@@ -7,13 +7,14 @@ use Rattle.curves.specs.declared.entries.Entry.{Entry}
 use Rattle.curves.specs.Entries.{IsSeries}
 use Rattle.curves.specs.Corrections.{Corrections, AreCorrections}
 use Rattle.civil_days.specs.Starts.{IsZone}
-use Rattle.edits.specs.Lawful.{IsPutMeasurement, IsPutPeriod}
+use Rattle.edits.specs.Lawful.{IsPutEstimate, IsPutMeasurement, IsPutPeriod}
+use Rattle.edits.specs.declared.estimates.Estimate.{Estimate}
 use Rattle.edits.specs.declared.measurements.Measurement.{Measurement}
 use Rattle.ratings.specs.Numbered.{AreRatings}
 use Rattle.rising.specs.Lists as lists
 use Rattle.day_inputs.specs.DayInputs.{most_gap}
 use Rattle.station_inputs.specs.Series.{SeriesRoom}
-use Rattle.station_inputs.specs.Stations.{StationRecord, number_of}
+use Rattle.station_inputs.specs.Stations.{StationRecord, estimated_day, number_of}
 
 -- readings in force: stages at stamps, rising by instant
 pub record AreReadings (readings : List Reading) : Type 0 where
@@ -33,6 +34,11 @@ pub record AreMeasurements (measurements : List Measurement) : Type 0 where
   pub rising : lists.IsRising number_of measurements
   pub each : All IsPutMeasurement measurements
 
+-- estimates rise by day, and each is one that may be put
+pub record AreEstimates (estimates : List Estimate) : Type 0 where
+  pub rising : lists.IsRising estimated_day estimates
+  pub each : All IsPutEstimate estimates
+
 -- what each station keeps to
 pub record IsStation (station : StationRecord) : Type 0 where
   pub site_range : IsSite station.site
@@ -45,9 +51,11 @@ pub record IsStation (station : StationRecord) : Type 0 where
   pub ratings_are : AreRatings station.ratings
   pub periods_are : All IsPutPeriod station.ratings.periods
   pub measurements_are : AreMeasurements station.measurements
+  pub estimates_are : AreEstimates station.estimates
   pub readings_are : AreReadings station.readings
 
--- a station that is kept, and for how many more readings, entries of each series, ratings, periods and measurements it has room
+-- a station that is kept, and for how many more readings, entries of each series, ratings, periods, measurements and estimates it has
+-- room
 pub record KeptStation : Type 0 where
   pub station : StationRecord
   pub spare : ℕ
@@ -55,3 +63,4 @@ pub record KeptStation : Type 0 where
   pub rating_room : ℕ
   pub period_room : ℕ
   pub measurement_room : ℕ
+  pub estimate_room : ℕ

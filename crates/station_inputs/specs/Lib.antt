@@ -1,5 +1,6 @@
 pub mod Changes
 pub mod Counts
+pub mod Held
 pub mod KeptStation
 pub mod Obstacles
 pub mod Room

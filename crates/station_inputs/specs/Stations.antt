@@ -1,9 +1,9 @@
 -- The inputs in force of one station, what an edit makes of them, and the inputs of its days.
-use Rattle.std.specs.Prelude.{ℕ, ◌*◌, List, [], Option, ℤ, ◌+ℤ◌, pos}
+use Rattle.std.specs.Prelude.{ℕ, ◌*◌, List, [], Option, option_map, ℤ, ◌+ℤ◌, pos}
 use Rattle.fixed_units.specs.Quantities.{SiteNumber}
 use Rattle.fixed_units.specs.declared.readings.Reading.{Reading}
 use Rattle.rising.specs.Lists as lists
-use Rattle.readings.specs.Readings.{put_all}
+use Rattle.readings.specs.Readings.{put_all, with_flag, without_span}
 use Rattle.readings.specs.Window.{window}
 use Rattle.curves.specs.declared.entries.Entry.{Entry}
 use Rattle.curves.specs.Corrections.{Corrections}
@@ -13,7 +13,8 @@ use Rattle.civil_days.specs.Starts.{day_start_of}
 use Rattle.day_inputs.specs.DayInputs.{day_inputs}
 use Rattle.day_inputs.specs.declared.day_inputs.DayInputs.{DayInputs}
 use Rattle.edits.specs.declared.content.What.{What}
-use Rattle.edits.specs.declared.content.What.TheVariants.{AddStation, SetStation, PutReadings, PutCorrection, DropCorrection, PutShift, DropShift, AddRating, PutPeriod, DropPeriod, PutMeasurement, DropMeasurement}
+use Rattle.edits.specs.declared.content.What.TheVariants.{AddStation, SetStation, PutReadings, DropReadings, FlagReadings, PutCorrection, DropCorrection, PutShift, DropShift, AddRating, PutPeriod, DropPeriod, PutEstimate, DropEstimate, PutMeasurement, DropMeasurement}
+use Rattle.edits.specs.declared.estimates.Estimate.{Estimate}
 use Rattle.edits.specs.declared.measurements.Measurement.{Measurement}
 use Rattle.ratings.specs.Numbered.{StationRatings, with_period, with_rating, without_period}
 use Rattle.station_inputs.specs.Series.{corrections_with, entries_in, shifts_with}
@@ -32,9 +33,10 @@ pub record StationRecord : Type 0 where
   pub shifts : List Entry
   pub ratings : StationRatings
   pub measurements : List Measurement
+  pub estimates : List Estimate
   pub readings : List Reading
 
--- a station as it is added: without corrections, shifts, ratings, measurements and readings
+-- a station as it is added: without corrections, shifts, ratings, measurements, estimates and readings
 abbrev pub new_station : SiteNumber → List ℕ → List ℕ → ℕ → List ℕ → List ℕ → StationRecord
 new_station site name zone gap stage_array discharge_array = record {
   site = site;
@@ -47,6 +49,7 @@ new_station site name zone gap stage_array discharge_array = record {
   shifts = [];
   ratings = record { tables = []; periods = [] };
   measurements = [];
+  estimates = [];
   readings = [];
 }
 
@@ -63,24 +66,30 @@ described name gap stage_array discharge_array s = record {
   shifts = s.shifts;
   ratings = s.ratings;
   measurements = s.measurements;
+  estimates = s.estimates;
   readings = s.readings;
 }
 
--- a station with readings put, in place of those at their instants
-abbrev pub with_readings : List Reading → StationRecord → StationRecord
-with_readings readings s = record {
+-- a station with these inputs: its description stays
+abbrev pub with_inputs : Corrections → List Entry → StationRatings → List Measurement → List Estimate → List Reading → StationRecord → StationRecord
+with_inputs corrections shifts ratings measurements estimates readings s = record {
   site = s.site;
   name = s.name;
   zone = s.zone;
   gap = s.gap;
   stage_array = s.stage_array;
   discharge_array = s.discharge_array;
-  corrections = s.corrections;
-  shifts = s.shifts;
-  ratings = s.ratings;
-  measurements = s.measurements;
-  readings = put_all readings s.readings;
+  corrections = corrections;
+  shifts = shifts;
+  ratings = ratings;
+  measurements = measurements;
+  estimates = estimates;
+  readings = readings;
 }
+
+-- a station with its readings changed: all else of it stays
+abbrev pub with_readings : (List Reading → List Reading) → StationRecord → StationRecord
+with_readings change s = with_inputs s.corrections s.shifts s.ratings s.measurements s.estimates (change s.readings) s
 
 -- the entries of a series of a station
 abbrev pub series_of : StationSeries → StationRecord → List Entry
@@ -88,19 +97,8 @@ series_of which s = entries_in which s.corrections s.shifts
 
 -- a station with one of its series changed: all else of it stays
 abbrev pub with_series : StationSeries → (List Entry → List Entry) → StationRecord → StationRecord
-with_series which change s = record {
-  site = s.site;
-  name = s.name;
-  zone = s.zone;
-  gap = s.gap;
-  stage_array = s.stage_array;
-  discharge_array = s.discharge_array;
-  corrections = corrections_with which change s.corrections;
-  shifts = shifts_with which change s.shifts;
-  ratings = s.ratings;
-  measurements = s.measurements;
-  readings = s.readings;
-}
+with_series which change s =
+    with_inputs (corrections_with which change s.corrections) (shifts_with which change s.shifts) s.ratings s.measurements s.estimates s.readings s
 
 -- a station with an entry put into a series, in place of the one at its instant, and with the one at an instant taken out
 abbrev pub with_entry : StationSeries → Entry → StationRecord → StationRecord
@@ -111,19 +109,7 @@ without_entry which at s = with_series which (series.without at) s
 
 -- a station with its ratings changed: all else of it stays
 abbrev pub with_ratings : (StationRatings → StationRatings) → StationRecord → StationRecord
-with_ratings change s = record {
-  site = s.site;
-  name = s.name;
-  zone = s.zone;
-  gap = s.gap;
-  stage_array = s.stage_array;
-  discharge_array = s.discharge_array;
-  corrections = s.corrections;
-  shifts = s.shifts;
-  ratings = change s.ratings;
-  measurements = s.measurements;
-  readings = s.readings;
-}
+with_ratings change s = with_inputs s.corrections s.shifts (change s.ratings) s.measurements s.estimates s.readings s
 
 -- the number that a measurement stands at, and the measurement of a number
 abbrev pub number_of : Measurement → ℤ
@@ -134,25 +120,29 @@ measurement_of number s = lists.at number_of (pos number) s.measurements
 
 -- a station with its measurements changed: all else of it stays
 abbrev pub with_measurements : (List Measurement → List Measurement) → StationRecord → StationRecord
-with_measurements change s = record {
-  site = s.site;
-  name = s.name;
-  zone = s.zone;
-  gap = s.gap;
-  stage_array = s.stage_array;
-  discharge_array = s.discharge_array;
-  corrections = s.corrections;
-  shifts = s.shifts;
-  ratings = s.ratings;
-  measurements = change s.measurements;
-  readings = s.readings;
-}
+with_measurements change s = with_inputs s.corrections s.shifts s.ratings (change s.measurements) s.estimates s.readings s
+
+-- the day that an estimate stands at, the estimate of a day, and what it says
+abbrev pub estimated_day : Estimate → ℤ
+estimated_day estimate = estimate.day
+
+abbrev pub estimate_of : ℤ → StationRecord → Option Estimate
+estimate_of day s = lists.at estimated_day day s.estimates
+
+abbrev pub estimated_discharge : StationRecord → ℤ → Option ℤ
+estimated_discharge s day = option_map (λ (e : Estimate). e.discharge) (estimate_of day s)
+
+-- a station with its estimates changed: all else of it stays
+abbrev pub with_estimates : (List Estimate → List Estimate) → StationRecord → StationRecord
+with_estimates change s = with_inputs s.corrections s.shifts s.ratings s.measurements (change s.estimates) s.readings s
 
 -- a station after an edit of it, which keeps its site and its zone; an addition is none of it
 abbrev pub station_after : What → StationRecord → StationRecord
 station_after (AddStation name zone gap stage_array discharge_array) s = s
 station_after (SetStation name gap stage_array discharge_array) s = described name gap stage_array discharge_array s
-station_after (PutReadings readings) s = with_readings readings s
+station_after (PutReadings readings) s = with_readings (put_all readings) s
+station_after (DropReadings from to) s = with_readings (without_span from to) s
+station_after (FlagReadings from to flag) s = with_readings (with_flag from to flag) s
 station_after (PutCorrection set at curve prorate) s = with_entry (Correction set) (entry_of at curve prorate) s
 station_after (DropCorrection set at) s = without_entry (Correction set) at s
 station_after (PutShift at curve prorate) s = with_entry Shift (entry_of at curve prorate) s
@@ -160,6 +150,8 @@ station_after (DropShift at) s = without_entry Shift at s
 station_after (AddRating rating table) s = with_ratings (with_rating (record { number = rating; rows = table })) s
 station_after (PutPeriod period) s = with_ratings (with_period period) s
 station_after (DropPeriod from) s = with_ratings (without_period from) s
+station_after (PutEstimate estimate) s = with_estimates (lists.put estimated_day estimate) s
+station_after (DropEstimate day) s = with_estimates (lists.without estimated_day day) s
 station_after (PutMeasurement measurement) s = with_measurements (lists.put number_of measurement) s
 station_after (DropMeasurement number) s = with_measurements (lists.without number_of (pos number)) s
 
@@ -173,4 +165,4 @@ station_window s day = window (day_start s day) (day_start s (day +ℤ pos 1)) (
 
 -- the inputs of a day of a station
 abbrev pub station_day : StationRecord → ℤ → DayInputs
-station_day s day = day_inputs s.gap s.stage_array s.discharge_array (day_start s day) (day_start s (day +ℤ pos 1)) s.corrections s.shifts s.ratings s.readings
+station_day s day = day_inputs s.gap s.stage_array s.discharge_array (day_start s day) (day_start s (day +ℤ pos 1)) s.corrections s.shifts s.ratings s.readings (estimated_discharge s day)

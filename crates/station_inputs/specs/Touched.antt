@@ -1,7 +1,7 @@
 -- What an edit touches of a station's days.
 use Rattle.rising.specs.Ends.{first, last}
-use Rattle.std.specs.Prelude.{◌≡◌, Bool, true, false, if◌then◌else◌, List, Option, Some, None, ℤ, ◌≤ℤ◌}
-use Rattle.std.specs.Int.{int_max}
+use Rattle.std.specs.Prelude.{◌≡◌, Bool, true, false, if◌then◌else◌, List, find, is_some, Option, Some, None, ℤ, pos, ◌+ℤ◌, ◌≤ℤ◌}
+use Rattle.std.specs.Int.{int_max, int_min}
 use Rattle.fixed_units.specs.Quantities.{IsDay, last_stamp}
 use Rattle.fixed_units.specs.declared.readings.Reading.{Reading}
 use Rattle.curves.specs.declared.entries.Entry.{Entry}
@@ -9,13 +9,15 @@ use Rattle.curves.specs.Entries.{entry_after, entry_before}
 use Rattle.day_inputs.specs.declared.day_inputs.DayInputs.{DayInputs}
 use Rattle.day_inputs.specs.declared.day_inputs.DayInputs.TheVariants.{Empty, Day}
 use Rattle.edits.specs.declared.content.What.{What}
-use Rattle.edits.specs.declared.content.What.TheVariants.{AddStation, SetStation, PutReadings, PutCorrection, DropCorrection, PutShift, DropShift, AddRating, PutPeriod, DropPeriod, PutMeasurement, DropMeasurement}
+use Rattle.edits.specs.declared.content.What.TheVariants.{AddStation, SetStation, PutReadings, DropReadings, FlagReadings, PutCorrection, DropCorrection, PutShift, DropShift, AddRating, PutPeriod, DropPeriod, PutEstimate, DropEstimate, PutMeasurement, DropMeasurement}
 use Rattle.ratings.specs.Numbered.{period_from}
+use Rattle.readings.specs.Readings.{in_span, is_used}
+use Rattle.readings.specs.Window.{of_day}
 use Rattle.ratings.specs.Spans.{Span}
-use Rattle.station_inputs.specs.Stations.{StationRecord, series_of}
+use Rattle.station_inputs.specs.Stations.{StationRecord, day_start, series_of}
 use Rattle.station_inputs.specs.declared.series.StationSeries.TheVariants.{Correction, Shift}
 use Rattle.station_inputs.specs.declared.touched.Touched.{Touched}
-use Rattle.station_inputs.specs.declared.touched.Touched.TheVariants.{Nothing, Between, Cells}
+use Rattle.station_inputs.specs.declared.touched.Touched.TheVariants.{Nothing, One, Between, Cells}
 
 -- the day has inputs
 abbrev pub has_inputs : DayInputs → Bool
@@ -28,11 +30,25 @@ IsSpanOf filled None = (day : ℤ) → IsDay day → filled day ≡ false
 IsSpanOf filled (Some span) =
     (filled span.0 ≡ true) × (filled span.1 ≡ true) × ((day : ℤ) → IsDay day → filled day ≡ true → (span.0 ≤ℤ day) × (day ≤ℤ span.1))
 
+-- a reading of the day is used
+abbrev pub has_used_reading : StationRecord → ℤ → Bool
+has_used_reading s day = is_some (find is_used (of_day (day_start s day) (day_start s (day +ℤ pos 1)) s.readings))
+
+-- the first and the last day of two spans
+abbrev pub joined_spans : Option (ℤ × ℤ) → Option (ℤ × ℤ) → Option (ℤ × ℤ)
+joined_spans None other = other
+joined_spans (Some span) None = Some span
+joined_spans (Some span) (Some other) = Some (int_min span.0 other.0, int_max span.1 other.1)
+
 -- the time between the first and the last of some readings
 abbrev pub between_readings : Option Reading → Option Reading → Touched
 between_readings None last = Nothing
 between_readings (Some first) None = Nothing
 between_readings (Some first) (Some last) = Between first.at last.at false
+
+-- the time between the first and the last reading of a span, erroneous ones among them
+abbrev pub about_span : ℤ → ℤ → List Reading → Touched
+about_span from to readings = between_readings (first (in_span from to readings)) (last (in_span from to readings))
 
 -- the instants between which the entry at an instant has a say: from the one before it on where that one prorates, else from its
 -- own on, up to the next one, or to the last stamp
@@ -74,6 +90,8 @@ abbrev pub touched_at : StationRecord → What → Touched
 touched_at s (AddStation name zone gap stage_array discharge_array) = Nothing
 touched_at s (SetStation name gap stage_array discharge_array) = Cells
 touched_at s (PutReadings readings) = between_readings (first readings) (last readings)
+touched_at s (DropReadings from to) = about_span from to s.readings
+touched_at s (FlagReadings from to flag) = about_span from to s.readings
 touched_at s (PutCorrection set at curve prorate) = about_entry at (series_of (Correction set) s)
 touched_at s (DropCorrection set at) = about_entry at (series_of (Correction set) s)
 touched_at s (PutShift at curve prorate) = about_entry at (series_of Shift s)
@@ -81,5 +99,7 @@ touched_at s (DropShift at) = about_entry at (series_of Shift s)
 touched_at s (AddRating rating table) = Nothing
 touched_at s (PutPeriod period) = about_period period.from (later_end period (period_from period.from s.ratings.periods))
 touched_at s (DropPeriod from) = about_dropped_period (period_from from s.ratings.periods)
+touched_at s (PutEstimate estimate) = One estimate.day
+touched_at s (DropEstimate day) = One day
 touched_at s (PutMeasurement measurement) = Nothing
 touched_at s (DropMeasurement number) = Nothing

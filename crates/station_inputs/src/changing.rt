@@ -1,6 +1,6 @@
 //! An edit of a station made: first room for it, then the edit itself, which takes no memory.
 
-ghost use Rattle.std.specs.Prelude.{◌≡◌, ◌+◌, None, length, IfOk};
+ghost use Rattle.std.specs.Prelude.{◌≡◌, None, IfOk};
 ghost use Rattle.edits.specs.Lawful.{IsLawful};
 ghost use Rattle.station_inputs.specs.KeptStation.{IsStation};
 ghost use Rattle.station_inputs.specs.Obstacles.{obstacle};
@@ -36,39 +36,40 @@ impl Station {
             }
             What::PutShift { .. } => self.reserve_entry(StationSeries::Shift)?,
             What::PutPeriod { .. } => self.reserve_period()?,
+            What::PutEstimate { .. } => self.reserve_estimate()?,
             What::PutMeasurement { .. } => self.reserve_measurement()?,
             What::AddStation { .. }
+            | What::DropReadings { .. }
+            | What::FlagReadings { .. }
             | What::DropCorrection { .. }
             | What::DropShift { .. }
             | What::DropPeriod { .. }
+            | What::DropEstimate { .. }
             | What::DropMeasurement { .. } => {}
         }
         Ok(Staged::Nothing)
     }
 
-    /// Makes an edit of the station, for which room is made and in whose way nothing stands, and tells how many readings more there are
-    /// then. It takes no memory.
-    pub fn apply(&mut self, what: &What, staged: Staged) -> usize
+    /// Makes an edit of the station, for which room is made and in whose way nothing stands. It takes no memory.
+    pub fn apply(&mut self, what: &What, staged: Staged)
         requires lawful { IsLawful what.now }
         requires free { obstacle self.old.station what.now ≡ None }
         requires room { HasStationRoom self.old staged what.now }
         ensures station { self.new.station ≡ station_after what.now self.old.station }
-        ensures count { length self.new.station.readings ≡ length self.old.station.readings + result }
         ensures kept { IsStation self.new.station }
     {
         let _site = self.site();
         match what {
-            What::PutReadings { readings } => return self.put(readings.as_slice()),
+            What::AddStation { .. } => {}
             What::SetStation {
                 gap,
                 stage_array,
                 discharge_array,
                 ..
-            } => {
-                if let Staged::Named(name) = staged {
-                    self.describe(name, *gap, *stage_array, *discharge_array);
-                }
-            }
+            } => self.describe(staged.into_name(), *gap, *stage_array, *discharge_array),
+            What::PutReadings { readings } => self.put(readings.as_slice()),
+            What::DropReadings { from, to } => self.drop_readings(*from, *to),
+            What::FlagReadings { from, to, flag } => self.flag_readings(*from, *to, *flag),
             What::PutCorrection {
                 set,
                 at,
@@ -86,17 +87,13 @@ impl Station {
                 self.put_entry(StationSeries::Shift, entry)
             }
             What::DropShift { at } => self.drop_entry(StationSeries::Shift, *at),
-            What::AddRating { rating, .. } => {
-                if let Staged::Rated(table) = staged {
-                    self.add_rating(*rating, table);
-                }
-            }
+            What::AddRating { rating, .. } => self.add_rating(*rating, staged.into_table()),
             What::PutPeriod { period } => self.put_period(*period),
             What::DropPeriod { from } => self.drop_period(*from),
+            What::PutEstimate { estimate } => self.put_estimate(*estimate),
+            What::DropEstimate { day } => self.drop_estimate(*day),
             What::PutMeasurement { measurement } => self.put_measurement(*measurement),
             What::DropMeasurement { number } => self.drop_measurement(*number),
-            What::AddStation { .. } => {}
         }
-        0
     }
 }

@@ -1,6 +1,6 @@
 //! Whether an edit keeps the inputs of a day of its station.
 
-ghost use Rattle.std.specs.Prelude.{◌≡◌, ◌+◌, ◌∷◌, [], length};
+ghost use Rattle.std.specs.Prelude.{◌≡◌, ◌+◌};
 ghost use Rattle.edits.specs.Lawful.{IsLawful};
 ghost use Rattle.station_inputs.specs.Changes.{keeps_station_day};
 
@@ -8,7 +8,8 @@ use crate::series::StationSeries;
 use crate::stations::Station;
 use curves::Entry;
 use edits::What;
-use fixed_units::{Day, Reading};
+use fixed_units::Day;
+use readings::Change;
 use std::sync::ledger::Ledger;
 use steps::Steps;
 
@@ -37,7 +38,15 @@ impl Station {
                 ..
             } => self.keeps_day_described(*gap, *stage_array, *discharge_array, day),
             What::PutReadings { readings } => {
-                self.keeps_day_with(only_one(readings.as_slice()), day)
+                self.keeps_day_changed(&Change::Put(readings.as_slice()), day)
+            }
+            What::DropReadings { from, to } => {
+                let (from, to) = (*from, *to);
+                self.keeps_day_changed(&Change::Drop { from, to }, day)
+            }
+            What::FlagReadings { from, to, flag } => {
+                let (from, to, flag) = (*from, *to, *flag);
+                self.keeps_day_changed(&Change::Flag { from, to, flag }, day)
             }
             What::PutCorrection {
                 set,
@@ -58,18 +67,14 @@ impl Station {
             What::DropShift { at } => self.keeps_day_without_entry(StationSeries::Shift, *at, day),
             What::PutPeriod { period } => self.keeps_day_with_period(period, day),
             What::DropPeriod { from } => self.keeps_day_without_period(*from, day),
+            What::PutEstimate { estimate } => {
+                self.keeps_day_estimated(estimate.day, Some(estimate.discharge), day)
+            }
+            What::DropEstimate { day: own } => self.keeps_day_estimated(*own, None, day),
             What::AddStation { .. }
             | What::AddRating { .. }
             | What::PutMeasurement { .. }
             | What::DropMeasurement { .. } => true,
         }
     }
-}
-
-/// The reading of a list of one.
-pub(crate) fn only_one(readings: &[Reading]) -> Reading
-    requires { length readings.now ≡ 1 }
-    ensures { readings.now ≡ result ∷ [] }
-{
-    readings[0]
 }

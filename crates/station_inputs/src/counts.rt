@@ -1,21 +1,28 @@
 //! The counts of one station that have limits, and what stands in the way of an edit.
 
-ghost use Rattle.std.specs.Prelude.{◌≡◌, Bool, is_some, length};
-ghost use Rattle.curves.specs.Entries.{stands_at};
-ghost use Rattle.edits.specs.Lawful.{IsLawful};
-ghost use Rattle.ratings.specs.Numbered.{period_from, rating_of};
+ghost use Rattle.std.specs.Prelude.{◌≡◌, ◌&&◌, not, nat_le, ℤ, ◌+ℤ◌, pos, List, is_some, Some, None, if◌then◌else◌};
+ghost use Rattle.curves.specs.Entries.{entry_of};
+ghost use Rattle.curves.specs.declared.entries.Entry.{Entry};
+ghost use Rattle.edits.specs.Lawful.{ArePutReadings, IsLawful};
+ghost use Rattle.edits.specs.declared.measurements.Measurement.{Measurement};
+ghost use Rattle.rating_tables.specs.Table.{Row};
+ghost use Rattle.ratings.specs.Numbered.{period_from, rating_of, with_period, with_rating};
 ghost use Rattle.ratings.specs.Periods.{overlap};
-ghost use Rattle.station_inputs.specs.Counts.{most_entries, most_measurements, most_periods, most_ratings, passed_count, raised_past};
+ghost use Rattle.readings.specs.Readings.{IsRising, put_all};
+ghost use Rattle.readings.specs.Window.{of_day};
+ghost use Rattle.rising.specs.Lists as lists;
+ghost use Rattle.station_inputs.specs.Counts.{day_count, passed_count, passes, passes_a_day};
 ghost use Rattle.station_inputs.specs.Obstacles.{obstacle, period_obstacle, rating_obstacle, unless_there};
 ghost use Rattle.station_inputs.specs.Series.{IsOfStation};
-ghost use Rattle.station_inputs.specs.Stations.{measurement_of, series_of, station_after};
+ghost use Rattle.station_inputs.specs.Stations.{day_start, measurement_of, number_of, station_after, with_entry, with_measurements, with_ratings, with_readings};
 
-use crate::refusals::{Refusal, Which};
+use crate::obstacles::Obstacle;
 use crate::series::StationSeries;
 use crate::stations::Station;
-use edits::What;
-use fixed_units::Second;
+use edits::{Measurement, What};
+use fixed_units::{Day, Reading, Second};
 use ratings::Period;
+use rising::count_before;
 
 /// How many ratings a station has at most.
 pub const MOST_RATINGS: usize = 200;
@@ -29,10 +36,23 @@ pub const MOST_PERIODS: usize = 1_000;
 /// How many measurements a station has at most.
 pub const MOST_MEASUREMENTS: usize = 10_000;
 
+/// Which count of one station has a limit, in the order in which they are asked.
+#[derive(Clone, Copy, Debug, PartialEq, Eq)]
+pub enum Counted {
+    /// The ratings.
+    Ratings,
+    /// The entries of a correction set, or of the shifts.
+    Entries,
+    /// The periods.
+    Periods,
+    /// The measurements.
+    Measurements,
+}
+
 impl Station {
     /// The first count of the station alone that an edit of it would raise past its limit: a put in place of what stands there raises
     /// none. It takes no memory.
-    pub fn passed_count(&self, what: &What) -> Option<Which>
+    pub fn passed_count(&self, what: &What) -> Option<Counted>
         requires { IsLawful what.now }
         ensures { result ≡ passed_count self.now.station (station_after what.now self.now.station) }
     {
@@ -43,117 +63,184 @@ impl Station {
                 self.entry_limit(StationSeries::Correction(*set), *at)
             }
             What::PutShift { at, .. } => self.entry_limit(StationSeries::Shift, *at),
-            What::PutPeriod { period } => self.period_limit(period.from),
-            What::PutMeasurement { measurement } => self.measurement_limit(measurement.number),
+            What::PutPeriod { period } => self.period_limit(period),
+            What::PutMeasurement { measurement } => self.measurement_limit(measurement),
             What::AddStation { .. }
             | What::SetStation { .. }
             | What::PutReadings { .. }
+            | What::DropReadings { .. }
+            | What::FlagReadings { .. }
             | What::DropCorrection { .. }
             | What::DropShift { .. }
             | What::DropPeriod { .. }
+            | What::PutEstimate { .. }
+            | What::DropEstimate { .. }
             | What::DropMeasurement { .. } => None,
         }
     }
 
     /// What of the station stands in the way of an edit of it, or `None` exactly where nothing does: that nothing stands where a drop
-    /// would take something out, that a rating of the number is there, that the rating of a period is not, or the first period of
-    /// another start that shares an instant with it. It takes no memory.
-    pub fn obstacle(&self, what: &What) -> Option<Refusal>
+    /// would take something out or a flagging would flag it, that a rating of the number is there, that the rating of a period is not,
+    /// or the first period of another start that shares an instant with it. It takes no memory.
+    pub fn obstacle(&self, what: &What) -> Option<Obstacle>
         requires { IsLawful what.now }
         ensures { result ≡ obstacle self.now.station what.now }
     {
         match what {
+            What::DropReadings { from, to } | What::FlagReadings { from, to, .. } => {
+                unless_there(self.readings.count(*from, *to) > 0)
+            }
             What::DropCorrection { set, at } => {
                 unless_there(self.has_entry_at(StationSeries::Correction(*set), *at))
             }
             What::DropShift { at } => unless_there(self.has_entry_at(StationSeries::Shift, *at)),
             What::AddRating { rating, .. } => self.rating_obstacle(*rating),
             What::PutPeriod { period } => self.period_obstacle(period),
-            What::DropPeriod { from } => { unless_there(self.ratings.period_from(*from).is_some()) }
-            What::DropMeasurement { number } => {
-                unless_there(self.measurement(*number).is_some())
-            }
+            What::DropPeriod { from } => unless_there(self.has_period_from(*from)),
+            What::DropEstimate { day } => unless_there(self.estimated_discharge(*day).is_some()),
+            What::DropMeasurement { number } => unless_there(self.has_measurement(*number)),
             What::AddStation { .. }
             | What::SetStation { .. }
             | What::PutReadings { .. }
             | What::PutCorrection { .. }
             | What::PutShift { .. }
+            | What::PutEstimate { .. }
             | What::PutMeasurement { .. } => None,
         }
+    }
+
+    /// Whether putting readings raises the readings of some local day past a limit: those that take another's place count once, and
+    /// erroneous ones count. Of the days only those of the readings are looked at. It takes no memory.
+    pub fn passes_a_day(&self, readings: &[Reading], limit: u32) -> bool
+        requires { ArePutReadings readings.now }
+        ensures { result ≡ passes_a_day limit self.now.station (with_readings (put_all readings.now) self.now.station) }
+    {
+        let _site = self.site();
+        let mut rest = readings;
+        while let Some(first) = rest.first() {
+            let day = self.day_on(first.at);
+            let (_, until) = self.bounds(day);
+            let (part, later) = rest.split_at(count_before(rest, until));
+            if self.passes_on(day, part, limit) {
+                return true;
+            }
+            rest = later;
+        }
+        false
+    }
+
+    /// Whether putting readings of a day raises the readings of that day past a limit.
+    fn passes_on(&self, day: Day, readings: &[Reading], limit: u32) -> bool
+        requires rising { IsRising readings.now }
+        requires within { of_day (day_start self.now.station day) (day_start self.now.station (day +ℤ pos 1)) readings.now ≡ readings.now }
+        ensures { result ≡ passes limit (day_count self.now.station day) (day_count (with_readings (put_all readings.now) self.now.station) day) }
+    {
+        let (from, until) = self.bounds(day);
+        let kept = self.readings.between(from, until);
+        let free = (limit as usize).saturating_sub(kept.left.len() + kept.right.len());
+        readings.len() > free && self.readings.count_new(readings) > free
     }
 }
 
 impl Station {
     /// Whether a rating of a number would raise their count past the limit: it raises nothing where one has the number.
-    fn rating_limit(&self, rating: u32) -> Option<Which>
-        ensures { result ≡ raised_past Which.Ratings most_ratings (is_some (rating_of rating self.now.station.ratings.tables)) (length self.now.station.ratings.tables) }
+    fn rating_limit(&self, rating: u32) -> Option<Counted>
+        ensures { (table : List Row) → result ≡ passed_count self.now.station (with_ratings (with_rating (record { number = rating; rows = table })) self.now.station) }
     {
-        let full = self.ratings.tables().len() >= MOST_RATINGS;
-        if full && self.ratings.rating(rating).is_none() {
-            return Some(Which::Ratings);
-        }
-        None
+        let _site = self.site();
+        let count = self.ratings.tables().len();
+        let there = self.has_rating(rating);
+        limited(Counted::Ratings, count, MOST_RATINGS, there)
     }
 
     /// Whether an entry put at an instant would raise its series past the limit: it raises nothing where one stands there.
-    fn entry_limit(&self, which: StationSeries, at: Second) -> Option<Which>
+    fn entry_limit(&self, which: StationSeries, at: Second) -> Option<Counted>
         requires { IsOfStation which }
-        ensures { result ≡ raised_past Which.Entries most_entries (stands_at at (series_of which self.now.station)) (length (series_of which self.now.station)) }
+        ensures { (entry : Entry) → entry.at ≡ at → result ≡ passed_count self.now.station (with_entry which entry self.now.station) }
     {
-        let full = self.entries(which).len() >= MOST_ENTRIES;
-        if full && !self.has_entry_at(which, at) {
-            return Some(Which::Entries);
-        }
-        None
+        let _site = self.site();
+        let count = self.entries(which).len();
+        let there = self.has_entry_at(which, at);
+        limited(Counted::Entries, count, MOST_ENTRIES, there)
     }
 
-    /// Whether a period put at a start would raise their count past the limit: it raises nothing where one begins there.
-    fn period_limit(&self, from: Second) -> Option<Which>
-        ensures { result ≡ raised_past Which.Periods most_periods (is_some (period_from from self.now.station.ratings.periods)) (length self.now.station.ratings.periods) }
+    /// Whether a period would raise their count past the limit: it raises nothing where one begins at its start.
+    fn period_limit(&self, period: &Period) -> Option<Counted>
+        ensures { result ≡ passed_count self.now.station (with_ratings (with_period period.now) self.now.station) }
     {
-        let full = self.ratings.periods().len() >= MOST_PERIODS;
-        if full && self.ratings.period_from(from).is_none() {
-            return Some(Which::Periods);
-        }
-        None
+        let _site = self.site();
+        let count = self.ratings.periods().len();
+        let there = self.has_period_from(period.from);
+        limited(Counted::Periods, count, MOST_PERIODS, there)
     }
 
-    /// Whether a measurement put under a number would raise their count past the limit: it raises nothing where one has the number.
-    fn measurement_limit(&self, number: u32) -> Option<Which>
-        ensures { result ≡ raised_past Which.Measurements most_measurements (is_some (measurement_of number self.now.station)) (length self.now.station.measurements) }
+    /// Whether a measurement would raise their count past the limit: it raises nothing where one has its number.
+    fn measurement_limit(&self, measurement: &Measurement) -> Option<Counted>
+        ensures { result ≡ passed_count self.now.station (with_measurements (lists.put number_of measurement.now) self.now.station) }
     {
-        let full = self.measurements.as_slice().len() >= MOST_MEASUREMENTS;
-        if full && self.measurement(number).is_none() {
-            return Some(Which::Measurements);
-        }
-        None
+        let _site = self.site();
+        let count = self.measurements.as_slice().len();
+        let there = self.has_measurement(measurement.number);
+        limited(Counted::Measurements, count, MOST_MEASUREMENTS, there)
     }
 
     /// What stands in the way of a rating of a number: that one has it.
-    fn rating_obstacle(&self, rating: u32) -> Option<Refusal>
+    fn rating_obstacle(&self, rating: u32) -> Option<Obstacle>
         ensures { result ≡ rating_obstacle (is_some (rating_of rating self.now.station.ratings.tables)) }
     {
-        if self.ratings.rating(rating).is_some() {
-            return Some(Refusal::RatingExists);
+        if self.has_rating(rating) {
+            return Some(Obstacle::RatingExists);
         }
         None
     }
 
     /// What stands in the way of a period: that its rating is not there, or else the first period of another start that shares an
     /// instant with it.
-    fn period_obstacle(&self, period: &Period) -> Option<Refusal>
+    fn period_obstacle(&self, period: &Period) -> Option<Obstacle>
         ensures { result ≡ period_obstacle (is_some (rating_of period.now.rating self.now.station.ratings.tables)) (overlap period.now self.now.station.ratings.periods) }
     {
-        if self.ratings.rating(period.rating).is_none() {
-            return Some(Refusal::NoRating);
+        if !self.has_rating(period.rating) {
+            return Some(Obstacle::NoRating);
         }
-        Some(Refusal::PeriodOverlap(self.ratings.overlap(period)?))
+        Some(Obstacle::PeriodOverlap(self.ratings.overlap(period)?))
+    }
+
+    /// Whether a rating of a number is there.
+    fn has_rating(&self, rating: u32) -> bool
+        ensures { result ≡ is_some (rating_of rating self.now.station.ratings.tables) }
+    {
+        self.ratings.rating(rating).is_some()
+    }
+
+    /// Whether a period begins at an instant.
+    fn has_period_from(&self, from: Second) -> bool
+        ensures { result ≡ is_some (period_from from self.now.station.ratings.periods) }
+    {
+        self.ratings.period_from(from).is_some()
+    }
+
+    /// Whether a measurement of a number is there.
+    fn has_measurement(&self, number: u32) -> bool
+        ensures { result ≡ is_some (measurement_of number self.now.station) }
+    {
+        self.measurement(number).is_some()
     }
 }
 
-/// What stands in the way of a drop: that nothing is there.
-fn unless_there(there: bool) -> Option<Refusal>
+/// The limit that one more would pass, where nothing stands in the place that it is put.
+fn limited(which: Counted, count: usize, limit: usize, there: bool) -> Option<Counted>
+    ensures { result ≡ (if not there && nat_le limit count then Some which else None) }
+{
+    if !there && count >= limit {
+        Some(which)
+    } else {
+        None
+    }
+}
+
+/// What stands in the way of a drop or a flagging: that nothing is there.
+fn unless_there(there: bool) -> Option<Obstacle>
     ensures { result ≡ unless_there there }
 {
-    if there { None } else { Some(Refusal::NoEntry) }
+    if there { None } else { Some(Obstacle::NoEntry) }
 }

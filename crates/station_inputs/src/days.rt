@@ -1,28 +1,31 @@
 //! The days of a station: their windows and inputs, and what keeps them as they are.
 
-ghost use Rattle.std.specs.Prelude.{◌≡◌, ◌↔◌, ◌&&◌, ◌||◌, not, true, false, ℕ, ℤ, List, [], ◌∷◌, pos, ◌+ℤ◌, ◌≤ℤ◌, filter, find, is_some, reverse, None, Some, IfOk, IfSome, IfNone};
+ghost use Rattle.std.specs.Prelude.{◌≡◌, ◌↔◌, ◌&&◌, ◌||◌, ◌++◌, not, true, ℕ, ℤ, List, pos, ◌+ℤ◌, ◌≤ℤ◌, filter, is_some, is_none, IfOk, IfSome};
+ghost use Rattle.std.specs.Ordering.{int_eq};
 ghost use Rattle.civil_days.specs.Starts.{IsDayLength, IsIn};
 ghost use Rattle.curves.specs.Bearing.{bears_at};
 ghost use Rattle.curves.specs.Entries.{stands_at};
 ghost use Rattle.curves.specs.Equality.{has_entry};
 ghost use Rattle.fixed_units.specs.Quantities.{IsDay, IsStamp};
+ghost use Rattle.readings.specs.Changes.{changed, IsRisingChange};
 ghost use Rattle.readings.specs.Readings.{is_used};
-ghost use Rattle.readings.specs.Window.{of_day, with_neighbours};
+ghost use Rattle.readings.specs.Window.{with_neighbours};
 ghost use Rattle.day_inputs.specs.DayInputs.{AreInputs, window_ends};
-ghost use Rattle.day_inputs.specs.Equality.{same_inputs, has_rules};
+ghost use Rattle.day_inputs.specs.Equality.{same_estimate, same_inputs};
 ghost use Rattle.day_inputs.specs.declared.day_inputs.DayInputs.TheVariants as DayInputs;
+ghost use Rattle.station_inputs.specs.Held.{HasBounds, HasContents, HasSettings};
 ghost use Rattle.station_inputs.specs.Series.{IsOfStation};
 ghost use Rattle.ratings.specs.Numbered.{with_period, without_period};
-ghost use Rattle.station_inputs.specs.Stations.{described, with_ratings, with_readings, with_entry, without_entry, station_day, station_window, day_start};
-ghost use Rattle.station_inputs.specs.Touched.{has_inputs, IsSpanOf};
+ghost use Rattle.station_inputs.specs.Stations.{described, estimated_discharge, with_ratings, with_readings, with_entry, without_entry, station_day, station_window, day_start};
+ghost use Rattle.station_inputs.specs.Touched.{has_inputs, has_used_reading, IsSpanOf, joined_spans};
 
 use crate::series::StationSeries;
 use crate::stations::Station;
 use curves::{Entry, Series, is_found};
-use day_inputs::{DayInputs, DayParts, has_rules, with_window};
-use fixed_units::{Day, Flag, NoMemory, Reading, RoundingArray, Second};
+use day_inputs::{DayInputs, DayParts, Settings, has_rules, with_window};
+use fixed_units::{Day, Micro, NoMemory, Reading, RoundingArray, Second};
 use ratings::Period;
-use readings::{Window, window_is};
+use readings::{Change, Window, window_is};
 use std::alloc::Global;
 
 impl Station {
@@ -47,20 +50,12 @@ impl Station {
     }
 
     /// When a day begins and when it ends.
-    fn bounds(&self, day: Day) -> (Second, Second)
+    pub(crate) fn bounds(&self, day: Day) -> (Second, Second)
         ensures start { result.0 ≡ day_start self.now.station day }
         ensures end { result.1 ≡ day_start self.now.station (day +ℤ pos 1) }
         ensures length { IsDayLength result.0 result.1 }
     {
         self.zone.bounds(day)
-    }
-
-    /// What the readings of a day are, erroneous ones among them.
-    pub fn of_day(&self, day: Day) -> &[Reading]
-        ensures { result.now ≡ of_day (day_start self.now.station day) (day_start self.now.station (day +ℤ pos 1)) self.now.station.readings }
-    {
-        let (from, until) = self.bounds(day);
-        self.readings.window(from, until, self.gap).inner
     }
 
     /// The inputs of a day.
@@ -69,22 +64,26 @@ impl Station {
         ensures kept { IfOk result AreInputs }
     {
         let (from, until) = self.bounds(day);
+        let settings = Settings {
+            gap: self.gap,
+            stage_array: self.stage_array,
+            discharge_array: self.discharge_array,
+        };
         let window = self.readings.to_list(alloc, from, until, self.gap)?;
         with_window(
             alloc,
-            self.gap,
-            self.stage_array,
-            self.discharge_array,
+            settings,
             from,
             until,
             &self.corrections,
             &self.shifts,
             &self.ratings,
             window,
+            self.estimated_discharge(day),
         )
     }
 
-    /// Whether these are the inputs of a day. It takes no memory.
+    /// Whether these are the inputs of a day. It takes no memory, and stops at the first that differs.
     pub fn is_day_inputs(&self, day: Day, other: &DayInputs) -> bool
         ensures { result ≡ true ↔ other.now ≡ station_day self.now.station day }
     {
@@ -94,21 +93,28 @@ impl Station {
         }
     }
 
-    /// Whether a day has these inputs.
+    /// Whether a day has these inputs: no day has any without a window and an estimate.
     fn has_parts(&self, day: Day, parts: &DayParts) -> bool
         ensures { result ≡ true ↔ DayInputs.Day parts.now ≡ station_day self.now.station day }
     {
-        let settings = self.has_settings(parts.gap, parts.stage_array, parts.discharge_array);
-        let bounds = self.has_bounds(day, parts.from, parts.until);
-        let window = self.has_window(day, parts.window.as_slice());
-        are_all(settings, bounds, window, self.has_rules(parts))
+        are_some(parts) && self.has_frame(day, parts) && self.has_contents(day, parts)
     }
 
-    /// Whether the entries and the rating periods of a day are those of the station that count for its window.
-    fn has_rules(&self, parts: &DayParts) -> bool
-        ensures { result ≡ has_rules self.now.station.corrections self.now.station.shifts self.now.station.ratings parts.now }
+    /// Whether a day's inputs have the settings of the station and the bounds of the day.
+    fn has_frame(&self, day: Day, parts: &DayParts) -> bool
+        ensures { result ≡ true ↔ HasSettings self.now.station parts.now × HasBounds self.now.station day parts.now }
     {
-        has_rules(&self.corrections, &self.shifts, &self.ratings, parts)
+        self.has_settings(parts.gap, parts.stage_array, parts.discharge_array)
+            && self.has_bounds(day, parts.from, parts.until)
+    }
+
+    /// Whether a day's inputs have the estimate and the window of the day, and the entries and rating periods that count for it.
+    fn has_contents(&self, day: Day, parts: &DayParts) -> bool
+        ensures { result ≡ true ↔ HasContents self.now.station day parts.now }
+    {
+        self.estimated_discharge(day) == parts.estimate
+            && self.has_window(day, parts.window.as_slice())
+            && has_rules(&self.corrections, &self.shifts, &self.ratings, parts)
     }
 
     /// Whether a day begins and ends there.
@@ -126,13 +132,21 @@ impl Station {
         window_is(&self.readings.window(from, until, self.gap), list)
     }
 
-    /// Whether putting a usable reading keeps the inputs of a day.
-    pub(crate) fn keeps_day_with(&self, reading: Reading, day: Day) -> bool
-        requires used { is_used reading ≡ true }
-        ensures { result ≡ same_inputs (station_day self.now.station day) (station_day (with_readings (reading ∷ []) self.now.station) day) }
+    /// Whether a change of the readings keeps the inputs of a day.
+    pub(crate) fn keeps_day_changed(&self, change: &Change<'_>, day: Day) -> bool
+        requires { IsRisingChange change.now }
+        ensures { result ≡ same_inputs (station_day self.now.station day) (station_day (with_readings (changed change.now) self.now.station) day) }
     {
         let (from, until) = self.bounds(day);
-        !self.readings.alters_window(reading, from, until, self.gap)
+        !self.readings.alters_window(change, from, until, self.gap)
+    }
+
+    /// Whether it keeps the inputs of a day that this is estimated of some day then, or nothing: it is another day, or the same is
+    /// estimated of it already.
+    pub(crate) fn keeps_day_estimated(&self, own: Day, discharge: Option<Micro>, day: Day) -> bool
+        ensures { result ≡ (not (int_eq own day) || same_estimate (estimated_discharge self.now.station day) discharge) }
+    {
+        own != day || self.estimated_discharge(day) == discharge
     }
 
     /// Whether describing the station anew keeps the inputs of a day.
@@ -220,66 +234,71 @@ impl Station {
             && self.discharge_array == discharge_array
     }
 
-    /// Whether a day has a reading that is used, and so has inputs.
+    /// Whether a day has inputs: a reading of it is used, or its discharge is estimated.
     pub(crate) fn is_filled(&self, day: Day) -> bool
         ensures { result ≡ has_inputs (station_day self.now.station day) }
     {
-        has_used(self.of_day(day))
+        let (from, until) = self.bounds(day);
+        self.readings.has_used(from, until) || self.estimated_discharge(day).is_some()
     }
 
     /// The first and the last day that have inputs, or `None` exactly where no day has.
     pub fn used_span(&self) -> Option<(Day, Day)>
         ensures { IsSpanOf (λ day. has_inputs (station_day self.now.station day)) result }
     {
-        match used_ends(self.readings.as_slice()) {
+        joined(self.read_span(), self.estimated_span())
+    }
+
+    /// The first and the last day of which a reading is used.
+    fn read_span(&self) -> Option<(Day, Day)>
+        ensures { IsSpanOf (λ day. has_used_reading self.now.station day) result }
+    {
+        match self.readings.used_ends() {
             Some((first, last)) => Some((self.day_on(first.at), self.day_on(last.at))),
             None => None,
         }
     }
-}
 
-/// Whether all parts of a day's inputs agree.
-fn are_all(settings: bool, bounds: bool, window: bool, rules: bool) -> bool
-    ensures { result ≡ (settings && (bounds && (window && rules))) }
-{
-    settings && bounds && window && rules
-}
-
-/// Whether some reading is used.
-fn has_used(readings: &[Reading]) -> bool
-    ensures { result ≡ is_some (find is_used readings.now) }
-{
-    first_used(readings).is_some()
-}
-
-/// The first reading that is used.
-fn first_used(readings: &[Reading]) -> Option<Reading>
-    ensures { result ≡ find is_used readings.now }
-{
-    readings.iter().copied().find(|reading| is_usable(reading))
-}
-
-/// The last reading that is used.
-fn last_used(readings: &[Reading]) -> Option<Reading>
-    ensures { result ≡ find is_used (reverse readings.now) }
-{
-    readings
-        .iter()
-        .rev()
-        .copied()
-        .find(|reading| is_usable(reading))
-}
-
-/// The first and the last reading that are used, or `None` exactly where none is.
-fn used_ends(readings: &[Reading]) -> Option<(Reading, Reading)>
-    ensures none { IfNone result (find is_used readings.now ≡ None) }
-    ensures some { IfSome result (λ ends. (find is_used readings.now ≡ Some ends.0) × (find is_used (reverse readings.now) ≡ Some ends.1)) }
-{
-    let first = first_used(readings)?;
-    match last_used(readings) {
-        Some(last) => Some((first, last)),
-        None => unreachable!(),
+    /// The first and the last day of which an estimate stands.
+    fn estimated_span(&self) -> Option<(Day, Day)>
+        ensures { IsSpanOf (λ day. is_some (estimated_discharge self.now.station day)) result }
+    {
+        let estimates = self.estimates.as_slice();
+        match (estimates.first(), estimates.last()) {
+            (Some(first), Some(last)) => Some((first.day, last.day)),
+            _ => None,
+        }
     }
+}
+
+/// The least and the greatest day of two spans.
+fn joined(span: Option<(Day, Day)>, other: Option<(Day, Day)>) -> Option<(Day, Day)>
+    ensures { result ≡ joined_spans span other }
+{
+    let (Some(one), Some(two)) = (span, other) else {
+        return span.or(other);
+    };
+    Some((one.0.min(two.0), one.1.max(two.1)))
+}
+
+/// Whether a day's inputs have a window or an estimate.
+fn are_some(parts: &DayParts) -> bool
+    ensures { result ≡ not (is_none (window_ends parts.now.window) && is_none parts.now.estimate) }
+{
+    !parts.window.as_slice().is_empty() || parts.estimate.is_some()
+}
+
+/// The instants of the first and the last reading that a window lends, or `None` exactly where it is empty.
+fn span_of(window: &Window<'_>) -> Option<(Second, Second)>
+    ensures { result ≡ window_ends (with_neighbours window.now.before (filter is_used (window.now.left.now ++ window.now.right.now)) window.now.after) }
+{
+    let day = window.day();
+    let first = day.first_used()?;
+    let last = day.last_used()?;
+    Some((
+        window.before.unwrap_or(first).at,
+        window.after.unwrap_or(last).at,
+    ))
 }
 
 /// Whether an entry put into a series leaves those that bear on the time between two instants: it does not bear on it, or stands
@@ -298,24 +317,4 @@ fn stays_without(series: &Series, at: Second, lo: Second, hi: Second) -> bool
 {
     let around = series.around(at);
     around.here.is_none() || !around.bears(lo, hi)
-}
-
-/// The instants of the first and the last reading that a window lends, or `None` exactly where it is empty.
-fn span_of(window: &Window<'_>) -> Option<(Second, Second)>
-    ensures { result ≡ window_ends (with_neighbours window.now.before (filter is_used window.now.inner.now) window.now.after) }
-{
-    match used_ends(window.inner) {
-        Some((first, last)) => Some((
-            window.before.unwrap_or(first).at,
-            window.after.unwrap_or(last).at,
-        )),
-        None => None,
-    }
-}
-
-/// Whether a reading may be used: it is not erroneous.
-fn is_usable(reading: &Reading) -> bool
-    ensures { result ≡ is_used reading.now }
-{
-    reading.flag != Flag::Erroneous
 }

@@ -1,5 +1,9 @@
 //! What is made ready for an edit of a station before it is journaled, so that its acceptance takes no memory.
 
+ghost use Rattle.std.specs.Prelude.{◌≡◌, ℕ, List};
+ghost use Rattle.rating_tables.specs.Table.{Row};
+ghost use Rattle.station_inputs.specs.Room.{IsStagedName, IsStagedTable};
+
 use edits::Name;
 use ratings::SharedTable;
 
@@ -12,4 +16,28 @@ pub enum Staged {
     Named(Name),
     /// The table of a rating.
     Rated(SharedTable),
+}
+
+impl Staged {
+    /// The name that is staged.
+    pub(crate) fn into_name(self) -> Name
+        requires { (name : List ℕ) × IsStagedName name self }
+        ensures { IsStagedName result self }
+    {
+        match self {
+            Staged::Named(name) => name,
+            Staged::Nothing | Staged::Rated(_) => unreachable!(),
+        }
+    }
+
+    /// The table that is staged.
+    pub(crate) fn into_table(self) -> SharedTable
+        requires { (table : List Row) × IsStagedTable table self }
+        ensures { IsStagedTable result self }
+    {
+        match self {
+            Staged::Rated(table) => table,
+            Staged::Nothing | Staged::Named(_) => unreachable!(),
+        }
+    }
 }

@@ -1,18 +1,19 @@
-//! A station that is kept: what is said of it, its corrections and shifts, its ratings, its measurements, and its readings.
+//! A station that is kept: what is said of it, its corrections and shifts, its ratings, its measurements, its estimates, and its
+//! readings.
 
-ghost use Rattle.std.specs.Prelude.{◌≡◌, ◌≤◌, ◌<◌, ◌+◌, length, All, is_some, IfOk, OnOk};
+ghost use Rattle.std.specs.Prelude.{◌≡◌, ◌≤◌, ◌+◌, length, IfOk, OnOk};
 ghost use Rattle.std.specs.Arc.{arc_value};
 ghost use Rattle.civil_days.specs.Starts.{IsZone};
-ghost use Rattle.readings.specs.Readings.{put_all, at_instant, IsRising};
+ghost use Rattle.readings.specs.Readings.{put_all, with_flag, without_span, IsRising};
 ghost use Rattle.day_inputs.specs.DayInputs.{most_gap};
-ghost use Rattle.edits.specs.Lawful.{IsPutReading};
+ghost use Rattle.edits.specs.Lawful.{ArePutReadings};
 ghost use Rattle.station_inputs.specs.Stations.{new_station, described, with_readings};
 ghost use Rattle.station_inputs.specs.KeptStation.{IsStation};
 
 use civil_days::StationZone;
 use curves::{CorrectionSets, Shifts};
-use edits::{Measurement, Name};
-use fixed_units::{NoMemory, Reading, RoundingArray, Second, Site};
+use edits::{Estimate, Measurement, Name};
+use fixed_units::{Flag, NoMemory, Reading, RoundingArray, Second, Site};
 use ratings::Ratings;
 use readings::Readings;
 use rising::{Keyed, RisingList};
@@ -20,8 +21,8 @@ use std::alloc::Global;
 use std::marker::Model;
 use std::sync::Arc;
 
-/// A station in force. Contracts see its record, and for how many more readings, entries of each series, ratings, periods and
-/// measurements there is room beside it.
+/// A station in force. Contracts see its record, and for how many more readings, entries of each series, ratings, periods,
+/// measurements and estimates there is room beside it.
 #[derive(Debug, Drop)]
 pub struct Station {
     site: Site,
@@ -34,6 +35,7 @@ pub struct Station {
     pub(crate) shifts: Shifts,
     pub(crate) ratings: Ratings,
     pub(crate) measurements: RisingList<Measurement>,
+    pub(crate) estimates: RisingList<Estimate>,
     pub(crate) readings: Readings,
 }
 
@@ -46,15 +48,16 @@ impl Model for Station {
     ghost Value = { KeptStation };
 
     ghost view = { λ s. record {
-      station = record { site = s.site; name = s.name; zone = arc_value s.zone; gap = s.gap; stage_array = s.stage_array; discharge_array = s.discharge_array; corrections = entries_of s.corrections; shifts = s.shifts.series.entries; ratings = s.ratings.ratings; measurements = s.measurements.list; readings = s.readings.list };
+      station = record { site = s.site; name = s.name; zone = arc_value s.zone; gap = s.gap; stage_array = s.stage_array; discharge_array = s.discharge_array; corrections = entries_of s.corrections; shifts = s.shifts.series.entries; ratings = s.ratings.ratings; measurements = s.measurements.list; estimates = s.estimates.list; readings = s.readings.list };
       spare = s.readings.spare;
       entry_room = room_of s.corrections s.shifts;
       rating_room = s.ratings.rating_room;
       period_room = s.ratings.period_room;
       measurement_room = s.measurements.spare;
+      estimate_room = s.estimates.spare;
     } };
 
-    ghost invariant = { λ s. IsStation (record { site = s.site; name = s.name; zone = arc_value s.zone; gap = s.gap; stage_array = s.stage_array; discharge_array = s.discharge_array; corrections = entries_of s.corrections; shifts = s.shifts.series.entries; ratings = s.ratings.ratings; measurements = s.measurements.list; readings = s.readings.list }) };
+    ghost invariant = { λ s. IsStation (record { site = s.site; name = s.name; zone = arc_value s.zone; gap = s.gap; stage_array = s.stage_array; discharge_array = s.discharge_array; corrections = entries_of s.corrections; shifts = s.shifts.series.entries; ratings = s.ratings.ratings; measurements = s.measurements.list; estimates = s.estimates.list; readings = s.readings.list }) };
 }
 
 impl Keyed for Station {
@@ -139,7 +142,7 @@ impl Station {
 }
 
 impl Station {
-    /// A station without corrections, shifts, ratings, measurements and readings, which takes no memory of its own.
+    /// A station without corrections, shifts, ratings, measurements, estimates and readings, which takes no memory of its own.
     pub fn new(
         alloc: Global,
         site: Site,
@@ -166,6 +169,7 @@ impl Station {
             shifts: Shifts::new(alloc),
             ratings: Ratings::new(alloc),
             measurements: RisingList::new(alloc),
+            estimates: RisingList::new(alloc),
             readings: Readings::new(alloc),
         }
     }
@@ -174,14 +178,15 @@ impl Station {
     pub fn count(&self) -> usize
         ensures { result ≡ length self.now.station.readings }
     {
-        self.readings.as_slice().len()
+        self.readings.len()
     }
 
-    /// Whether a reading stands at an instant.
-    pub fn has_reading(&self, at: Second) -> bool
-        ensures { result ≡ is_some (at_instant at self.now.station.readings) }
+    /// How many more readings the station would have with these put: those that stand at instants of no reading. It takes no memory.
+    pub fn count_new(&self, readings: &[Reading]) -> usize
+        requires { IsRising readings.now }
+        ensures { length (put_all readings.now self.now.station.readings) ≡ length self.now.station.readings + result }
     {
-        self.readings.place(at).here.is_some()
+        self.readings.count_new(readings)
     }
 
     /// Makes room for so many readings more. The record is as before, also after `NoMemory`.
@@ -193,16 +198,30 @@ impl Station {
         self.readings.reserve(count)
     }
 
-    /// Puts readings, each in place of the one at its instant, and tells how many more there are then. There is room for them,
-    /// so no memory is taken.
-    pub(crate) fn put(&mut self, readings: &[Reading]) -> usize
+    /// Puts readings, each in place of the one at its instant. There is room for all of them, so no memory is taken.
+    pub(crate) fn put(&mut self, readings: &[Reading])
         requires room { length readings.now ≤ self.old.spare }
-        requires lawful { All IsPutReading readings.now }
-        ensures station { self.new.station ≡ with_readings readings.now self.old.station }
-        ensures count { length self.new.station.readings ≡ length self.old.station.readings + result }
+        requires lawful { ArePutReadings readings.now }
+        ensures station { self.new.station ≡ with_readings (put_all readings.now) self.old.station }
         ensures kept { IsStation self.new.station }
     {
-        put_each(&mut self.readings, readings)
+        self.readings.put_all(readings);
+    }
+
+    /// Takes out every reading from an instant to another, both included.
+    pub(crate) fn drop_readings(&mut self, from: Second, to: Second)
+        ensures station { self.new.station ≡ with_readings (without_span from to) self.old.station }
+        ensures kept { IsStation self.new.station }
+    {
+        let _count = self.readings.drop_span(from, to);
+    }
+
+    /// Flags every reading from an instant to another, both included.
+    pub(crate) fn flag_readings(&mut self, from: Second, to: Second, flag: Flag)
+        ensures station { self.new.station ≡ with_readings (with_flag from to flag) self.old.station }
+        ensures kept { IsStation self.new.station }
+    {
+        let _count = self.readings.flag_span(from, to, flag);
     }
 
     /// Describes the station anew: all else of it stays.
@@ -223,27 +242,5 @@ impl Station {
         self.gap = gap;
         self.stage_array = stage_array;
         self.discharge_array = discharge_array;
-    }
-}
-
-/// Puts readings, for which there is room, and tells how many more there are then.
-fn put_each(kept: &mut Readings, readings: &[Reading]) -> usize
-    requires room { length readings.now ≤ kept.old.spare }
-    requires rising { IsRising kept.old.list }
-    ensures list { kept.new.list ≡ put_all readings.now kept.old.list }
-    ensures count { length kept.new.list ≡ length kept.old.list + result }
-{
-    let before = kept.as_slice().len();
-    put_one_by_one(kept, readings);
-    kept.as_slice().len() - before
-}
-
-/// Puts readings, for which there is room.
-fn put_one_by_one(kept: &mut Readings, readings: &[Reading])
-    requires { length readings.now ≤ kept.old.spare }
-    ensures { kept.new.list ≡ put_all readings.now kept.old.list }
-{
-    for reading in readings {
-        kept.put(*reading);
     }
 }

@@ -42,6 +42,9 @@ impl Station {
         match what {
             What::SetStation { .. } => Touched::Cells,
             What::PutReadings { readings } => between_readings(readings.as_slice()),
+            What::DropReadings { from, to } | What::FlagReadings { from, to, .. } => {
+                between_ends(self.readings.span_ends(*from, *to))
+            }
             What::PutCorrection { set, at, .. } | What::DropCorrection { set, at } => {
                 about_entry(self.series(StationSeries::Correction(*set)), *at)
             }
@@ -55,6 +58,8 @@ impl Station {
                 )
             }
             What::DropPeriod { from } => about_dropped_period(self.ratings.period_from(*from)),
+            What::PutEstimate { estimate } => Touched::One(estimate.day),
+            What::DropEstimate { day } => Touched::One(*day),
             What::AddStation { .. }
             | What::AddRating { .. }
             | What::PutMeasurement { .. }
@@ -68,12 +73,22 @@ fn between_readings(readings: &[Reading]) -> Touched
     ensures { result ≡ between_readings (first readings.now) (last readings.now) }
 {
     match (readings.first().copied(), readings.last().copied()) {
-        (Some(first), Some(last)) => Touched::Between {
+        (Some(first), Some(last)) => between_ends(Some((first, last))),
+        _ => Touched::Nothing,
+    }
+}
+
+/// The time between two readings, if there are any.
+fn between_ends(ends: Option<(Reading, Reading)>) -> Touched
+    ensures { result ≡ between_readings (option_map (λ ends. ends.0) ends) (option_map (λ ends. ends.1) ends) }
+{
+    match ends {
+        Some((first, last)) => Touched::Between {
             first: first.at,
             last: last.at,
             cells_only: false,
         },
-        _ => Touched::Nothing,
+        None => Touched::Nothing,
     }
 }
 

@@ -2,7 +2,7 @@
 //! has 17 bytes before the addition, 77 with it and 119 with a reading.
 
 use crate::disks::play_rows;
-use crate::sent::{ADDITION, ANOTHER, FIRST, LATE, READING};
+use crate::sent::{ADDITION, ANOTHER, BULK, DROP, FIRST, LATE, READING};
 use crate::tables::{Act, Cause, NEW, Row, Session, Told, Wrong};
 use office_inputs::Full;
 
@@ -137,6 +137,72 @@ static SECOND_EDITS: [Row; 7] = [
 #[test]
 fn a_second_edit_keeps_to_the_limits(rt: HostRuntime) -> Result<(), (usize, Wrong)> {
     play_rows(rt.alloc(), &SECOND_EDITS)
+}
+
+/// Three readings of two days in one edit behind the addition, which take 76 bytes.
+const BULK_PUT: &[Session] = &[&[
+    (Act::Send(ADDITION), Told::Kept(1)),
+    (Act::Send(BULK), Told::Kept(2)),
+    (Act::Counts, Told::Counts(2, 2, 2)),
+]];
+
+const BULK_NO_EVENT: &[Session] = &[&[
+    (Act::Send(ADDITION), Told::Kept(1)),
+    (Act::Send(BULK), NO_EVENT),
+]];
+
+const BULK_NO_CELL: &[Session] = &[&[
+    (Act::Send(ADDITION), Told::Kept(1)),
+    (Act::Send(BULK), NO_CELL),
+]];
+
+const BULK_NO_BYTE: &[Session] = &[&[
+    (Act::Send(ADDITION), Told::Kept(1)),
+    (Act::Send(BULK), NO_BYTE),
+]];
+
+/// Room is needed for a publication of each day that a bulk makes pending. Another edit under its reference is refused.
+static BULKS: [Row; 5] = [
+    Row {
+        limits: Some((4, 2, 153)),
+        sessions: BULK_PUT,
+        calls: 12,
+        left: &[ADDITION, BULK],
+        ..NEW
+    },
+    Row {
+        limits: Some((3, 2, 153)),
+        sessions: BULK_NO_EVENT,
+        ..ONE
+    },
+    Row {
+        limits: Some((4, 1, 153)),
+        sessions: BULK_NO_CELL,
+        ..ONE
+    },
+    Row {
+        limits: Some((4, 2, 152)),
+        sessions: BULK_NO_BYTE,
+        ..ONE
+    },
+    Row {
+        records: &[ADDITION],
+        limits: Some((4, 2, 1_000)),
+        sessions: &[&[
+            (Act::Send(BULK), Told::Kept(2)),
+            (Act::Settle, Told::Settled(2)),
+            (Act::Send(DROP), Told::Refused(Cause::RefReused(2))),
+            (Act::Counts, Told::Counts(4, 2, 0)),
+        ]],
+        calls: 8,
+        left: &[ADDITION, BULK],
+        ..NEW
+    },
+];
+
+#[test]
+fn a_bulk_keeps_to_the_limits(rt: HostRuntime) -> Result<(), (usize, Wrong)> {
+    play_rows(rt.alloc(), &BULKS)
 }
 
 /// Days between two that are changed are cells, too.

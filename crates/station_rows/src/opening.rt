@@ -1,7 +1,7 @@
 //! Offices that are closed and opened again, and disks on which none opens.
 
 use crate::disks::{play_row, play_rows, stays_shut};
-use crate::sent::{ADDITION, ANOTHER, FIFTH, FIRST, NEXT, SETTING};
+use crate::sent::{ADDITION, ANOTHER, DROP, ESTIMATE_DROP, FIFTH, FIRST, FLAGGING, NEXT, SETTING};
 use crate::tables::{Act, Cause, NEW, Row, Told, Wrong};
 use journal::OpenFault;
 
@@ -64,12 +64,16 @@ fn an_edit_in_doubt_is_one_more_or_none(rt: HostRuntime) -> Result<(), (usize, W
     play_rows(rt.alloc(), &IN_DOUBT)
 }
 
-/// Two records, and the gate of the first that is not accepted: no station is there, the reference is used, the station is there.
-static DAMAGED: [([&[u8]; 2], u64); 4] = [
+/// Two records, and the gate of the first that is not accepted: no station is there, the reference is used, the station is there,
+/// nothing is there that would be taken out or flagged.
+static DAMAGED: [([&[u8]; 2], u64); 7] = [
     ([FIRST, ADDITION], 16),
     ([ADDITION, SETTING], 76),
     ([ADDITION, ADDITION], 76),
     ([ADDITION, ANOTHER], 76),
+    ([ADDITION, DROP], 76),
+    ([ADDITION, FLAGGING], 76),
+    ([ADDITION, ESTIMATE_DROP], 76),
 ];
 
 #[test]

@@ -45,6 +45,19 @@ pub const MIDDLE: &[u8] =
 pub const BETWEEN: &[u8] =
     b"\x25\0\0\0\x03\x02AB\x02a4\x08\xa4\x1f\x19\0\0\0\0\0\x01\0\0\0\x8f\x35\x98\x65\0\0\0\0\x40\x42\x0f\0\0\0\0\0\0";
 
+/// Under `a2`, too, three readings in one edit, the second of them affected: at the beginning, in the middle and at the end of 2024-01-05.
+pub const BULK: &[u8] =
+    b"G\0\0\0\x03\x02AB\x02a2\x08\xa4\x1f\x19\0\0\0\0\0\x03\0\0\0\xd0\x8c\x97e\0\0\0\0@B\x0f\0\0\0\0\0\0\x905\x98e\0\0\0\0\x80\x84\x1e\0\0\0\0\0\x02P\xde\x98e\0\0\0\0@B\x0f\0\0\0\0\0\0";
+
+/// Under `a2`, too, the readings of that time are taken out, or flagged as erroneous, and the estimate of the day is taken out.
+pub const DROP: &[u8] =
+    b" \0\0\0\x04\x02AB\x02a2\x08\xa4\x1f\x19\0\0\0\0\0\xd0\x8c\x97e\0\0\0\0P\xde\x98e\0\0\0\0";
+
+pub const FLAGGING: &[u8] =
+    b"!\0\0\0\x05\x02AB\x02a2\x08\xa4\x1f\x19\0\0\0\0\0\xd0\x8c\x97e\0\0\0\0P\xde\x98e\0\0\0\0\x01";
+
+pub const ESTIMATE_DROP: &[u8] = b"\x14\0\0\0\x0e\x02AB\x02a2\x08\xa4\x1f\x19\0\0\0\0\0\x0fM\0\0";
+
 /// The number of 2024-01-05 and of the next day.
 pub const FIFTH: i32 = 19_727;
 

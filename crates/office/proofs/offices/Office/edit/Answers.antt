@@ -5,7 +5,7 @@ use Rattle.journal.specs.Moments.{LeavesOnly}
 use Rattle.office.specs.Offices.{Officed}
 use Rattle.office.specs.Stops.{IsLeftBetween}
 use Rattle.office_inputs.specs.Touched.{interval}
-use Rattle.station_inputs.specs.declared.refusals.Refusal.TheVariants.{JournalFault}
+use Rattle.office_inputs.specs.declared.refusals.Refusal.TheVariants.{JournalFault}
 use Rattle.register.specs.Asked.{needs_days, verdict_told}
 use Rattle.office.proofs.EditLemmas.{leaves_unasked}
 use Rattle.office.proofs.RefusedLemmas.{is_refused, lists_refused, not_a_fault}

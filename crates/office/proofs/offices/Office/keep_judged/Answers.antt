@@ -7,7 +7,7 @@ use Rattle.office.specs.Edits.{EditCalls, EditsClaims, IsTaken}
 use Rattle.office.specs.Offices.{Officed}
 use Rattle.office.specs.Stops.{IsLeftBetween}
 use Rattle.office.specs.declared.offices.Accepted.{Accepted}
-use Rattle.station_inputs.specs.declared.refusals.Refusal.TheVariants.{NoMemory}
+use Rattle.office_inputs.specs.declared.refusals.Refusal.TheVariants.{NoMemory}
 use Rattle.office.proofs.ClaimLemmas.{claims_behind}
 use Rattle.office.proofs.EditLemmas.{leaves_unasked}
 use Rattle.office.proofs.RefusedLemmas.{lists_none}

@@ -5,7 +5,7 @@ use Rattle.history.specs.Accepted.{Numbered, edits_of, named}
 use Rattle.history.specs.Verdicts.{or_else, refused_by_stations}
 use Rattle.office_inputs.specs.Refusals as refusals
 use Rattle.station_inputs.specs.Stations.{StationRecord}
-use Rattle.station_inputs.specs.declared.refusals.Refusal.{Refusal}
+use Rattle.office_inputs.specs.declared.refusals.Refusal.{Refusal}
 use Rattle.register.specs.Asked.{IsNotReadmitted, readmission_refusal, reused}
 use Rattle.register.specs.Registered.{Registered}
 use Rattle.register.specs.declared.judged.NotReadmitted.{NotReadmitted}

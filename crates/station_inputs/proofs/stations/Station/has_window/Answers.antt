@@ -1,5 +1,5 @@
 -- The used ones of the day's readings with its neighbours are its window.
-use Rattle.station_inputs.proofs.StationLemmas.{window_kept}
+use Rattle.station_inputs.proofs.HeldInputs.{window_kept}
 use Rattle.station_inputs.proofs.stations.Station.has_window.Goals as goal
 
 pub returns : goal.returns

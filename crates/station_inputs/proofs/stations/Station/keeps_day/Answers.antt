@@ -1,10 +1,10 @@
 -- By kinds.
-use Rattle.station_inputs.proofs.LawLemmas.{none_changed, one_used}
+use Rattle.std.proofs.Common.{ap, sym, ◌∙◌}
+use Rattle.edits.specs.declared.content.What.{What}
+use Rattle.station_inputs.specs.Changes.{keeps_station_day}
+use Rattle.station_inputs.proofs.EstimateDays.{put_told, drop_told}
+use Rattle.station_inputs.proofs.LawLemmas.{none_changed}
 use Rattle.station_inputs.proofs.stations.Station.keeps_day.Goals as goal
-
-pub keeps_day_with-requires : goal.keeps_day_with-requires
-keeps_day_with-requires c =
-    record { used = one_used c.args.what.now c.in-PutReadings.readings c.as_slice.result.now c.only_one.result c.requires c.in-PutReadings.is c.as_slice.ensures c.only_one.ensures }
 
 pub returns-in-SetStation : goal.returns-in-SetStation
 returns-in-SetStation c = rw c.in-SetStation.is (c.keeps_day_described.ensures c.in-SetStation.name)
@@ -20,3 +20,13 @@ returns-in-AddStation-3 c = none_changed c.args.self.now.station c.args.what.now
 
 pub returns-in-AddStation-4 : goal.returns-in-AddStation-4
 returns-in-AddStation-4 c = none_changed c.args.self.now.station c.args.what.now c.args.day c.site-site.ensures.kept c.in-AddStation.is
+
+pub returns-in-PutEstimate : goal.returns-in-PutEstimate
+returns-in-PutEstimate c =
+    c.keeps_day_estimated.ensures ∙ put_told c.args.self.now.station c.in-PutEstimate.estimate c.args.day
+    ∙ ap (λ (w : What). keeps_station_day c.args.self.now.station w c.args.day) (sym c.in-PutEstimate.is)
+
+pub returns-in-DropEstimate : goal.returns-in-DropEstimate
+returns-in-DropEstimate c =
+    c.keeps_day_estimated-in-DropEstimate.ensures ∙ drop_told c.args.self.now.station c.in-DropEstimate.own c.args.day
+    ∙ ap (λ (w : What). keeps_station_day c.args.self.now.station w c.args.day) (sym c.in-DropEstimate.is)

@@ -1,12 +1,12 @@
 -- The day's inputs stay where the parts of the periods that meet its window do.
 use Rattle.std.proofs.Common.{sym, ◌∙◌}
 use Rattle.ratings.specs.Numbered.{with_period}
-use Rattle.station_inputs.proofs.PeriodDays.{period_kept, no_window_told}
+use Rattle.station_inputs.proofs.PeriodDays.{periods_kept, no_window_told}
 use Rattle.station_inputs.proofs.stations.Station.keeps_day_with_period.Goals as goal
 
 pub returns-in-Some : goal.returns-in-Some
 returns-in-Some c =
-    period_kept c.args.self.now _ c.self.view_is c.self.invariant c.args.day c.args.period.now c.in-Some.span.0 c.in-Some.span.1 c.keeps_parts_with.result
+    periods_kept c.args.self.now _ c.self.view_is c.args.day (with_period c.args.period.now) c.in-Some.span.0 c.in-Some.span.1 c.keeps_parts_with.result
     c.keeps_parts_with.ensures (sym c.window_span.ensures.span ∙ c.in-Some.is)
 
 pub returns-in-None : goal.returns-in-None

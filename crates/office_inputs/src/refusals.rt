@@ -1,0 +1,107 @@
+//! Why an edit is refused.
+
+use fixed_units::Second;
+use station_inputs::{Counted, Obstacle};
+use thiserror::Error;
+
+/// Which count an edit would raise past its limit, in the order in which they are asked.
+#[derive(Clone, Copy, Debug, PartialEq, Eq)]
+pub enum Which {
+    /// The stations.
+    Stations,
+    /// The readings of all stations.
+    Readings,
+    /// The readings of a local day of a station.
+    DayReadings,
+    /// The ratings of a station.
+    Ratings,
+    /// The entries of a correction set, or of the shifts, of a station.
+    Entries,
+    /// The periods of a station.
+    Periods,
+    /// The measurements of a station.
+    Measurements,
+}
+
+impl From<Counted> for Which {
+    ghost use Rattle.std.specs.Prelude.{◌≡◌};
+    ghost use Rattle.office_inputs.specs.Refusals.{limit_of};
+
+    ghost from_gives = { λ counted which. which ≡ limit_of counted };
+
+    fn from(counted: Counted) -> Which {
+        match counted {
+            Counted::Ratings => Which::Ratings,
+            Counted::Entries => Which::Entries,
+            Counted::Periods => Which::Periods,
+            Counted::Measurements => Which::Measurements,
+        }
+    }
+}
+
+/// What a history has no room for.
+#[derive(Clone, Copy, Debug, PartialEq, Eq)]
+pub enum Full {
+    /// The edit, and a publication of each day that would await one.
+    Events,
+    /// The cells of the days that were ever changed.
+    Cells,
+}
+
+/// Why an edit is refused.
+#[derive(Clone, Copy, Debug, PartialEq, Eq, Error)]
+pub enum Refusal {
+    /// The reference is that of this accepted edit, which differs.
+    #[error("the reference is that of another accepted edit")]
+    RefReused(u64),
+    /// The site is not kept.
+    #[error("the site is not kept")]
+    NoStation,
+    /// The station to be added is kept already.
+    #[error("the station is kept already")]
+    StationExists,
+    /// A count would pass its limit.
+    #[error("a count would pass its limit")]
+    Limit(Which),
+    /// The station has no rating of the number that a period names.
+    #[error("the station has no such rating")]
+    NoRating,
+    /// The station has a rating of that number already.
+    #[error("the station has a rating of that number already")]
+    RatingExists,
+    /// The period shares an instant with one that begins at another instant: the first of these begins here.
+    #[error("the period shares an instant with another one")]
+    PeriodOverlap(Second),
+    /// A drop or a flagging finds nothing: no reading in its span, no entry at its instant in its series, no period of its start, no
+    /// estimate of its day, or no measurement of its number.
+    #[error("nothing stands where the edit would act")]
+    NoEntry,
+    /// The history has no room.
+    #[error("the history is full")]
+    HistoryFull(Full),
+    /// The journal has no room.
+    #[error("the journal is full")]
+    JournalFull,
+    /// There is no memory for the edit.
+    #[error("there is no memory for the edit")]
+    NoMemory,
+    /// The disk of the journal failed: whether the edit may stand in the journal nevertheless.
+    #[error("the disk of the journal failed")]
+    JournalFault(bool),
+}
+
+impl From<Obstacle> for Refusal {
+    ghost use Rattle.std.specs.Prelude.{◌≡◌};
+    ghost use Rattle.office_inputs.specs.Refusals.{refusal_for};
+
+    ghost from_gives = { λ obstacle refusal. refusal ≡ refusal_for obstacle };
+
+    fn from(obstacle: Obstacle) -> Refusal {
+        match obstacle {
+            Obstacle::NoRating => Refusal::NoRating,
+            Obstacle::RatingExists => Refusal::RatingExists,
+            Obstacle::PeriodOverlap(from) => Refusal::PeriodOverlap(from),
+            Obstacle::NoEntry => Refusal::NoEntry,
+        }
+    }
+}

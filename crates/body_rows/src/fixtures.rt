@@ -1,9 +1,9 @@
 //! Edits to compare with, and refusals.
 
-use civil_days::read_instant;
+use civil_days::{read_day, read_instant};
 use curves::Curve;
 use edit_bodies::{BodyFault, Member, read_edit};
-use edits::{By, Edit, Grade, Measurement, Name, Ref, What};
+use edits::{By, Edit, Estimate, Grade, Measurement, Name, Ref, What};
 use fixed_units::{Flag, Micro, Reading, RoundingArray, Site, Text};
 use json::Scratch;
 use rating_tables::{SharedTable, Table};
@@ -20,8 +20,12 @@ pub enum Sent {
     Setting(&'static str, u32),
     /// Sets a station's rounding arrays of stages and of discharges, its name being `POTOMAC` and its gap tolerance 60 minutes.
     Arrays(&'static str, &'static str),
-    /// Puts a reading of so many millionths of a foot at an instant.
-    Put(&'static str, i64),
+    /// Puts readings: of each its instant, so many millionths of a foot, and its flag.
+    Put(&'static [(&'static str, i64, Flag)]),
+    /// Takes out the readings from an instant to another.
+    DroppedSpan(&'static str, &'static str),
+    /// Flags the readings from an instant to another.
+    FlaggedSpan(&'static str, &'static str, Flag),
     /// Puts an entry of the correction set of a number: its instant, its points in millionths of a foot, and whether it goes over to
     /// the next one.
     Correction(u8, &'static str, &'static [(i64, i64)], bool),
@@ -37,6 +41,10 @@ pub enum Sent {
     Period(u32, &'static str, Option<&'static str>),
     /// Takes out the period that begins at an instant.
     DroppedPeriod(&'static str),
+    /// Puts an estimate of so many millionths of a cubic foot per second for a day.
+    Estimated(&'static str, i64),
+    /// Takes out the estimate of a day.
+    DroppedEstimate(&'static str),
     /// Puts the measurement of a number: its instant, its gage height and its discharge in millionths, and its grade.
     Measured(u32, &'static str, i64, i64, Grade),
     /// Takes out the measurement of a number.
@@ -70,14 +78,25 @@ fn setting(alloc: Global, called: &str, gap: u32, arrays: (&str, &str)) -> Optio
     })
 }
 
-fn put(alloc: Global, at: &str, millionths: i64) -> Option<What> {
-    let reading = Reading {
-        at: read_instant(at.as_bytes())?,
-        raw: Micro::new(millionths)?,
-        flag: Flag::Usable,
-    };
+fn put(alloc: Global, rows: &[(&str, i64, Flag)]) -> Option<What> {
+    let mut readings = Vec::new(alloc);
+    for (at, millionths, flag) in rows {
+        let reading = Reading {
+            at: read_instant(at.as_bytes())?,
+            raw: Micro::new(*millionths)?,
+            flag: *flag,
+        };
+        readings.push(reading).ok()?;
+    }
     Some(What::PutReadings {
-        readings: ReadingList::from_vec([reading].to_vec(alloc).ok()?),
+        readings: ReadingList::from_vec(readings),
+    })
+}
+
+fn estimate(day: &str, discharge: i64) -> Option<Estimate> {
+    Some(Estimate {
+        day: read_day(day.as_bytes())?,
+        discharge: Micro::new(discharge)?,
     })
 }
 
@@ -112,7 +131,16 @@ fn what(alloc: Global, sent: &Sent) -> Option<What> {
         Sent::Addition(called, gap) => addition(alloc, called, gap),
         Sent::Setting(called, gap) => setting(alloc, called, gap, USUAL),
         Sent::Arrays(stages, discharges) => setting(alloc, "POTOMAC", 60, (stages, discharges)),
-        Sent::Put(at, millionths) => put(alloc, at, millionths),
+        Sent::Put(rows) => put(alloc, rows),
+        Sent::DroppedSpan(from, to) => Some(What::DropReadings {
+            from: read_instant(from.as_bytes())?,
+            to: read_instant(to.as_bytes())?,
+        }),
+        Sent::FlaggedSpan(from, to, flag) => Some(What::FlagReadings {
+            from: read_instant(from.as_bytes())?,
+            to: read_instant(to.as_bytes())?,
+            flag,
+        }),
         Sent::Correction(set, at, points, prorate) => Some(What::PutCorrection {
             set,
             at: read_instant(at.as_bytes())?,
@@ -141,6 +169,12 @@ fn what(alloc: Global, sent: &Sent) -> Option<What> {
         Sent::DroppedPeriod(from) => Some(What::DropPeriod {
             from: read_instant(from.as_bytes())?,
         }),
+        Sent::Estimated(day, discharge) => Some(What::PutEstimate {
+            estimate: estimate(day, discharge)?,
+        }),
+        Sent::DroppedEstimate(day) => Some(What::DropEstimate {
+            day: read_day(day.as_bytes())?,
+        }),
         Sent::Measured(number, at, gage, discharge, grade) => Some(What::PutMeasurement {
             measurement: Measurement {
                 number,
@@ -168,6 +202,17 @@ pub fn is_read(alloc: Global, body: &[u8], sent: &Sent, scratch: &mut Scratch) -
         Ok(found) => Some(found.is_same(&wanted)),
         Err(_) => Some(false),
     }
+}
+
+/// The number from 0 on of the first body that is read otherwise or not at all, where all are read with one scratch.
+pub fn first_otherwise(alloc: Global, bodies: &[(&str, &Sent)]) -> Option<usize> {
+    let mut scratch = Scratch::new(alloc);
+    for (row, (body, sent)) in bodies.iter().enumerate() {
+        if is_read(alloc, body.as_bytes(), sent, &mut scratch) != Some(true) {
+            return Some(row);
+        }
+    }
+    None
 }
 
 /// Whether this refuses the body.

@@ -1,23 +1,15 @@
 //! Bodies that are edits, in each spelling.
 
-use crate::fixtures::{Sent, is_read};
+use crate::fixtures::{Sent, first_otherwise};
 use edits::Grade;
-use json::Scratch;
-use std::alloc::Global;
 
 const ADDITION: &Sent = &Sent::Addition("POTOMAC", 60);
 
 /// A name with a quote and a backslash.
 const SETTING: &Sent = &Sent::Setting(r#"A "B" \ C"#, 720);
 
-const READING: &Sent = &Sent::Put("2024-01-05T05:00:00Z", 1_910_000);
-
-/// The greatest stage at the first stamp.
-const GREATEST: &Sent = &Sent::Put("1900-01-03T00:00:00Z", 100_000_000_000);
-
-/// Bodies, and what each sends. A station is added in order, in another order with spaces, with escapes, and with a member that comes
-/// twice; a stage stands in three spellings.
-const BODIES: [(&str, &Sent); 9] = [
+/// Bodies of stations, and what each sends: in order, in another order with spaces, with escapes, and with a member that comes twice.
+const STATIONS: [(&str, &Sent); 5] = [
     (
         r#"{"kind":"AddStation","by":"AB","ref":"a-1","site":"01646500","name":"POTOMAC","zone":"-05:00","gap":60,"stage_array":"9999999992","discharge_array":"9999999992"}"#,
         ADDITION,
@@ -37,22 +29,6 @@ const BODIES: [(&str, &Sent); 9] = [
     (
         r#"{"kind":"SetStation","by":"AB","ref":"a-1","site":"01646500","name":"A \"B\" \\ C","gap":720,"stage_array":"9999999992","discharge_array":"9999999992"}"#,
         SETTING,
-    ),
-    (
-        r#"{"kind":"PutReadings","by":"AB","ref":"a-1","site":"01646500","readings":[["2024-01-05T05:00:00Z","1.91"]]}"#,
-        READING,
-    ),
-    (
-        r#"{"kind":"PutReadings","by":"AB","ref":"a-1","site":"01646500","readings":[["2024-01-05T05:00:00Z","+1.910000"]]}"#,
-        READING,
-    ),
-    (
-        r#"{"kind":"PutReadings","by":"AB","ref":"a-1","site":"01646500","readings":[ [ "2024-01-05T05:00:00Z" , "01.91" ] ]}"#,
-        READING,
-    ),
-    (
-        r#"{"kind":"PutReadings","by":"AB","ref":"a-1","site":"01646500","readings":[["1900-01-03T00:00:00Z","100000"]]}"#,
-        GREATEST,
     ),
 ];
 
@@ -192,20 +168,9 @@ const RATINGS: [(&str, &Sent); 12] = [
     ),
 ];
 
-/// The number from 0 on of the first body that is read otherwise or not at all, where all are read with one scratch.
-fn first_otherwise(alloc: Global, bodies: &[(&str, &Sent)]) -> Option<usize> {
-    let mut scratch = Scratch::new(alloc);
-    for (row, (body, sent)) in bodies.iter().enumerate() {
-        if is_read(alloc, body.as_bytes(), sent, &mut scratch) != Some(true) {
-            return Some(row);
-        }
-    }
-    None
-}
-
 #[test]
-fn bodies_are_read_in_each_spelling(rt: HostRuntime) {
-    let otherwise = first_otherwise(rt.alloc(), &BODIES);
+fn stations_are_read_in_each_spelling(rt: HostRuntime) {
+    let otherwise = first_otherwise(rt.alloc(), &STATIONS);
     assert!(rt; otherwise.is_none(), "{otherwise:?}");
 }
 

@@ -2,6 +2,8 @@
 #![tactic(auto)]
 
 #[cfg(test)]
+mod bulk_bodies;
+#[cfg(test)]
 mod entry_refusals;
 #[cfg(test)]
 mod fixtures;
@@ -14,6 +16,12 @@ mod no_json;
 #[cfg(test)]
 mod rating_refusals;
 #[cfg(test)]
+mod reading_bodies;
+#[cfg(test)]
+mod reading_refusals;
+#[cfg(test)]
 mod refusals;
+#[cfg(test)]
+mod span_bodies;
 #[cfg(test)]
 mod value_refusals;

@@ -5,8 +5,8 @@ use edit_bodies::BodyFault;
 use json::Scratch;
 use std::alloc::Global;
 
-/// Texts that state no value.
-const NO_JSON: [&str; 10] = [
+/// Texts that state no value: among them bodies of the usual form with something behind them, or broken within.
+const NO_JSON: [&str; 22] = [
     "",
     "{",
     "{}x",
@@ -17,6 +17,18 @@ const NO_JSON: [&str; 10] = [
     r#"{"kind":"PutReadings","by":"AB","ref":"a-1","site":"01646500","readings":[["2024-01-05T05:00:00Z","1.91"]],"x":[[[[[[[[[[[[[[[[[[[[[[[[[[[[[[[[[[[[[[[[[[[[[[[[[[[[[[[[[[[[[[[[[[[[[[[[[[[[[[[[[[[[[[[[[[[[[[[[[[[[[[[[[[[[[[[[[[[[[[[[[[[[[[[]]]]]]]]]]]]]]]]]]]]]]]]]]]]]]]]]]]]]]]]]]]]]]]]]]]]]]]]]]]]]]]]]]]]]]]]]]]]]]]]]]]]]]]]]]]]]]]]]]]]]]]]]]]]]]]]]]]]]]]]]]]]]]]}"#,
     r#"{"gap":01}"#,
     "{'a':1}",
+    r#"{"kind":"PutReadings","by":"AB","ref":"a-1","site":"01646500","readings":[["2024-01-05T05:00:00Z","1.91"]]}x"#,
+    r#"{"kind":"PutReadings","by":"AB","ref":"a-1","site":"01646500","readings":[["2024-01-05T05:00:00Z","1.91"]]}}"#,
+    r#"{"kind":"PutReadings","by":"AB","ref":"a-1","site":"01646500","readings":[["2024-01-05T05:00:00Z","1.91"]]} {}"#,
+    r#"{"kind":"PutReadings","by":"AB","ref":"a-1","site":"01646500","readings":[["2024-01-05T05:00:00Z","1.91"]]},"#,
+    r#"{"kind":"PutReadings","by":"AB","ref":"a-1","site":"01646500","readings":[["2024-01-05T05:00:00Z","1.91"]]}""#,
+    r#"{"kind":"PutReadings","by":"AB","ref":"a-1","site":"01646500","readings":[["2024-01-05T05:00:00Z","1.91"]]} null"#,
+    r#"{"kind":"PutReadings","by":"AB","ref":"a-1","site":"01646500","readings":[["2024-01-05T05:00:00Z","1.91"],]}"#,
+    r#"{"kind":"PutReadings","by":"AB","ref":"a-1","site":"01646500","readings":[["2024-01-05T05:00:00Z","1.91",]]}"#,
+    r#"{"kind":"PutReadings","by":"AB","ref":"a-1","site":"01646500","readings":[["2024-01-05T05:00:00Z" "1.91"]]}"#,
+    r#"{"kind":"PutReadings","by":"AB","ref":"a-1","site":"01646500","readings":[["2024-01-05T05:00:00Z","1.91"]}}"#,
+    r#"{"kind":"PutReadings","by":"AB","ref":"a-1","site":"01646500","readings":[["2024-01-05T05:00:00Z","1.91"]]"#,
+    r#"{"kind":"PutReadings","by":"AB","ref":"a-1","site":"01646500","readings":[["2024-01-05T05:00:00Z","1.91"]],}"#,
 ];
 
 /// The number from 0 on of the first that is not refused as no JSON.

@@ -71,7 +71,7 @@ const MISSING: [Row; 16] = [
 /// Each part of the sender out of its range.
 const SENDERS: [Row; 15] = [
     (
-        r#"{"kind":"DropReadings","by":"AB","ref":"a-1","site":"01646500","readings":[["2024-01-05T05:00:00Z","1.91"]]}"#,
+        r#"{"kind":"TakeReadings","by":"AB","ref":"a-1","site":"01646500","readings":[["2024-01-05T05:00:00Z","1.91"]]}"#,
         Member::Kind,
     ),
     (

@@ -1,4 +1,4 @@
-//! What refuses the body of an edit of a station or of readings: the first member whose value is ill formed.
+//! What refuses the body of an edit of a station: the first member whose value is ill formed.
 
 use crate::fixtures::{Row, first_misnamed_of_all};
 use edit_bodies::Member;
@@ -99,59 +99,7 @@ const SETTINGS: [Row; 23] = [
     ),
 ];
 
-/// Rows that are not one usable reading.
-const READINGS: [Row; 12] = [
-    (
-        r#"{"kind":"PutReadings","by":"AB","ref":"a-1","site":"01646500","readings":[]}"#,
-        Member::Readings,
-    ),
-    (
-        r#"{"kind":"PutReadings","by":"AB","ref":"a-1","site":"01646500","readings":null}"#,
-        Member::Readings,
-    ),
-    (
-        r#"{"kind":"PutReadings","by":"AB","ref":"a-1","site":"01646500","readings":[[]]}"#,
-        Member::Readings,
-    ),
-    (
-        r#"{"kind":"PutReadings","by":"AB","ref":"a-1","site":"01646500","readings":["2024-01-05T05:00:00Z","1.91"]}"#,
-        Member::Readings,
-    ),
-    (
-        r#"{"kind":"PutReadings","by":"AB","ref":"a-1","site":"01646500","readings":[["2024-01-05T05:00:00Z"]]}"#,
-        Member::Readings,
-    ),
-    (
-        r#"{"kind":"PutReadings","by":"AB","ref":"a-1","site":"01646500","readings":[["2024-01-05T05:00:00Z","1.91","ok"]]}"#,
-        Member::Readings,
-    ),
-    (
-        r#"{"kind":"PutReadings","by":"AB","ref":"a-1","site":"01646500","readings":[["2024-01-05T05:00:00Z","1.91"],["2024-01-05T05:15:00Z","1.92"]]}"#,
-        Member::Readings,
-    ),
-    (
-        r#"{"kind":"PutReadings","by":"AB","ref":"a-1","site":"01646500","readings":[["1900-01-02T23:59:59Z","1.91"]]}"#,
-        Member::Readings,
-    ),
-    (
-        r#"{"kind":"PutReadings","by":"AB","ref":"a-1","site":"01646500","readings":[["2024-01-05T05:00:60Z","1.91"]]}"#,
-        Member::Readings,
-    ),
-    (
-        r#"{"kind":"PutReadings","by":"AB","ref":"a-1","site":"01646500","readings":[["2024-01-05T05:00:00Z","100000.000001"]]}"#,
-        Member::Readings,
-    ),
-    (
-        r#"{"kind":"PutReadings","by":"AB","ref":"a-1","site":"01646500","readings":[["2024-01-05T05:00:00Z","1e3"]]}"#,
-        Member::Readings,
-    ),
-    (
-        r#"{"kind":"PutReadings","by":"AB","ref":"a-1","site":"01646500","readings":[["2024-01-05T05:00:00Z",1.91]]}"#,
-        Member::Readings,
-    ),
-];
-
-const TABLES: [(&str, &[Row]); 2] = [("settings", &SETTINGS), ("readings", &READINGS)];
+const TABLES: [(&str, &[Row]); 1] = [("settings", &SETTINGS)];
 
 #[test]
 fn bodies_are_refused_by_their_first_ill_formed_value(rt: HostRuntime) {

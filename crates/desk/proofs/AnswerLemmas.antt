@@ -15,8 +15,8 @@ use Rattle.http_api.specs.declared.asks.Ask.{Ask}
 use Rattle.http_api.specs.declared.asks.Ask.TheVariants as asks
 use Rattle.http_api.specs.declared.replies.Reply.TheVariants as replies
 use Rattle.office.specs.Edits.{IsRefused, IsRefusedBy, is_fault}
-use Rattle.station_inputs.specs.declared.refusals.Refusal.{Refusal}
-use Rattle.station_inputs.specs.declared.refusals.Refusal.TheVariants as refusals
+use Rattle.office_inputs.specs.declared.refusals.Refusal.{Refusal}
+use Rattle.office_inputs.specs.declared.refusals.Refusal.TheVariants as refusals
 
 -- what follows from a fact about an answer that is Ok
 pub on_ok : {X E : Type 0} (r : Result X E) (A B : Type 0) → (A → B) → OnOk r A → OnOk r B

@@ -1,4 +1,5 @@
 pub mod AnswerLemmas
+mod DailyLemmas
 pub mod EndLemmas
 pub mod PassingLemmas
 pub mod RepliesLemmas

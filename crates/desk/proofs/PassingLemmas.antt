@@ -13,8 +13,8 @@ use Rattle.journal.proofs.Moments.{started}
 use Rattle.journal.specs.Moments.{LeavesOnly}
 use Rattle.office.specs.Stops.{IsLeft, IsLeftBefore, IsLeftBetween}
 use Rattle.office.specs.Edits.{IsRefusedBy, IsTaken}
-use Rattle.station_inputs.specs.declared.refusals.Refusal.{Refusal}
-use Rattle.station_inputs.specs.declared.refusals.Refusal.TheVariants as refusals
+use Rattle.office_inputs.specs.declared.refusals.Refusal.{Refusal}
+use Rattle.office_inputs.specs.declared.refusals.Refusal.TheVariants as refusals
 use Rattle.records.specs.declared.payloads.Record.{Record}
 
 -- a history goes on by no event

@@ -1,18 +1,22 @@
 -- What is replied to a message, and what has happened then.
-use Rattle.std.specs.Prelude.{◌≡◌, ◌⊎◌, ℕ, ◌+◌, ◌-◌, ◌≤◌, Bool, true, false, List, [], ◌∷◌, ◌++◌, length, take, Option, Some, None, Result, Ok, Err}
+use Rattle.std.specs.Prelude.{◌≡◌, ◌⊎◌, ℕ, ◌+◌, ◌-◌, ◌≤◌, Bool, true, false, List, [], ◌∷◌, ◌++◌, length, map, take, Option, Some, None, is_some, Result, Ok, Err, ℤ}
 use Rattle.approval.specs.declared.Status.{Status}
+use Rattle.daily_values.specs.declared.day_values.DayValue.{DayValue}
+use Rattle.depend.specs.Compared.{days_within}
 use Rattle.edits.specs.declared.content.Edit.{Edit}
+use Rattle.fixed_units.specs.Quantities.{SiteNumber}
 use Rattle.history.specs.Accepted.{accepted, stations_at}
 use Rattle.history.specs.After.{after_edit, after_publications, after_settlement, after_turns}
-use Rattle.history.specs.Awaited.{DayAnswer, answer_at, pending_days}
+use Rattle.history.specs.Awaited.{DayAnswer, answer_at, awaited, pending_days, value_at}
 use Rattle.history.specs.Awaited as days
-use Rattle.history.specs.Events.{History}
+use Rattle.history.specs.Events.{Event, History}
 use Rattle.history.specs.Statuses.{status_at}
 use Rattle.history.specs.Verdicts.{Verdict, Repeats, Refuses, Accepts, verdict}
 use Rattle.http_api.specs.Asks.{Question, ask_of, question}
 use Rattle.http_api.specs.Days.{answer_members, status_member, value_members}
 use Rattle.http_api.specs.Replies.{bytes_of, status_by}
 use Rattle.http_api.specs.Stations.{station_text}
+use Rattle.http_api.specs.Tables.{Row, pending_row, table_text, value_row}
 use Rattle.http_api.specs.declared.asks.Ask.{Ask}
 use Rattle.http_api.specs.declared.asks.Ask.TheVariants as asks
 use Rattle.http_api.specs.declared.asks.Denied.{Denied}
@@ -23,11 +27,11 @@ use Rattle.measurements.specs.declared.departures.Departure.{Departure}
 use Rattle.office.specs.Edits.{IsFaulted}
 use Rattle.office_inputs.specs.Stations.{station_of}
 use Rattle.station_inputs.specs.Stations.{StationRecord}
-use Rattle.station_inputs.specs.declared.refusals.Refusal.TheVariants.{JournalFault}
+use Rattle.office_inputs.specs.declared.refusals.Refusal.TheVariants.{JournalFault}
 use Rattle.wire.specs.ReplyHead.{reply_bytes}
 use Rattle.wire.specs.declared.messages.Message.{Message}
 use Rattle.wire.specs.declared.messages.Message.TheVariants as messages
-use Rattle.wire.specs.declared.replies.Kind.TheVariants.{Json}
+use Rattle.wire.specs.declared.replies.Kind.TheVariants.{Csv, Json}
 
 -- an answer of this body
 abbrev pub answer_bytes : List ℕ → List ℕ
@@ -55,6 +59,23 @@ day_reply status days.NoStation = bytes_of replies.NoStation
 day_reply status (days.Pending edit) = answer_bytes (answer_members (told.Pending edit) ++ status_member status)
 day_reply status (days.Computed value) = answer_bytes (value_members value ++ status_member status)
 
+-- the row of a day of this status in a daily table: the edit that it awaits, or else its value
+abbrev pub row_by : ℤ → Status → Option ℕ → DayValue → Row
+row_by day status None value = value_row day value status
+row_by day status (Some edit) value = pending_row day edit status
+
+abbrev pub row_at : List Event → SiteNumber → ℤ → Row
+row_at events site day = row_by day (status_at events site day) (awaited events site day) (value_at events site day)
+
+-- the reply for the daily table of a site: a row of each day from one day to another, both included
+abbrev pub table_reply : Bool → List Row → List ℕ
+table_reply false rows = bytes_of replies.NoStation
+table_reply true rows = reply_bytes (status_by None) Csv None (table_text rows)
+
+abbrev pub daily_reply : List Event → SiteNumber → ℤ → ℤ → List ℕ
+daily_reply events site from to =
+    table_reply (is_some (station_of (stations_at events) site)) (map (row_at events site) (days_within from to))
+
 -- the reply for a measurement of a station
 abbrev pub departure_reply : Option Departure → List ℕ
 departure_reply None = bytes_of replies.NoMeasurement
@@ -74,6 +95,7 @@ abbrev pub history_after : History → Ask → History
 history_after h (asks.Edit edit) = history_by (verdict h edit) h edit
 history_after h (asks.Station site) = h
 history_after h (asks.DayOf site day) = h
+history_after h (asks.Daily site from to) = h
 history_after h (asks.Measurement site number) = h
 history_after h (asks.Turns count) = after_turns count h
 history_after h asks.Settle = after_settlement h
@@ -84,6 +106,7 @@ abbrev pub reply_to : History → Ask → List ℕ
 reply_to h (asks.Edit edit) = edit_reply (verdict h edit) (length (accepted h.events) + 1)
 reply_to h (asks.Station site) = station_reply (station_of (stations_at h.events) site)
 reply_to h (asks.DayOf site day) = day_reply (status_at h.events site day) (answer_at h.events site day)
+reply_to h (asks.Daily site from to) = daily_reply h.events site from to
 reply_to h (asks.Measurement site number) = measurement_reply number (station_of (stations_at h.events) site)
 reply_to h (asks.Turns count) = turned_reply h (after_turns count h)
 reply_to h asks.Settle = turned_reply h (after_settlement h)
@@ -101,6 +124,7 @@ abbrev pub Fails : History → Ask → List ℕ → History → Type 0
 Fails h (asks.Edit edit) reply next = (in_doubt : Bool) × (reply ≡ fault_reply in_doubt) × IsFaulted h edit next in_doubt
 Fails h (asks.Station site) reply next = ⊥
 Fails h (asks.DayOf site day) reply next = ⊥
+Fails h (asks.Daily site from to) reply next = ⊥
 Fails h (asks.Measurement site number) reply next = ⊥
 Fails h (asks.Turns count) reply next = ⊥
 Fails h asks.Settle reply next = ⊥
@@ -111,6 +135,7 @@ abbrev pub IsLeftBy : History → Ask → History → Type 0
 IsLeftBy h (asks.Edit edit) next = next ≡ h
 IsLeftBy h (asks.Station site) next = next ≡ h
 IsLeftBy h (asks.DayOf site day) next = next ≡ h
+IsLeftBy h (asks.Daily site from to) next = next ≡ h
 IsLeftBy h (asks.Measurement site number) next = next ≡ h
 IsLeftBy h (asks.Turns count) next = (turns : ℕ) × (turns ≤ count) × (next ≡ after_turns turns h)
 IsLeftBy h asks.Settle next = (count : ℕ) × (count ≤ length (pending_days h.events)) × (next ≡ after_publications h (take count (pending_days h.events)))

@@ -11,7 +11,7 @@ const NO_ROUTE: &str = r#"{"code":"NoRoute"}"#;
 const NOT_ALLOWED: &str = r#"{"code":"NotAllowed"}"#;
 
 /// Another method on a target that there is.
-const METHODS: [Exchange; 12] = [
+const METHODS: [Exchange; 13] = [
     ("DELETE /settle", "", POST_ALONE, NOT_ALLOWED),
     ("GET /settle", "", POST_ALONE, NOT_ALLOWED),
     ("GET /edits", "", POST_ALONE, NOT_ALLOWED),
@@ -33,11 +33,17 @@ const METHODS: [Exchange; 12] = [
         GET_ALONE,
         NOT_ALLOWED,
     ),
+    (
+        "POST /stations/01646500/daily/2024-02-29/2024-02-29",
+        "",
+        GET_ALONE,
+        NOT_ALLOWED,
+    ),
     ("GET /status", "", OK, r#"{"edits":0,"pending":0}"#),
 ];
 
 /// Targets that there are not, whatever the method.
-const TARGETS: [Exchange; 33] = [
+const TARGETS: [Exchange; 41] = [
     ("GET /nothing", "", NOT_FOUND, NO_ROUTE),
     ("DELETE /nothing", "", NOT_FOUND, NO_ROUTE),
     ("POST /nothing", "", NOT_FOUND, NO_ROUTE),
@@ -82,6 +88,49 @@ const TARGETS: [Exchange; 33] = [
     ),
     (
         "GET /stations/01646500/days/2100-01-01",
+        "",
+        NOT_FOUND,
+        NO_ROUTE,
+    ),
+    ("GET /stations/01646500/daily", "", NOT_FOUND, NO_ROUTE),
+    (
+        "GET /stations/01646500/daily/2024-01-05",
+        "",
+        NOT_FOUND,
+        NO_ROUTE,
+    ),
+    (
+        "GET /stations/01646500/daily/2024-01-05/",
+        "",
+        NOT_FOUND,
+        NO_ROUTE,
+    ),
+    (
+        "GET /stations/01646500/daily/2024-01-05/2024-01-05/",
+        "",
+        NOT_FOUND,
+        NO_ROUTE,
+    ),
+    (
+        "GET /stations/01646500/daily/2024-01-05/2024-01-04",
+        "",
+        NOT_FOUND,
+        NO_ROUTE,
+    ),
+    (
+        "GET /stations/01646500/daily/2023-12-31/2024-12-31",
+        "",
+        NOT_FOUND,
+        NO_ROUTE,
+    ),
+    (
+        "DELETE /stations/01646500/daily/2024-01-01/2024-13-01",
+        "",
+        NOT_FOUND,
+        NO_ROUTE,
+    ),
+    (
+        "GET /stations/1646500/daily/2024-01-05/2024-01-05",
         "",
         NOT_FOUND,
         NO_ROUTE,

@@ -1,12 +1,15 @@
 pub mod AnswerLemmas
 pub mod ChainLemmas
+pub mod EachLemmas
 pub mod FieldLemmas
 pub mod MemberLemmas
 pub mod PairLemmas
 pub mod PointLemmas
 pub mod RatingLemmas
+pub mod ReadingLemmas
 pub mod RowLemmas
 pub mod SiteLemmas
 pub mod TextLemmas
 pub mod TreeLemmas
+pub mod UsualLemmas
 pub mod ZoneLemmas

@@ -1,8 +1,8 @@
 -- Rows of two quantities, each of its kind.
-use Rattle.std.proofs.Common.{◌≡◌, Bool, true, false, List, [], ◌∷◌, ℤ, All, Option, Some, None, option_and_then, option_map, if◌then◌else◌, refl, sym, ap, ◌∙◌, subst}
+use Rattle.std.proofs.Common.{◌≡◌, Bool, true, false, List, ℤ, All, Option, Some, None, option_and_then, if◌then◌else◌, refl, sym, ap, ◌∙◌, subst}
 use Rattle.std.proofs.lemmas.Bool.{and_parts}
-use Rattle.std.proofs.lemmas.List.Elements.{All-cons, All-nil}
 use Rattle.civil_days.specs.Spelling.{only}
+use Rattle.edit_bodies.proofs.EachLemmas.{each-holds}
 use Rattle.edit_bodies.specs.Grammars.{each_of, pair_in, pair_of, quantity_of}
 use Rattle.fixed_units.specs.Quantities.{IsWithin, is_within}
 use Rattle.rising.proofs.Parting.{yes_le}
@@ -13,7 +13,7 @@ pub within : (least greatest n : ℤ) → is_within least greatest n ≡ true �
 within least greatest n e = let p = and_parts _ _ e in record { low = yes_le _ _ p.0; high = yes_le _ _ p.1 }
 
 -- a number that is only of a kind is of it
-of_kind : (kind : ℤ → Bool) (o : Option ℤ) (n : ℤ) → only kind o ≡ Some n → kind n ≡ true
+pub of_kind : (kind : ℤ → Bool) (o : Option ℤ) (n : ℤ) → only kind o ≡ Some n → kind n ≡ true
 of_kind kind None n e = absurd cc
 of_kind kind (Some m) n e = by (kind m) refl e
   where
@@ -51,13 +51,4 @@ module _ (kind other : ℤ → Bool) (P : ℤ × ℤ → Type 0) (holds : (p : �
 
   -- each pair that is read holds it
   pub each_pair : (rows : Items) (ps : List (ℤ × ℤ)) → each_of (λ value. option_and_then pair (as_array value)) rows ≡ Some ps → All P ps
-  each_pair no_items ps e = let same : [] ≡ ps = cc in subst (All P) same (All-nil P)
-  each_pair (item value rest) ps e = by (option_and_then pair (as_array value)) (each_of (λ value. option_and_then pair (as_array value)) rest) refl (each_pair rest) e
-    where
-      by : (o : Option (ℤ × ℤ)) (more : Option (List (ℤ × ℤ))) → option_and_then pair (as_array value) ≡ o → ((qs : List (ℤ × ℤ)) → more ≡ Some qs → All P qs)
-          → option_and_then (λ x. option_map (λ xs. x ∷ xs) more) o ≡ Some ps → All P ps
-      by None more is further e = absurd cc
-      by (Some p) None is further e = absurd cc
-      by (Some p) (Some qs) is further e =
-          let same : p ∷ qs ≡ ps = cc in
-          subst (All P) same (All-cons P p qs (of_value value p is) (further qs refl))
+  each_pair rows ps e = each-holds (λ value. option_and_then pair (as_array value)) P of_value rows ps e

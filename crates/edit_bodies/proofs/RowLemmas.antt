@@ -1,40 +1,10 @@
--- Rows of readings, and rows of points.
-use Rattle.std.proofs.Common.{◌≡◌, List, [], ◌∷◌, length, ℤ, Option, Some, None, option_map, option_and_then, Bool, true, false, ◌&&◌, nat_le, if◌then◌else◌, ap, refl, arith}
-use Rattle.std.proofs.lemmas.Bool.{lt-leb}
-use Rattle.edit_bodies.specs.Grammars.{kept_if, are_put, are_rising, curve_if, each_of, pair_in, point_of, reading_of, reading_of_row}
-use Rattle.edits.specs.Lawful.{most_readings}
-use Rattle.fixed_units.specs.declared.readings.Reading.{Reading}
+-- Rows of pairs, and rows of points.
+use Rattle.std.proofs.Common.{◌≡◌, List, [], ◌∷◌, length, ℤ, Option, Some, None, option_map, option_and_then, refl}
+use Rattle.edit_bodies.specs.Grammars.{curve_if, each_of, pair_in, point_of}
 use Rattle.edit_bodies.specs.Trees.{Tree, stated, items_stated}
 use Rattle.serde_json.specs.Data.{Data}
 
--- a row of other than two strings has no reading
-pub wrong_row : (vs : List Tree) → (length vs ≡ 2 → ⊥) → reading_of_row (items_stated vs) ≡ None
-wrong_row [] other = refl
-wrong_row (a ∷ []) other = refl
-wrong_row (a ∷ b ∷ []) other = absurd (other refl)
-wrong_row (a ∷ b ∷ c ∷ vs) other = refl
-
-second_fails : (a b c : Bool) → b ≡ false → (a && b && c) ≡ false
-second_fails true b c e = ap (λ (x : Bool). x && c) e
-second_fails false b c e = refl
-
-two_rows : (one other : Option Reading) (more : Option (List Reading)) → option_and_then (kept_if are_put) (option_and_then (λ x. option_map (λ xs. x ∷ xs) (option_and_then (λ y. option_map (λ ys. y ∷ ys) more) other)) one) ≡ None
-two_rows None other more = refl
-two_rows (Some x) None more = refl
-two_rows (Some x) (Some y) None = refl
-two_rows (Some x) (Some y) (Some ys) =
-    let n = length (x ∷ y ∷ ys) in
-    let wide : nat_le n most_readings ≡ false = lt-leb n 1 (omega arith) in
-    let not_put : are_put (x ∷ y ∷ ys) ≡ false = second_fails (nat_le 1 n) (nat_le n most_readings) (are_rising (x ∷ y ∷ ys)) wide in
-    ap (λ (b : Bool). if b then Some (x ∷ y ∷ ys) else None) not_put
-
--- other than one row puts nothing
-pub wrong_rows : (vs : List Tree) → (length vs ≡ 1 → ⊥) → option_and_then (kept_if are_put) (each_of reading_of (items_stated vs)) ≡ None
-wrong_rows [] other = refl
-wrong_rows (a ∷ []) other = absurd (other refl)
-wrong_rows (a ∷ b ∷ vs) other = two_rows (reading_of (stated a)) (reading_of (stated b)) (each_of reading_of (items_stated vs))
-
--- nor has it a pair
+-- a row of other than two strings has no pair
 pub wrong_pair : (read_first read_second : Data → Option ℤ) (vs : List Tree) → (length vs ≡ 2 → ⊥) → pair_in read_first read_second (items_stated vs) ≡ None
 wrong_pair read_first read_second [] other = refl
 wrong_pair read_first read_second (a ∷ []) other = refl

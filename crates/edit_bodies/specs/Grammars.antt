@@ -1,7 +1,7 @@
 -- The grammars of members: what a value states, or nothing where it is ill formed.
-use Rattle.std.specs.Prelude.{ℕ, bytes_eq, codes, is_none, is_some, Bool, true, ◌&&◌, nat_le, List, [], ◌∷◌, length, int_lt, ℤ, Option, Some, None, option_map, option_and_then, if◌then◌else◌}
+use Rattle.std.specs.Prelude.{ℕ, bytes_eq, codes, is_none, is_some, Bool, true, ◌&&◌, nat_le, List, [], ◌∷◌, length, int_le, int_lt, ℤ, Option, Some, None, option_map, option_and_then, if◌then◌else◌}
 use Rattle.std.specs.Result.{result_ok}
-use Rattle.civil_days.specs.Spelling.{stamp_of_text, only}
+use Rattle.civil_days.specs.Spelling.{day_of_text, stamp_of_text, only}
 use Rattle.curves.specs.Curve.{curve_of}
 use Rattle.edit_bodies.specs.Texts.{are_initials, is_reference, is_name, is_array, site_of_text}
 use Rattle.edit_bodies.specs.Zones.{is_zone}
@@ -10,7 +10,8 @@ use Rattle.fixed_units.specs.Decimals.{decimal_of}
 use Rattle.edits.specs.declared.measurements.Grade.{Grade}
 use Rattle.edits.specs.declared.measurements.Grade.TheVariants.{Excellent, Good, Fair, Poor}
 use Rattle.fixed_units.specs.Quantities.{SiteNumber, is_amount, is_discharge, is_stage}
-use Rattle.fixed_units.specs.declared.readings.Flag.TheVariants.{Usable}
+use Rattle.fixed_units.specs.declared.readings.Flag.{Flag}
+use Rattle.fixed_units.specs.declared.readings.Flag.TheVariants.{Usable, Erroneous, Affected}
 use Rattle.fixed_units.specs.declared.readings.Reading.{Reading}
 use Rattle.rating_tables.specs.Table.{table_fault}
 use Rattle.serde_json.specs.Data.{Data, Items, no_items, item}
@@ -79,18 +80,31 @@ abbrev pub each_of : {A : Type 0} → (Data → Option A) → Items → Option (
 each_of read no_items = Some []
 each_of read (item value rest) = option_and_then (λ x. option_map (λ xs. x ∷ xs) (each_of read rest)) (read value)
 
--- a usable reading of that stage at that instant
-abbrev pub usable_of : Option ℤ → Option ℤ → Option Reading
-usable_of None raw = None
-usable_of (Some at) None = None
-usable_of (Some at) (Some raw) = Some (record { at = at; raw = raw; flag = Usable })
+-- the flag of a reading
+abbrev pub flag_of_text : List ℕ → Option Flag
+flag_of_text text =
+    if bytes_eq text (codes "ok") then Some Usable
+    else (if bytes_eq text (codes "erroneous") then Some Erroneous
+    else (if bytes_eq text (codes "affected") then Some Affected
+    else None))
 
--- the reading of a row: an instant and a stage, and nothing else
+abbrev pub flag_of : Data → Option Flag
+flag_of value = string_of flag_of_text value
+
+-- a reading of that stage at that instant with that flag, if each is there
+abbrev pub flagged_of : Option ℤ → Option ℤ → Option Flag → Option Reading
+flagged_of None raw flag = None
+flagged_of (Some at) None flag = None
+flagged_of (Some at) (Some raw) None = None
+flagged_of (Some at) (Some raw) (Some flag) = Some (record { at = at; raw = raw; flag = flag })
+
+-- the reading of a row: an instant, a stage and a flag, and nothing else; without a flag it is usable
 abbrev pub reading_of_row : Items → Option Reading
 reading_of_row no_items = None
 reading_of_row (item at no_items) = None
-reading_of_row (item at (item raw no_items)) = usable_of (instant_of at) (stage_of raw)
-reading_of_row (item at (item raw (item more rest))) = None
+reading_of_row (item at (item raw no_items)) = flagged_of (instant_of at) (stage_of raw) (Some Usable)
+reading_of_row (item at (item raw (item flag no_items))) = flagged_of (instant_of at) (stage_of raw) (flag_of flag)
+reading_of_row (item at (item raw (item flag (item more rest)))) = None
 
 abbrev pub reading_of : Data → Option Reading
 reading_of value = option_and_then reading_of_row (as_array value)
@@ -154,6 +168,14 @@ table_of value = option_and_then table_if (option_and_then (each_of rating_row_o
 -- the end of a period that begins at an instant: a stamp after it, or none
 abbrev pub until_of : ℤ → Data → Option (Option ℤ)
 until_of from value = if is_some (as_null value) then Some None else option_map Some (only (int_lt from) (instant_of value))
+
+-- the last instant of a span that begins at an instant: a stamp that is not before it
+abbrev pub to_of : ℤ → Data → Option ℤ
+to_of from value = only (int_le from) (instant_of value)
+
+-- a day of the calendar
+abbrev pub day_of : Data → Option ℤ
+day_of value = string_of day_of_text value
 
 -- the number of a measurement
 abbrev pub measurement_number_of : Data → Option ℕ

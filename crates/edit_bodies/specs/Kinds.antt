@@ -2,13 +2,13 @@
 use Rattle.std.specs.Prelude.{ℕ, List, codes, bytes_eq, Option, Some, None, if◌then◌else◌}
 use Rattle.serde_json.specs.Data.{Data}
 use Rattle.serde_json.specs.Find.{as_bool}
-use Rattle.edit_bodies.specs.Grammars.{string_of, name_of, zone_of, gap_of, array_of, readings_of, set_of, instant_of, points_of, rating_number_of, table_of, until_of, measurement_number_of, stage_of, discharge_of, grade_of}
+use Rattle.edit_bodies.specs.Grammars.{string_of, name_of, zone_of, gap_of, array_of, readings_of, flag_of, to_of, day_of, set_of, instant_of, points_of, rating_number_of, table_of, until_of, measurement_number_of, stage_of, discharge_of, grade_of}
 use Rattle.edit_bodies.specs.Members.{Reader, ◌>>=◌, done, required}
 use Rattle.edit_bodies.specs.declared.kinds.Kind.{Kind}
 use Rattle.edit_bodies.specs.declared.kinds.Kind.TheVariants as kinds
-use Rattle.edit_bodies.specs.declared.members.Member.TheVariants.{Name, Zone, Gap, StageArray, DischargeArray, Readings, Set, At, Points, Prorate, Rating, Rows, From, Until, Number, Gage, Discharge, Grade}
+use Rattle.edit_bodies.specs.declared.members.Member.TheVariants.{Name, Zone, Gap, StageArray, DischargeArray, Readings, To, Flag, Set, At, Points, Prorate, Rating, Rows, From, Until, Day, Number, Gage, Discharge, Grade}
 use Rattle.edits.specs.declared.content.What.{What}
-use Rattle.edits.specs.declared.content.What.TheVariants.{AddStation, SetStation, PutReadings, PutCorrection, DropCorrection, PutShift, DropShift, AddRating, PutPeriod, DropPeriod, PutMeasurement, DropMeasurement}
+use Rattle.edits.specs.declared.content.What.TheVariants.{AddStation, SetStation, PutReadings, DropReadings, FlagReadings, PutCorrection, DropCorrection, PutShift, DropShift, AddRating, PutPeriod, DropPeriod, PutEstimate, DropEstimate, PutMeasurement, DropMeasurement}
 
 -- the kind of a name
 abbrev pub kind_of_text : List ℕ → Option Kind
@@ -16,6 +16,8 @@ kind_of_text text =
     if bytes_eq text (codes "AddStation") then Some kinds.AddStation
     else (if bytes_eq text (codes "SetStation") then Some kinds.SetStation
     else (if bytes_eq text (codes "PutReadings") then Some kinds.PutReadings
+    else (if bytes_eq text (codes "DropReadings") then Some kinds.DropReadings
+    else (if bytes_eq text (codes "FlagReadings") then Some kinds.FlagReadings
     else (if bytes_eq text (codes "PutCorrection") then Some kinds.PutCorrection
     else (if bytes_eq text (codes "DropCorrection") then Some kinds.DropCorrection
     else (if bytes_eq text (codes "PutShift") then Some kinds.PutShift
@@ -23,9 +25,11 @@ kind_of_text text =
     else (if bytes_eq text (codes "AddRating") then Some kinds.AddRating
     else (if bytes_eq text (codes "PutPeriod") then Some kinds.PutPeriod
     else (if bytes_eq text (codes "DropPeriod") then Some kinds.DropPeriod
+    else (if bytes_eq text (codes "PutEstimate") then Some kinds.PutEstimate
+    else (if bytes_eq text (codes "DropEstimate") then Some kinds.DropEstimate
     else (if bytes_eq text (codes "PutMeasurement") then Some kinds.PutMeasurement
     else (if bytes_eq text (codes "DropMeasurement") then Some kinds.DropMeasurement
-    else None)))))))))))
+    else None)))))))))))))))
 
 abbrev pub kind_of : Data → Option Kind
 kind_of value = string_of kind_of_text value
@@ -48,6 +52,15 @@ row kinds.SetStation = do
 row kinds.PutReadings = do
   readings ← required Readings readings_of
   done (PutReadings readings)
+row kinds.DropReadings = do
+  from ← required From instant_of
+  to ← required To (to_of from)
+  done (DropReadings from to)
+row kinds.FlagReadings = do
+  from ← required From instant_of
+  to ← required To (to_of from)
+  flag ← required Flag flag_of
+  done (FlagReadings from to flag)
 row kinds.PutCorrection = do
   set ← required Set set_of
   at ← required At instant_of
@@ -78,6 +91,13 @@ row kinds.PutPeriod = do
 row kinds.DropPeriod = do
   from ← required From instant_of
   done (DropPeriod from)
+row kinds.PutEstimate = do
+  day ← required Day day_of
+  discharge ← required Discharge discharge_of
+  done (PutEstimate (record { day = day; discharge = discharge }))
+row kinds.DropEstimate = do
+  day ← required Day day_of
+  done (DropEstimate day)
 row kinds.PutMeasurement = do
   number ← required Number measurement_number_of
   at ← required At instant_of

@@ -5,4 +5,5 @@ pub mod Kinds
 pub mod Members
 pub mod Texts
 pub mod Trees
+pub mod UsualForm
 pub mod Zones

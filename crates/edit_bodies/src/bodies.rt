@@ -1,16 +1,18 @@
 //! The body of an edit, read as one.
 
 ghost use Rattle.std.specs.Prelude.{◌≡◌, ◌≢◌, IfOk, Ok, Err, Some, None, option_map};
-ghost use Rattle.edit_bodies.specs.Bodies.{edit_of, edit_in, parts, value_of};
+ghost use Rattle.edit_bodies.specs.Bodies.{edit_of, edit_of_value, edit_in, parts};
 ghost use Rattle.edit_bodies.specs.Answers.{IsMade};
 ghost use Rattle.edit_bodies.specs.Trees.{left, stated};
 ghost use Rattle.serde_json.specs.Find.{as_object};
+ghost use Rattle.serde_json.specs.Read.{read};
 
 use crate::faults::BodyFault;
 use crate::grammars::{take_by, take_reference, take_site};
 use crate::kinds::{take_kind, take_what};
 use crate::members::{Fields, Member, is_none_left};
 use crate::trees::read_tree;
+use crate::usual_form::usual_put;
 use edits::Edit;
 use json::{Error, Scratch, Value};
 use std::alloc::Global;
@@ -29,7 +31,23 @@ pub fn read_edit(alloc: Global, body: &[u8], scratch: &mut Scratch) -> Result<Ed
     ensures json { result ≡ Err BodyFault.Json → edit_of body.now ≡ Err BodyFault.Json }
     ensures member { (name : Member) → result ≡ Err (BodyFault.Body name) → edit_of body.now ≡ Err (BodyFault.Body name) }
 {
-    let value = value_of(alloc, body, scratch)?;
+    let Ok(text) = str::from_utf8(body) else {
+        return Err(BodyFault::Json);
+    };
+    // a put of many readings, as loggers send it, needs no tree
+    match usual_put(alloc, text, scratch) {
+        Some(edit) => Ok(edit),
+        None => edit_of_tree(alloc, text, scratch),
+    }
+}
+
+/// The edit that a text is by its tree.
+fn edit_of_tree(alloc: Global, text: &str, scratch: &mut Scratch) -> Result<Edit, BodyFault>
+    ensures edit { IfOk result (λ edit. edit_of_value (read text.now) ≡ Ok (parts edit)) }
+    ensures json { result ≡ Err BodyFault.Json → edit_of_value (read text.now) ≡ Err BodyFault.Json }
+    ensures member { (name : Member) → result ≡ Err (BodyFault.Body name) → edit_of_value (read text.now) ≡ Err (BodyFault.Body name) }
+{
+    let value = value_of(alloc, text, scratch)?;
     let Some(mut members) = members_in(value) else {
         return Err(BodyFault::Body(Member::Kind));
     };
@@ -39,16 +57,13 @@ pub fn read_edit(alloc: Global, body: &[u8], scratch: &mut Scratch) -> Result<Ed
 /// The value that a text states.
 fn value_of<'a>(
     alloc: Global,
-    body: &'a [u8],
+    text: &'a str,
     scratch: &'a mut Scratch,
 ) -> Result<Value<'a>, BodyFault>
-    ensures value { IfOk result (λ value. value_of body.now ≡ Some (stated value)) }
-    ensures json { result ≡ Err BodyFault.Json → value_of body.now ≡ None }
+    ensures value { IfOk result (λ value. read text.now ≡ Some (stated value)) }
+    ensures json { result ≡ Err BodyFault.Json → read text.now ≡ None }
     ensures only { (name : Member) → result ≢ Err (BodyFault.Body name) }
 {
-    let Ok(text) = str::from_utf8(body) else {
-        return Err(BodyFault::Json);
-    };
     match read_tree(alloc, text, scratch) {
         Ok(value) => Ok(value),
         Err(Error::Invalid) => Err(BodyFault::Json),

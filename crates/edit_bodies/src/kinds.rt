@@ -7,6 +7,7 @@ ghost use Rattle.edit_bodies.specs.Members.{required};
 ghost use Rattle.edits.specs.Lawful.{IsLawful};
 
 use crate::curve_points::take_points;
+use crate::estimates::take_day;
 use crate::faults::BodyFault;
 use crate::grammars::{
     take_array, take_gap, take_instant, take_name, take_prorate, take_set, take_text, take_zone,
@@ -16,7 +17,8 @@ use crate::members::{Fields, Member};
 use crate::periods::take_until;
 use crate::rating_rows::{take_rating_number, take_table};
 use crate::reading_rows::take_readings;
-use edits::{Measurement, What};
+use crate::spans::{take_flag, take_to};
+use edits::{Estimate, Measurement, What};
 use ratings::Period;
 use std::alloc::Global;
 
@@ -29,6 +31,10 @@ pub enum Kind {
     SetStation,
     /// Puts readings.
     PutReadings,
+    /// Takes out the readings of a span.
+    DropReadings,
+    /// Flags the readings of a span.
+    FlagReadings,
     /// Puts an entry of a correction set.
     PutCorrection,
     /// Takes out an entry of a correction set.
@@ -43,6 +49,10 @@ pub enum Kind {
     PutPeriod,
     /// Takes out a period.
     DropPeriod,
+    /// Puts an estimate of a day.
+    PutEstimate,
+    /// Takes out an estimate of a day.
+    DropEstimate,
     /// Puts a field measurement.
     PutMeasurement,
     /// Takes out a field measurement.
@@ -67,6 +77,10 @@ fn kind_named(text: &[u8]) -> Option<Kind>
         Some(Kind::SetStation)
     } else if text == b"PutReadings".as_slice() {
         Some(Kind::PutReadings)
+    } else if text == b"DropReadings".as_slice() {
+        Some(Kind::DropReadings)
+    } else if text == b"FlagReadings".as_slice() {
+        Some(Kind::FlagReadings)
     } else if text == b"PutCorrection".as_slice() {
         Some(Kind::PutCorrection)
     } else if text == b"DropCorrection".as_slice() {
@@ -81,6 +95,10 @@ fn kind_named(text: &[u8]) -> Option<Kind>
         Some(Kind::PutPeriod)
     } else if text == b"DropPeriod".as_slice() {
         Some(Kind::DropPeriod)
+    } else if text == b"PutEstimate".as_slice() {
+        Some(Kind::PutEstimate)
+    } else if text == b"DropEstimate".as_slice() {
+        Some(Kind::DropEstimate)
     } else if text == b"PutMeasurement".as_slice() {
         Some(Kind::PutMeasurement)
     } else if text == b"DropMeasurement".as_slice() {
@@ -103,6 +121,8 @@ pub(crate) fn take_what(
         Kind::AddStation => take_addition(alloc, fields),
         Kind::SetStation => take_setting(alloc, fields),
         Kind::PutReadings => take_put(alloc, fields),
+        Kind::DropReadings => take_dropped_span(fields),
+        Kind::FlagReadings => take_flagged_span(fields),
         Kind::PutCorrection => take_correction(fields),
         Kind::DropCorrection => take_dropped_correction(fields),
         Kind::PutShift => take_shift(fields),
@@ -110,6 +130,8 @@ pub(crate) fn take_what(
         Kind::AddRating => take_rating(alloc, fields),
         Kind::PutPeriod => take_period(fields),
         Kind::DropPeriod => take_dropped_period(fields),
+        Kind::PutEstimate => take_estimate(fields),
+        Kind::DropEstimate => take_dropped_estimate(fields),
         Kind::PutMeasurement => take_measurement(fields),
         Kind::DropMeasurement => take_dropped_measurement(fields),
     }
@@ -158,6 +180,27 @@ fn take_put(alloc: Global, fields: &mut Fields<'_>) -> Result<What, BodyFault>
 {
     let readings = take_readings(alloc, fields)?;
     Ok(What::PutReadings { readings })
+}
+
+/// The drop of the readings of a span.
+fn take_dropped_span(fields: &mut Fields<'_>) -> Result<What, BodyFault>
+    ensures read { IsTaken (row Kind.DropReadings) fields.old result fields.new }
+    ensures lawful { IfOk result IsLawful }
+{
+    let from = take_instant(fields, Member::From)?;
+    let to = take_to(fields, from)?;
+    Ok(What::DropReadings { from, to })
+}
+
+/// The flagging of the readings of a span.
+fn take_flagged_span(fields: &mut Fields<'_>) -> Result<What, BodyFault>
+    ensures read { IsTaken (row Kind.FlagReadings) fields.old result fields.new }
+    ensures lawful { IfOk result IsLawful }
+{
+    let from = take_instant(fields, Member::From)?;
+    let to = take_to(fields, from)?;
+    let flag = take_flag(fields)?;
+    Ok(What::FlagReadings { from, to, flag })
 }
 
 /// The put of an entry of a correction set.
@@ -241,6 +284,27 @@ fn take_dropped_period(fields: &mut Fields<'_>) -> Result<What, BodyFault>
 {
     let from = take_instant(fields, Member::From)?;
     Ok(What::DropPeriod { from })
+}
+
+/// The put of an estimate.
+fn take_estimate(fields: &mut Fields<'_>) -> Result<What, BodyFault>
+    ensures read { IsTaken (row Kind.PutEstimate) fields.old result fields.new }
+    ensures lawful { IfOk result IsLawful }
+{
+    let day = take_day(fields)?;
+    let discharge = take_discharge(fields)?;
+    Ok(What::PutEstimate {
+        estimate: Estimate { day, discharge },
+    })
+}
+
+/// The drop of an estimate.
+fn take_dropped_estimate(fields: &mut Fields<'_>) -> Result<What, BodyFault>
+    ensures read { IsTaken (row Kind.DropEstimate) fields.old result fields.new }
+    ensures lawful { IfOk result IsLawful }
+{
+    let day = take_day(fields)?;
+    Ok(What::DropEstimate { day })
 }
 
 /// The put of a field measurement.

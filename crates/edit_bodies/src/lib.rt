@@ -3,6 +3,7 @@
 
 pub mod bodies;
 mod curve_points;
+mod estimates;
 pub mod faults;
 mod grammars;
 pub mod kinds;
@@ -14,7 +15,9 @@ mod rating_rows;
 mod reading_rows;
 mod rows;
 pub mod sites;
+mod spans;
 mod trees;
+mod usual_form;
 
 pub use bodies::read_edit;
 pub use faults::BodyFault;

@@ -65,7 +65,7 @@ fn gage_at(fields: &Fields<'_>) -> Option<Micro>
     stage_in(value_at(fields, Member::Gage)?)
 }
 
-/// Takes out the discharge of a measurement.
+/// Takes out the discharge of a measurement or of an estimate.
 pub(crate) fn take_discharge(fields: &mut Fields<'_>) -> Result<Micro, BodyFault>
     ensures read { IsTaken (required Member.Discharge discharge_of) fields.old result fields.new }
     ensures discharge { IfOk result IsDischarge }

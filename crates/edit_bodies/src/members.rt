@@ -31,6 +31,10 @@ pub enum Member {
     DischargeArray,
     /// The readings that are put.
     Readings,
+    /// The last instant of a span.
+    To,
+    /// The flag of readings.
+    Flag,
     /// The number of a correction set.
     Set,
     /// The instant of an entry.
@@ -43,15 +47,17 @@ pub enum Member {
     Rating,
     /// The rows of a rating.
     Rows,
-    /// The start of a period.
+    /// The start of a period or of a span.
     From,
     /// The end of a period.
     Until,
+    /// The day of an estimate.
+    Day,
     /// The number of a field measurement.
     Number,
     /// The gage height of a field measurement.
     Gage,
-    /// The discharge of a field measurement.
+    /// The discharge of an estimate or of a field measurement.
     Discharge,
     /// The grade of a field measurement.
     Grade,
@@ -75,6 +81,8 @@ impl Member {
             Member::StageArray => "stage_array",
             Member::DischargeArray => "discharge_array",
             Member::Readings => "readings",
+            Member::To => "to",
+            Member::Flag => "flag",
             Member::Set => "set",
             Member::At => "at",
             Member::Points => "points",
@@ -83,6 +91,7 @@ impl Member {
             Member::Rows => "rows",
             Member::From => "from",
             Member::Until => "until",
+            Member::Day => "day",
             Member::Number => "number",
             Member::Gage => "gage",
             Member::Discharge => "discharge",

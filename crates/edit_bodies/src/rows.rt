@@ -1,13 +1,13 @@
 //! The items of an array, and the strings among them.
 
 ghost use Rattle.std.specs.Prelude.{◌≡◌, IfSome, option_map};
-ghost use Rattle.edit_bodies.specs.Grammars.{amount_of, discharge_of, instant_of, quantity_of, stage_of};
+ghost use Rattle.edit_bodies.specs.Grammars.{amount_of, discharge_of, flag_of, flag_of_text, instant_of, quantity_of, stage_of};
 ghost use Rattle.edit_bodies.specs.Trees.{items_stated, stated};
 ghost use Rattle.fixed_units.specs.Quantities.{IsAmount, IsDischarge, IsStage, IsStamp};
 ghost use Rattle.serde_json.specs.Find.{as_array};
 
 use civil_days::read_instant;
-use fixed_units::{Micro, Second, is_amount, is_discharge, is_stage, read_decimal};
+use fixed_units::{Flag, Micro, Second, is_amount, is_discharge, is_stage, read_decimal};
 use json::Value;
 
 /// The items of an array.
@@ -62,6 +62,28 @@ pub(crate) fn discharge_in(value: &Value<'_>) -> Option<Micro>
     let discharge = quantity_in(value)?;
     if is_discharge(discharge.get()) {
         Some(discharge)
+    } else {
+        None
+    }
+}
+
+/// The flag of a reading that a string names.
+pub(crate) fn flag_in(value: &Value<'_>) -> Option<Flag>
+    ensures { result ≡ flag_of (stated value.now) }
+{
+    flag_named(value.as_str()?.as_bytes())
+}
+
+/// The flag of that name, or `None` exactly where there is no such flag.
+pub(crate) fn flag_named(text: &[u8]) -> Option<Flag>
+    ensures { result ≡ flag_of_text text.now }
+{
+    if text == b"ok".as_slice() {
+        Some(Flag::Usable)
+    } else if text == b"erroneous".as_slice() {
+        Some(Flag::Erroneous)
+    } else if text == b"affected".as_slice() {
+        Some(Flag::Affected)
     } else {
         None
     }

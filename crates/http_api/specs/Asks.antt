@@ -23,6 +23,7 @@ pub data Question : Type 0 where
   edit : Parts → Question
   station : SiteNumber → Question
   day_of : SiteNumber → ℤ → Question
+  daily : SiteNumber → ℤ → ℤ → Question
   measurement : SiteNumber → ℕ → Question
   turns : ℕ → Question
   settle : Question
@@ -33,6 +34,7 @@ abbrev pub question : Ask → Question
 question (asks.Edit given) = edit (parts given)
 question (asks.Station site) = station site
 question (asks.DayOf site day) = day_of site day
+question (asks.Daily site from to) = daily site from to
 question (asks.Measurement site number) = measurement site number
 question (asks.Turns count) = turns count
 question asks.Settle = settle
@@ -63,6 +65,7 @@ asked_by targets.Settle body = Ok settle
 asked_by targets.Status body = Ok counts
 asked_by (targets.Station site) body = Ok (station site)
 asked_by (targets.DayOf site day) body = Ok (day_of site day)
+asked_by (targets.Daily site from to) body = Ok (daily site from to)
 asked_by (targets.Measurement site number) body = Ok (measurement site number)
 
 -- a rating in JSON and one in RDB of equal values ask the same
@@ -101,6 +104,7 @@ WantsMemory targets.Settle body = ⊥
 WantsMemory targets.Status body = ⊥
 WantsMemory (targets.Station site) body = ⊥
 WantsMemory (targets.DayOf site day) body = ⊥
+WantsMemory (targets.Daily site from to) body = ⊥
 WantsMemory (targets.Measurement site number) body = ⊥
 
 -- an RDB text that is denied so: by its fault, or for want of memory where it has none

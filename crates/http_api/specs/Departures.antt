@@ -2,18 +2,14 @@
 use Rattle.std.specs.Prelude.{ℕ, List, ◌++◌, codes, Option, Some, None, ℤ}
 use Rattle.edits.specs.declared.measurements.Grade.{Grade}
 use Rattle.edits.specs.declared.measurements.Grade.TheVariants.{Excellent, Good, Fair, Poor}
-use Rattle.fixed_units.specs.PublishedText.{hundredths_text, micro_text}
+use Rattle.fixed_units.specs.PublishedText.{hundredths_text}
+use Rattle.http_api.specs.JsonTexts.{micro_or_null}
 use Rattle.measurements.specs.declared.departures.Departure.{Departure}
 
 -- a number of hundredths with two decimals in quotes, or null
 abbrev pub hundredths_or_null : Option ℤ → List ℕ
 hundredths_or_null None = codes "null"
 hundredths_or_null (Some hundredths) = codes "\"" ++ hundredths_text hundredths ++ codes "\""
-
--- a quantity with its six decimals in quotes, or null
-abbrev pub micro_or_null : Option ℤ → List ℕ
-micro_or_null None = codes "null"
-micro_or_null (Some millionths) = codes "\"" ++ micro_text millionths ++ codes "\""
 
 -- the name of a grade, as in bodies of edits
 abbrev pub grade_text : Grade → List ℕ

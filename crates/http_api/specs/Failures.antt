@@ -3,12 +3,12 @@ use Rattle.std.specs.Prelude.{ℕ, List, [], ◌++◌, codes, decimal, Option, S
 use Rattle.civil_days.specs.Texts.{instant_text}
 use Rattle.edit_bodies.specs.Members.{member_text}
 use Rattle.rating_tables.specs.Rdb.{line_of}
-use Rattle.station_inputs.specs.declared.refusals.Which.{Which}
-use Rattle.station_inputs.specs.declared.refusals.Which.TheVariants.{Stations, Readings, DayReadings, Ratings, Entries, Periods, Measurements}
-use Rattle.station_inputs.specs.declared.refusals.Full.{Full}
-use Rattle.station_inputs.specs.declared.refusals.Full.TheVariants.{Events, Cells}
-use Rattle.station_inputs.specs.declared.refusals.Refusal.{Refusal}
-use Rattle.station_inputs.specs.declared.refusals.Refusal.TheVariants as refusals
+use Rattle.office_inputs.specs.declared.refusals.Which.{Which}
+use Rattle.office_inputs.specs.declared.refusals.Which.TheVariants.{Stations, Readings, DayReadings, Ratings, Entries, Periods, Measurements}
+use Rattle.office_inputs.specs.declared.refusals.Full.{Full}
+use Rattle.office_inputs.specs.declared.refusals.Full.TheVariants.{Events, Cells}
+use Rattle.office_inputs.specs.declared.refusals.Refusal.{Refusal}
+use Rattle.office_inputs.specs.declared.refusals.Refusal.TheVariants as refusals
 use Rattle.wire.specs.declared.messages.Verb.{Verb}
 use Rattle.wire.specs.declared.messages.Verb.TheVariants.{Get, Post, Other}
 use Rattle.http_api.specs.JsonTexts.{bool_text}
@@ -66,6 +66,7 @@ failure_of (replies.Turned pending published) = None
 failure_of (replies.Counts edits pending) = None
 failure_of (replies.Station station) = None
 failure_of (replies.Day day) = None
+failure_of (replies.Daily days) = None
 failure_of (replies.Measurement departure) = None
 failure_of replies.NoStation = Some (row 404 (codes "NoStation") details.Nothing)
 failure_of replies.NoMeasurement = Some (row 404 (codes "NoMeasurement") details.Nothing)

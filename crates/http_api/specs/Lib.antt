@@ -1,4 +1,5 @@
 pub mod Asks
+pub mod Columns
 pub mod Days
 pub mod Departures
 pub mod Failures
@@ -7,3 +8,4 @@ pub mod Parameters
 pub mod Replies
 pub mod Routes
 pub mod Stations
+pub mod Tables

@@ -1,5 +1,5 @@
 -- What a target's parameters state.
-use Rattle.std.specs.Prelude.{ℕ, ℤ, Bool, ◌&&◌, nat_le, List, length, codes, Option, Some, None, option_and_then, if◌then◌else◌}
+use Rattle.std.specs.Prelude.{ℕ, ℤ, pos, ◌-ℤ◌, int_le, int_lt, Bool, ◌&&◌, nat_le, List, length, codes, Option, Some, None, option_and_then, if◌then◌else◌}
 use Rattle.std.specs.List.{list_all}
 use Rattle.std.specs.Char.{is_ascii_digit}
 use Rattle.std.specs.Str.Parse.{digits_value}
@@ -44,6 +44,16 @@ site_in taken = option_and_then site_of_text (named (codes "site") taken)
 
 abbrev pub day_in : Parameters → Option ℤ
 day_in taken = option_and_then day_of_text (named (codes "day") taken)
+
+-- the first and the last day of a daily table, which has 366 days at most
+abbrev pub from_in : Parameters → Option ℤ
+from_in taken = option_and_then day_of_text (named (codes "from") taken)
+
+abbrev pub to_in : Parameters → Option ℤ
+to_in taken = option_and_then day_of_text (named (codes "to") taken)
+
+abbrev pub is_table_span : ℤ → ℤ → Bool
+is_table_span from to = int_le from to && int_lt (to -ℤ from) (pos 366)
 
 -- which rating is added, by whom and under which reference
 abbrev pub rating_in : Parameters → Option ℕ

@@ -1,16 +1,18 @@
 -- The replies: of each the status, the method that it allows, and the body, which is compact JSON with its members in
 -- rising order of their names.
-use Rattle.std.specs.Prelude.{ℕ, Bool, List, [], ◌++◌, codes, decimal, Option, Some, None}
+use Rattle.std.specs.Prelude.{ℕ, Bool, List, [], ◌++◌, map, codes, decimal, Option, Some, None}
 use Rattle.wire.specs.ReplyHead.{reply_bytes}
 use Rattle.wire.specs.declared.messages.Verb.{Verb}
-use Rattle.wire.specs.declared.replies.Kind.TheVariants.{Json}
+use Rattle.wire.specs.declared.replies.Kind.{Kind}
+use Rattle.wire.specs.declared.replies.Kind.TheVariants.{Csv, Json}
 use Rattle.http_api.specs.Days.{day_text}
 use Rattle.http_api.specs.Departures.{departure_text}
 use Rattle.http_api.specs.Failures.{Row, failure_of, failure_text}
 use Rattle.http_api.specs.JsonTexts.{bool_text}
 use Rattle.http_api.specs.Stations.{station_text}
+use Rattle.http_api.specs.Tables.{row_of, table_text}
 use Rattle.http_api.specs.declared.replies.Reply.{Reply}
-use Rattle.http_api.specs.declared.replies.Reply.TheVariants.{Edit, Turned, Counts, Station, Day, Measurement, NoStation, NoMeasurement, Denied, Refused, NoLength, TooLarge, Malformed, NoMemory}
+use Rattle.http_api.specs.declared.replies.Reply.TheVariants.{Edit, Turned, Counts, Station, Day, Daily, Measurement, NoStation, NoMeasurement, Denied, Refused, NoLength, TooLarge, Malformed, NoMemory}
 
 -- an accepted edit
 abbrev pub edit_text : ℕ → Bool → List ℕ
@@ -33,6 +35,7 @@ answer_text (Turned pending published) = turned_text pending published
 answer_text (Counts edits pending) = counts_text edits pending
 answer_text (Station station) = station_text station.now.station
 answer_text (Day day) = day_text day
+answer_text (Daily days) = table_text (map row_of days.now)
 answer_text (Measurement departure) = departure_text departure
 answer_text NoStation = []
 answer_text NoMeasurement = []
@@ -67,6 +70,24 @@ body_by (Some failure) answer = failure_text failure
 abbrev pub body_of : Reply → List ℕ
 body_of reply = body_by (failure_of reply) (answer_text reply)
 
+-- the type of the body: a daily table is comma-separated lines, and every other body JSON
+abbrev pub kind_of : Reply → Kind
+kind_of (Daily days) = Csv
+kind_of (Edit number repeated) = Json
+kind_of (Turned pending published) = Json
+kind_of (Counts edits pending) = Json
+kind_of (Station station) = Json
+kind_of (Day day) = Json
+kind_of (Measurement departure) = Json
+kind_of NoStation = Json
+kind_of NoMeasurement = Json
+kind_of (Denied denied) = Json
+kind_of (Refused refusal) = Json
+kind_of NoLength = Json
+kind_of TooLarge = Json
+kind_of Malformed = Json
+kind_of NoMemory = Json
+
 -- the whole reply, head and body
 unfoldable pub bytes_of : Reply → List ℕ
-bytes_of reply = reply_bytes (status_of reply) Json (allow_of reply) (body_of reply)
+bytes_of reply = reply_bytes (status_of reply) (kind_of reply) (allow_of reply) (body_of reply)

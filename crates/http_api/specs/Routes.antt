@@ -1,5 +1,5 @@
 -- The routes: which targets there are, and what a target of each names.
-use Rattle.std.specs.Prelude.{◌≡◌, ◌↔◌, ◌<◌, ℕ, Bool, true, false, ◌==◌, List, [], ◌∷◌, ◌++◌, length, fold, codes, Option, Some, None, option_map, option_and_then, Result, Ok, Err, if◌then◌else◌}
+use Rattle.std.specs.Prelude.{◌≡◌, ◌↔◌, ◌<◌, ℕ, ℤ, Bool, true, false, ◌==◌, List, [], ◌∷◌, ◌++◌, length, fold, codes, Option, Some, None, option_map, option_and_then, Result, Ok, Err, if◌then◌else◌}
 use Rattle.std.specs.List.{list_all}
 use Rattle.std.specs.Char.{is_ascii}
 use Rattle.matchit.specs.Rows.{RowsOf, param_token}
@@ -11,7 +11,7 @@ use Rattle.matchit.specs.Seek.{first, has_slash}
 use Rattle.matchit.specs.declared.error.InsertError.{InsertError}
 use Rattle.edits.specs.Lawful.{IsRatingNumber}
 use Rattle.fixed_units.specs.Quantities.{SiteNumber}
-use Rattle.http_api.specs.Parameters.{Parameters, by_in, count_in, day_in, measurement_in, rating_in, reference_in, site_in}
+use Rattle.http_api.specs.Parameters.{Parameters, by_in, count_in, day_in, from_in, is_table_span, measurement_in, rating_in, reference_in, site_in, to_in}
 use Rattle.wire.specs.declared.messages.Verb.{Verb}
 use Rattle.wire.specs.declared.messages.Verb.TheVariants.{Get, Post}
 use Rattle.http_api.specs.declared.routes.Route.{Route}
@@ -28,12 +28,13 @@ spelling routes.Settle = codes "/settle"
 spelling routes.Status = codes "/status"
 spelling routes.Station = codes "/stations/{site}"
 spelling routes.DayOf = codes "/stations/{site}/days/{day}"
+spelling routes.Daily = codes "/stations/{site}/daily/{from}/{to}"
 spelling routes.Measurement = codes "/stations/{site}/measurements/{number}"
 
 -- the routes that there are
 abbrev pub all_routes : List Route
 all_routes =
-    routes.Edits ∷ routes.Rating ∷ routes.Turns ∷ routes.Settle ∷ routes.Status ∷ routes.Station ∷ routes.DayOf ∷ routes.Measurement ∷ []
+    routes.Edits ∷ routes.Rating ∷ routes.Turns ∷ routes.Settle ∷ routes.Status ∷ routes.Station ∷ routes.DayOf ∷ routes.Daily ∷ routes.Measurement ∷ []
 
 -- the rows of `matchit` with that of a route, where the spelling reads as one
 abbrev pub placed_by : Result Scan InsertError → Route → RowsOf (RouteOf Route) → RowsOf (RouteOf Route)
@@ -92,6 +93,13 @@ rating_target (Some site) (Some rating) None reference = None
 rating_target (Some site) (Some rating) (Some by) None = None
 rating_target (Some site) (Some rating) (Some by) (Some reference) = Some (targets.Rating site rating by reference)
 
+-- the daily table of a station from a day to another, if each is there and the table has 1 to 366 days
+abbrev pub daily_target : Option SiteNumber → Option ℤ → Option ℤ → Option Target
+daily_target None from to = None
+daily_target (Some site) None to = None
+daily_target (Some site) (Some from) None = None
+daily_target (Some site) (Some from) (Some to) = if is_table_span from to then Some (targets.Daily site from to) else None
+
 -- what a target of a route names, if each of its parameters is of its grammar
 abbrev pub target_by : Route → Parameters → Option Target
 target_by routes.Edits taken = Some targets.Edits
@@ -101,6 +109,7 @@ target_by routes.Settle taken = Some targets.Settle
 target_by routes.Status taken = Some targets.Status
 target_by routes.Station taken = option_map targets.Station (site_in taken)
 target_by routes.DayOf taken = option_and_then (λ site. option_map (targets.DayOf site) (day_in taken)) (site_in taken)
+target_by routes.Daily taken = daily_target (site_in taken) (from_in taken) (to_in taken)
 target_by routes.Measurement taken =
     option_and_then (λ site. option_map (targets.Measurement site) (measurement_in taken)) (site_in taken)
 
@@ -113,6 +122,7 @@ verb_of targets.Settle = Post
 verb_of targets.Status = Get
 verb_of (targets.Station site) = Get
 verb_of (targets.DayOf site day) = Get
+verb_of (targets.Daily site from to) = Get
 verb_of (targets.Measurement site number) = Get
 
 -- the number of a rating is one, wherever a target names it
@@ -124,6 +134,7 @@ NamesRating targets.Settle = Unit {0}
 NamesRating targets.Status = Unit {0}
 NamesRating (targets.Station site) = Unit {0}
 NamesRating (targets.DayOf site day) = Unit {0}
+NamesRating (targets.Daily site from to) = Unit {0}
 NamesRating (targets.Measurement site number) = Unit {0}
 
 -- what a target names by its row, whose parameters take their parts of it

@@ -1,11 +1,14 @@
 //! What is replied of a day.
 
 ghost use Rattle.std.specs.Prelude.{◌≡◌, ◌++◌, take, length, OnOk, OnErr};
-ghost use Rattle.http_api.specs.Days.{day_text, answer_members, discharge_members, figures_members, length_members, stage_members, published_or_null, status_member};
+ghost use Rattle.http_api.specs.Days.{day_text, answer_members, discharge_in, discharge_members, extremes_members, figures_members, length_members, stage_members, published_or_null, status_member};
+ghost use Rattle.http_api.specs.JsonTexts.{micro_or_null};
 
+use crate::json_texts::{write_flag, write_micro_or_null};
 use approval::Status;
-use daily_values::{DayValue, Figures};
-use fixed_units::{Day, NoMemory, Published, Text, write_published};
+use daily_values::{DayValue, Extremes, Figures};
+use fixed_units::{Day, Micro, NoMemory, Published, Text, write_published};
+use unit_discharge::Unit;
 
 /// What is known of a day.
 #[derive(Clone, Copy, Debug, Drop)]
@@ -69,8 +72,8 @@ fn write_figures(figures: &Figures, out: &mut Text) -> Result<(), NoMemory>
     ensures err { OnErr result (take (length out.old) out.new ≡ out.old) }
 {
     write_discharge(figures.discharge().covered, figures.discharge_text(), out)?;
-    write_length(figures.length(), out)?;
-    write_stage(figures.stage_text(), out)
+    write_length(figures.estimate().is_some(), figures.length(), out)?;
+    write_stage(&figures.extremes(), figures.stage_text(), out)
 }
 
 /// Adds the members up to the discharge, of which a part may be added where memory runs out.
@@ -89,21 +92,54 @@ fn write_discharge(
 }
 
 /// Adds the members from the discharge to the length, of which a part may be added where memory runs out.
-fn write_length(seconds: u32, out: &mut Text) -> Result<(), NoMemory>
-    ensures ok { OnOk result (out.new ≡ out.old ++ length_members seconds) }
+fn write_length(estimated: bool, seconds: u32, out: &mut Text) -> Result<(), NoMemory>
+    ensures ok { OnOk result (out.new ≡ out.old ++ length_members estimated seconds) }
     ensures err { OnErr result (take (length out.old) out.new ≡ out.old) }
 {
-    out.push_slice(b",\"estimated\":false,\"length\":")?;
+    out.push_slice(b",\"estimated\":")?;
+    write_flag(estimated, out)?;
+    out.push_slice(b",\"length\":")?;
     out.push_number(u64::from(seconds))
 }
 
 /// Adds the members behind the length, of which a part may be added where memory runs out.
-fn write_stage(stage: Option<Published>, out: &mut Text) -> Result<(), NoMemory>
-    ensures ok { OnOk result (out.new ≡ out.old ++ stage_members stage) }
+fn write_stage(
+    extremes: &Extremes,
+    stage: Option<Published>,
+    out: &mut Text,
+) -> Result<(), NoMemory>
+    ensures ok { OnOk result (out.new ≡ out.old ++ stage_members extremes.now stage) }
     ensures err { OnErr result (take (length out.old) out.new ≡ out.old) }
 {
-    out.push_slice(b",\"max\":null,\"min\":null,\"stage\":")?;
+    write_extremes(extremes, out)?;
+    out.push_slice(b",\"stage\":")?;
     write_text_or_null(stage, out)
+}
+
+/// Adds the members of the extremes, of which a part may be added where memory runs out.
+#[tactic(auto, unfolding(crate::specs::Days::extremes_members))]
+fn write_extremes(extremes: &Extremes, out: &mut Text) -> Result<(), NoMemory>
+    ensures ok { OnOk result (out.new ≡ out.old ++ extremes_members extremes.now) }
+    ensures err { OnErr result (take (length out.old) out.new ≡ out.old) }
+{
+    write_extreme(b",\"max\":", extremes.max_discharge, out)?;
+    write_extreme(b",\"min\":", extremes.min_discharge, out)
+}
+
+/// Adds the discharge of an extreme behind the name of its member, of which a part may be added where memory runs out.
+fn write_extreme(before: &[u8], extreme: Option<Unit>, out: &mut Text) -> Result<(), NoMemory>
+    ensures ok { OnOk result (out.new ≡ out.old ++ (before.now ++ micro_or_null (discharge_in extreme))) }
+    ensures err { OnErr result (take (length out.old) out.new ≡ out.old) }
+{
+    out.push_slice(before)?;
+    write_micro_or_null(discharge_in(extreme), out)
+}
+
+/// The discharge of an extreme, where there is one.
+fn discharge_in(extreme: Option<Unit>) -> Option<Micro>
+    ensures { result ≡ discharge_in extreme }
+{
+    extreme?.discharge.ok()
 }
 
 /// Adds a published value in quotes, or null, of which a part may be added where memory runs out.

@@ -1,10 +1,12 @@
 //! What is replied of a field measurement.
 
 ghost use Rattle.std.specs.Prelude.{◌≡◌, ◌++◌, take, length, OnOk, OnErr};
-ghost use Rattle.http_api.specs.Departures.{departure_text, grade_members, grade_text, hundredths_or_null, micro_or_null, rated_members};
+ghost use Rattle.http_api.specs.Departures.{departure_text, grade_members, grade_text, hundredths_or_null, rated_members};
+ghost use Rattle.http_api.specs.JsonTexts.{micro_or_null};
 
+use crate::json_texts::write_micro_or_null;
 use edits::Grade;
-use fixed_units::{Micro, NoMemory, Text, write_hundredths, write_micro};
+use fixed_units::{Micro, NoMemory, Text, write_hundredths};
 use measurements::Departure;
 
 /// Adds the body for a measurement, of which a part may be added where memory runs out.
@@ -59,21 +61,6 @@ fn write_hundredths_or_null(hundredths: Option<i64>, out: &mut Text) -> Result<(
         Some(hundredths) => {
             out.push_slice(b"\"")?;
             write_hundredths(hundredths, out)?;
-            out.push_slice(b"\"")
-        }
-        None => out.push_slice(b"null"),
-    }
-}
-
-/// Adds a quantity in quotes, or null, of which a part may be added where memory runs out.
-fn write_micro_or_null(quantity: Option<Micro>, out: &mut Text) -> Result<(), NoMemory>
-    ensures ok { OnOk result (out.new ≡ out.old ++ micro_or_null quantity) }
-    ensures err { OnErr result (take (length out.old) out.new ≡ out.old) }
-{
-    match quantity {
-        Some(quantity) => {
-            out.push_slice(b"\"")?;
-            write_micro(quantity, out)?;
             out.push_slice(b"\"")
         }
         None => out.push_slice(b"null"),

@@ -8,7 +8,7 @@ use crate::json_texts::{write_flag, write_time};
 use crate::replies::Reply;
 use edit_bodies::Member;
 use fixed_units::{NoMemory, Second, Text};
-use station_inputs::{Full, Refusal, Which};
+use office_inputs::{Full, Refusal, Which};
 use std::marker::Model;
 use wire::Verb;
 
@@ -84,6 +84,7 @@ pub(crate) fn failure_of(reply: &Reply<'_>) -> Option<Failure>
         | Reply::Counts { .. }
         | Reply::Station(_)
         | Reply::Day(_)
+        | Reply::Daily(_)
         | Reply::Measurement(_) => None,
     }
 }

@@ -1,13 +1,13 @@
-//! Parts of JSON texts: flags, instants, strings, sites.
+//! Parts of JSON texts: flags, instants, quantities, strings, sites.
 
 ghost use Rattle.std.specs.Prelude.{◌≡◌, ◌++◌, ◌∷◌, [], ◌<◌, ◌≤◌, ◌-◌, replicate, take, length, OnOk, OnErr};
 ghost use Rattle.std.specs.Char.{digit_char};
 ghost use Rattle.civil_days.specs.Texts.{instant_text};
 ghost use Rattle.json.specs.Print.{escape, escape_byte, escape_letter, quoted};
-ghost use Rattle.http_api.specs.JsonTexts.{bool_text, site_text};
+ghost use Rattle.http_api.specs.JsonTexts.{bool_text, micro_or_null, site_text};
 
 use civil_days::write_instant;
-use fixed_units::{NoMemory, Second, Site, Text};
+use fixed_units::{Micro, NoMemory, Second, Site, Text, write_micro};
 
 /// Adds a flag. After `NoMemory` the text is as before.
 pub(crate) fn write_flag(flag: bool, out: &mut Text) -> Result<(), NoMemory>
@@ -23,6 +23,21 @@ pub(crate) fn write_time(at: Second, out: &mut Text) -> Result<(), NoMemory>
     ensures err { OnErr result (out.new ≡ out.old) }
 {
     write_instant(at, out)
+}
+
+/// Adds a quantity in quotes, or null, of which a part may be added where memory runs out.
+pub(crate) fn write_micro_or_null(quantity: Option<Micro>, out: &mut Text) -> Result<(), NoMemory>
+    ensures ok { OnOk result (out.new ≡ out.old ++ micro_or_null quantity) }
+    ensures err { OnErr result (take (length out.old) out.new ≡ out.old) }
+{
+    match quantity {
+        Some(quantity) => {
+            out.push_slice(b"\"")?;
+            write_micro(quantity, out)?;
+            out.push_slice(b"\"")
+        }
+        None => out.push_slice(b"null"),
+    }
 }
 
 /// Adds a string in quotes, of which a part may be added where memory runs out.

@@ -11,6 +11,7 @@ mod rdb_bodies;
 pub mod replies;
 pub mod routes;
 mod stations;
+mod tables;
 
 pub use asks::{Ask, Denied};
 pub use days::{DayAnswer, DayReply};

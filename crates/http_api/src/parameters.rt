@@ -8,7 +8,7 @@ ghost use Rattle.matchit.specs.Params.{walk, named, AllText};
 ghost use Rattle.edit_bodies.specs.Grammars.{kept_if, kept_within};
 ghost use Rattle.edit_bodies.specs.Texts.{are_initials, is_reference};
 ghost use Rattle.edits.specs.Lawful.{IsRatingNumber};
-ghost use Rattle.http_api.specs.Parameters.{by_in, count_in, count_of, day_in, is_number, measurement_in, measurement_of, number_of, rating_in, rating_of, reference_in, site_in, turns_of};
+ghost use Rattle.http_api.specs.Parameters.{by_in, count_in, count_of, day_in, from_in, is_number, is_table_span, measurement_in, measurement_of, number_of, rating_in, rating_of, reference_in, site_in, to_in, turns_of};
 
 use civil_days::read_day;
 use edit_bodies::read_site;
@@ -38,6 +38,29 @@ pub(crate) fn day_in(params: &Params<'_, '_>) -> Option<Day>
     ensures { result ≡ day_in (walk params.now.pattern.now params.now.text.now params.now.path.now params.now.names.now 0 0) }
 {
     read_day(part(params, "day")?)
+}
+
+/// The first day of a table among the parameters.
+pub(crate) fn from_in(params: &Params<'_, '_>) -> Option<Day>
+    requires { AllText (walk params.now.pattern.now params.now.text.now params.now.path.now params.now.names.now 0 0) }
+    ensures { result ≡ from_in (walk params.now.pattern.now params.now.text.now params.now.path.now params.now.names.now 0 0) }
+{
+    read_day(part(params, "from")?)
+}
+
+/// The last day of a table among the parameters.
+pub(crate) fn to_in(params: &Params<'_, '_>) -> Option<Day>
+    requires { AllText (walk params.now.pattern.now params.now.text.now params.now.path.now params.now.names.now 0 0) }
+    ensures { result ≡ to_in (walk params.now.pattern.now params.now.text.now params.now.path.now params.now.names.now 0 0) }
+{
+    read_day(part(params, "to")?)
+}
+
+/// Whether a table from one day to another, both included, has 1 to 366 days.
+pub(crate) fn is_table_span(from: Day, to: Day) -> bool
+    ensures { result ≡ is_table_span from to }
+{
+    from <= to && to.get() - from.get() < 366
 }
 
 /// The number of a rating among the parameters.

@@ -2,7 +2,7 @@
 
 ghost use Rattle.std.specs.Prelude.{◌≡◌, ◌++◌, true, take, length, decimal, OnOk, OnErr};
 ghost use Rattle.wire.specs.ReplyHead.{is_reply_status, is_allowance};
-ghost use Rattle.http_api.specs.Replies.{answer_text, body_of, status_of, allow_of, bytes_of, edit_text, turned_text, counts_text};
+ghost use Rattle.http_api.specs.Replies.{answer_text, body_of, status_of, allow_of, kind_of, bytes_of, edit_text, turned_text, counts_text};
 
 use crate::asks::Denied;
 use crate::days::{DayReply, write_day_reply};
@@ -10,9 +10,11 @@ use crate::departures::write_departure;
 use crate::failures::failure_of;
 use crate::json_texts::write_flag;
 use crate::stations::write_station;
+use crate::tables::write_table;
 use fixed_units::{NoMemory, Text};
 use measurements::Departure;
-use station_inputs::{Refusal, Station};
+use office_inputs::{Refusal, Station};
+use std::alloc::Global;
 use wire::{Kind, MALFORMED_REPLY, NO_MEMORY_REPLY, Verb, write_head};
 
 /// What is replied to a message.
@@ -43,6 +45,8 @@ pub enum Reply<'a> {
     Station(&'a Station),
     /// What is known of a day.
     Day(DayReply<'a>),
+    /// What is known of the days of a daily table, one after another.
+    Daily(&'a [DayReply<'a>]),
     /// What a field measurement says of the rating in force.
     Measurement(Departure),
     /// The station that is asked for is not kept.
@@ -64,12 +68,12 @@ pub enum Reply<'a> {
 }
 
 /// Adds the body of a reply. After `NoMemory` the text is as before.
-pub fn reply_text(reply: &Reply<'_>, out: &mut Text) -> Result<(), NoMemory>
+pub fn reply_text(alloc: Global, reply: &Reply<'_>, out: &mut Text) -> Result<(), NoMemory>
     ensures ok { OnOk result (out.new ≡ out.old ++ body_of reply.now) }
     ensures err { OnErr result (out.new ≡ out.old) }
 {
     let before = out.len();
-    let written = write_body(reply, out);
+    let written = write_body(alloc, reply, out);
     if written.is_err() {
         out.truncate(before);
     }
@@ -78,14 +82,19 @@ pub fn reply_text(reply: &Reply<'_>, out: &mut Text) -> Result<(), NoMemory>
 
 /// Makes the whole reply, head and body, in `out`, by way of `body`. What the texts held is dropped; after `NoMemory`
 /// they may hold anything.
-pub fn write_reply(reply: &Reply<'_>, body: &mut Text, out: &mut Text) -> Result<(), NoMemory>
+pub fn write_reply(
+    alloc: Global,
+    reply: &Reply<'_>,
+    body: &mut Text,
+    out: &mut Text,
+) -> Result<(), NoMemory>
     ensures { OnOk result (out.new ≡ bytes_of reply.now) }
 {
     body.truncate(0);
     out.truncate(0);
-    reply_text(reply, body)?;
+    reply_text(alloc, reply, body)?;
     let (status, allow) = head_of(reply);
-    write_head(status, Kind::Json, allow, body.len(), out)?;
+    write_head(status, kind_of(reply), allow, body.len(), out)?;
     out.push_slice(body.as_slice())
 }
 
@@ -110,29 +119,40 @@ fn head_of(reply: &Reply<'_>) -> (u16, Option<Verb>)
     }
 }
 
+/// The type of the body of a reply.
+fn kind_of(reply: &Reply<'_>) -> Kind
+    ensures { result ≡ kind_of reply.now }
+{
+    match reply {
+        Reply::Daily(_) => Kind::Csv,
+        _ => Kind::Json,
+    }
+}
+
 /// Adds the body of a reply, of which a part may be added where memory runs out.
-fn write_body(reply: &Reply<'_>, out: &mut Text) -> Result<(), NoMemory>
+fn write_body(alloc: Global, reply: &Reply<'_>, out: &mut Text) -> Result<(), NoMemory>
     ensures ok { OnOk result (out.new ≡ out.old ++ body_of reply.now) }
     ensures err { OnErr result (take (length out.old) out.new ≡ out.old) }
 {
     match failure_of(reply) {
         Some(failure) => failure.write(out),
-        None => write_answer(reply, out),
+        None => write_answer(alloc, reply, out),
     }
 }
 
 /// Adds the body of an answer, of which a part may be added where memory runs out; a failure has none.
-fn write_answer(reply: &Reply<'_>, out: &mut Text) -> Result<(), NoMemory>
+fn write_answer(alloc: Global, reply: &Reply<'_>, out: &mut Text) -> Result<(), NoMemory>
     ensures ok { OnOk result (out.new ≡ out.old ++ answer_text reply.now) }
     ensures err { OnErr result (take (length out.old) out.new ≡ out.old) }
 {
-    match reply {
-        Reply::Edit { number, repeated } => write_edit(*number, *repeated, out),
-        Reply::Turned { pending, published } => write_turned(*pending, *published, out),
-        Reply::Counts { edits, pending } => write_counts(*edits, *pending, out),
+    match *reply {
+        Reply::Edit { number, repeated } => write_edit(number, repeated, out),
+        Reply::Turned { pending, published } => write_turned(pending, published, out),
+        Reply::Counts { edits, pending } => write_counts(edits, pending, out),
         Reply::Station(station) => write_station(station, out),
-        Reply::Day(day) => write_day_reply(day, out),
-        Reply::Measurement(departure) => write_departure(departure, out),
+        Reply::Day(ref day) => write_day_reply(day, out),
+        Reply::Daily(days) => write_table(alloc, days, out),
+        Reply::Measurement(ref departure) => write_departure(departure, out),
         _ => Ok(()),
     }
 }

@@ -7,7 +7,8 @@ ghost use Rattle.matchit.specs.Params.{walk, AllText};
 ghost use Rattle.http_api.specs.Routes.{spelling, verb_of, with_route, route_rows, target_by, target_of, NamesRating, RoutesAreApart, RowsAreThoseThatFit};
 
 use crate::parameters::{
-    by_in, count_in, day_in, measurement_in, rating_in, reference_in, site_in,
+    by_in, count_in, day_in, from_in, is_table_span, measurement_in, rating_in, reference_in,
+    site_in, to_in,
 };
 use edits::{By, Ref};
 use fixed_units::{Day, NoMemory, Site};
@@ -33,6 +34,8 @@ pub(crate) enum Route {
     Station,
     /// A day of a station.
     DayOf,
+    /// The daily table of a station.
+    Daily,
     /// A field measurement of a station.
     Measurement,
 }
@@ -54,12 +57,14 @@ pub(crate) enum Target {
     Station(Site),
     /// A day of a station.
     DayOf(Site, Day),
+    /// The daily table of a station, from one day to another, both included: 1 to 366 days.
+    Daily(Site, Day, Day),
     /// The field measurement of a station of this number, from 1.
     Measurement(Site, u32),
 }
 
 /// All routes.
-const ROUTES: [Route; 8] = [
+const ROUTES: [Route; 9] = [
     Route::Edits,
     Route::Rating,
     Route::Turns,
@@ -67,6 +72,7 @@ const ROUTES: [Route; 8] = [
     Route::Status,
     Route::Station,
     Route::DayOf,
+    Route::Daily,
     Route::Measurement,
 ];
 
@@ -83,6 +89,7 @@ impl Route {
             Route::Status => "/status",
             Route::Station => "/stations/{site}",
             Route::DayOf => "/stations/{site}/days/{day}",
+            Route::Daily => "/stations/{site}/daily/{from}/{to}",
             Route::Measurement => "/stations/{site}/measurements/{number}",
         }
     }
@@ -95,8 +102,11 @@ impl Target {
     {
         match self {
             Target::Edits | Target::Rating(..) | Target::Turns(_) | Target::Settle => Verb::Post,
-            Target::Status | Target::Station(_) | Target::DayOf(_, _) | Target::Measurement(_, _) =>
-                Verb::Get,
+            Target::Status
+            | Target::Station(_)
+            | Target::DayOf(_, _)
+            | Target::Daily(_, _, _)
+            | Target::Measurement(_, _) => Verb::Get,
         }
     }
 }
@@ -195,6 +205,7 @@ fn target_by(route: Route, params: &Params<'_, '_>) -> Option<Target>
             let day = day_in(params)?;
             Some(Target::DayOf(site, day))
         }
+        Route::Daily => daily_target(params),
         Route::Measurement => {
             let site = site_in(params)?;
             let number = measurement_in(params)?;
@@ -214,6 +225,22 @@ fn rating_target(params: &Params<'_, '_>) -> Option<Target>
     let by = by_in(params)?;
     let reference = reference_in(params)?;
     Some(Target::Rating(site, rating, by, reference))
+}
+
+/// The daily table that the parameters name.
+fn daily_target(params: &Params<'_, '_>) -> Option<Target>
+    requires { AllText (walk params.now.pattern.now params.now.text.now params.now.path.now params.now.names.now 0 0) }
+    ensures named { result ≡ target_by Route.Daily (walk params.now.pattern.now params.now.text.now params.now.path.now params.now.names.now 0 0) }
+    ensures rating { IfSome result NamesRating }
+{
+    let site = site_in(params)?;
+    let from = from_in(params)?;
+    let to = to_in(params)?;
+    if is_table_span(from, to) {
+        Some(Target::Daily(site, from, to))
+    } else {
+        None
+    }
 }
 
 /// A target fits one route at most, and has the row of the route that it fits, and no other: a law, which does nothing.

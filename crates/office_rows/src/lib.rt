@@ -2,6 +2,8 @@
 #![tactic(auto)]
 
 #[cfg(test)]
+mod bulk_days;
+#[cfg(test)]
 mod corrections;
 #[cfg(test)]
 mod days;
@@ -12,10 +14,14 @@ mod journals;
 #[cfg(test)]
 mod limits;
 #[cfg(test)]
+mod logger_year;
+#[cfg(test)]
 mod measured;
 #[cfg(test)]
 mod rated_days;
 #[cfg(test)]
 mod repeats;
+#[cfg(test)]
+mod tables;
 #[cfg(test)]
 mod zones;

@@ -65,13 +65,13 @@ const MEAN: [Exchange; 9] = [
         FIFTH,
         "",
         OK,
-        r#"{"answer":"computed","covered":86400,"discharge":"20","estimated":false,"length":86400,"max":null,"min":null,"stage":"1.50","status":"working"}"#,
+        r#"{"answer":"computed","covered":86400,"discharge":"20","estimated":false,"length":86400,"max":"30.000000","min":"10.000000","stage":"1.50","status":"working"}"#,
     ),
     (
         "GET /stations/01646500/days/2024-01-06",
         "",
         OK,
-        r#"{"answer":"computed","covered":0,"discharge":null,"estimated":false,"length":86400,"max":null,"min":null,"stage":null,"status":"working"}"#,
+        r#"{"answer":"computed","covered":0,"discharge":null,"estimated":false,"length":86400,"max":"10.000000","min":"10.000000","stage":null,"status":"working"}"#,
     ),
 ];
 
@@ -103,7 +103,7 @@ const NOT_OF_THE_MEAN_STAGE: [Exchange; 8] = [
         FIFTH,
         "",
         OK,
-        r#"{"answer":"computed","covered":86400,"discharge":"55","estimated":false,"length":86400,"max":null,"min":null,"stage":"2.00","status":"working"}"#,
+        r#"{"answer":"computed","covered":86400,"discharge":"55","estimated":false,"length":86400,"max":"100.000000","min":"10.000000","stage":"2.00","status":"working"}"#,
     ),
 ];
 
@@ -146,7 +146,7 @@ const SHORT_DAY: [Exchange; 9] = [
         "GET /stations/01646500/days/2024-03-10",
         "",
         OK,
-        r#"{"answer":"computed","covered":82800,"discharge":"28","estimated":false,"length":82800,"max":null,"min":null,"stage":"1.91","status":"working"}"#,
+        r#"{"answer":"computed","covered":82800,"discharge":"28","estimated":false,"length":82800,"max":"30.000000","min":"10.000000","stage":"1.91","status":"working"}"#,
     ),
 ];
 
@@ -257,7 +257,7 @@ const PERIODS: [Exchange; 21] = [
         FIFTH,
         "",
         OK,
-        r#"{"answer":"computed","covered":0,"discharge":null,"estimated":false,"length":86400,"max":null,"min":null,"stage":"1.50","status":"working"}"#,
+        r#"{"answer":"computed","covered":0,"discharge":null,"estimated":false,"length":86400,"max":"10.000000","min":"10.000000","stage":"1.50","status":"working"}"#,
     ),
     (
         "POST /edits",
@@ -270,7 +270,7 @@ const PERIODS: [Exchange; 21] = [
         FIFTH,
         "",
         OK,
-        r#"{"answer":"computed","covered":86400,"discharge":"20","estimated":false,"length":86400,"max":null,"min":null,"stage":"1.50","status":"working"}"#,
+        r#"{"answer":"computed","covered":86400,"discharge":"20","estimated":false,"length":86400,"max":"30.000000","min":"10.000000","stage":"1.50","status":"working"}"#,
     ),
     (
         "POST /edits",
@@ -283,7 +283,7 @@ const PERIODS: [Exchange; 21] = [
         FIFTH,
         "",
         OK,
-        r#"{"answer":"computed","covered":0,"discharge":null,"estimated":false,"length":86400,"max":null,"min":null,"stage":"1.50","status":"working"}"#,
+        r#"{"answer":"computed","covered":0,"discharge":null,"estimated":false,"length":86400,"max":"10.000000","min":"10.000000","stage":"1.50","status":"working"}"#,
     ),
     (
         "POST /edits",
@@ -336,7 +336,7 @@ const OPENED_ANEW: [Exchange; 5] = [
         FIFTH,
         "",
         OK,
-        r#"{"answer":"computed","covered":86400,"discharge":"20","estimated":false,"length":86400,"max":null,"min":null,"stage":"1.50","status":"working"}"#,
+        r#"{"answer":"computed","covered":86400,"discharge":"20","estimated":false,"length":86400,"max":"30.000000","min":"10.000000","stage":"1.50","status":"working"}"#,
     ),
     (
         "GET /stations/01646500/measurements/1",

@@ -16,6 +16,9 @@ pub const ADDED: Exchange = ("POST /edits", ADDITION, OK, FIRST);
 /// The beginnings of replies, up to the length of the body.
 pub const OK: &str = "HTTP/1.1 200 OK\r\nContent-Type: application/json\r\n";
 
+/// To a question for a daily table.
+pub const TABLE: &str = "HTTP/1.1 200 OK\r\nContent-Type: text/csv\r\n";
+
 /// To a request that is not well formed.
 pub const BAD_REQUEST: &str = "HTTP/1.1 400 Bad Request\r\nContent-Type: application/json\r\n";
 

@@ -33,6 +33,18 @@ returns-in-DayOf-clause-passed g c =
     let h = c.args.office.now.register.history in
     passes_published g.D.Disk h h c.args.office.now.disk (only c.args.office.now.disk) c.an_office_stands_on_its_disk.ensures.images (publishes_none h)
 
+pub returns-in-Daily-clause-answered : goal.returns-in-Daily-clause-answered
+returns-in-Daily-clause-answered g c =
+    let h = c.args.office.now.register.history in
+    rw c.in-Daily.is (by_office c.tell_daily.result c.told_by-in-Daily.result h (asks.Daily c.in-Daily.site c.in-Daily.from c.in-Daily.to) c.tell_daily.new.texts.reply h
+    c.tell_daily.ensures (any_ok c.tell_daily.result _ refl) (any_err c.tell_daily.result _ refl) c.told_by-in-Daily.ensures.made c.told_by-in-Daily.ensures.not)
+
+pub returns-in-Daily-clause-passed : goal.returns-in-Daily-clause-passed
+returns-in-Daily-clause-passed g c =
+    let only = (g.met.D.Disk g.world.𝓛 g.world.𝓜 g.world.𝓡 ((λ s x. x), (λ x. x), (λ x. x), λ x. x)).only_now in
+    let h = c.args.office.now.register.history in
+    passes_published g.D.Disk h h c.args.office.now.disk (only c.args.office.now.disk) c.an_office_stands_on_its_disk.ensures.images (publishes_none h)
+
 pub returns-in-Measurement-clause-answered : goal.returns-in-Measurement-clause-answered
 returns-in-Measurement-clause-answered g c =
     let h = c.args.office.now.register.history in

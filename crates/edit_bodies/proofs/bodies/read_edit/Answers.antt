@@ -1,37 +1,25 @@
-use Rattle.std.proofs.Common.{◌≡◌, None, Err, sym, ap, ◌∙◌, rules}
-use Rattle.edit_bodies.proofs.AnswerLemmas.{no_value, of_value, edit_told, json_told, member_told}
+use Rattle.std.proofs.Common.{◌≡◌, Ok, IfOk, sym, ap, ◌∙◌, subst}
+use Rattle.edit_bodies.proofs.AnswerLemmas.{no_text, of_text}
 use Rattle.edit_bodies.proofs.bodies.read_edit.Goals as goal
-use Rattle.edit_bodies.specs.declared.faults.BodyFault.TheVariants.{Json, Body}
-use Rattle.edit_bodies.specs.declared.members.Member.TheVariants.{Kind}
-use Rattle.edit_bodies.specs.Trees.{stated}
+use Rattle.edit_bodies.specs.Bodies.{edit_of_value, parts}
+use Rattle.serde_json.specs.Read.{read}
 
-pub returns-in_err-value-clause-json : goal.returns-in_err-value-clause-json
-returns-in_err-value-clause-json c is =
-    let same : c.from_residual.result ≡ Err c.in_err-value.field-0.0 = search rules in
-    let e = sym same ∙ is in
-    let why : c.in_err-value.field-0.0 ≡ Json = cc in
-    no_value c.args.body.now (c.in_err-value.ensures.json (ap Err why))
+pub returns-in_default-clause-json : goal.returns-in_default-clause-json
+returns-in_default-clause-json c _ = no_text c.args.body.now c.in_default.ensures.cases.0
 
-pub returns-in_err-value-clause-member : goal.returns-in_err-value-clause-member
-returns-in_err-value-clause-member c which is =
-    let same : c.from_residual.result ≡ Err c.in_err-value.field-0.0 = search rules in
-    let e = sym same ∙ is in
-    let why : c.in_err-value.field-0.0 ≡ Body which = cc in
-    absurd (c.in_err-value.ensures.only which (ap Err why))
+pub returns-in-Some-clause-edit : goal.returns-in-Some-clause-edit
+returns-in-Some-clause-edit c =
+    of_text c.args.body.now c.in-Ok.ensures.cases.1 ∙ ap (λ text. edit_of_value (read text)) (sym c.in-Ok.ensures.cases.0) ∙ c.in-Some.ensures
 
-pub returns-in_default-clause-member : goal.returns-in_default-clause-member
-returns-in_default-clause-member c which is =
-    let named : Kind ≡ which = cc in
-    of_value c.args.body.now (stated c.in_ok-value.value) None c.in_ok-value.ensures.value (sym c.in_default.ensures) ∙ ap (λ m. Err (Body m)) named
+pub returns-in-None-clause-edit : goal.returns-in-None-clause-edit
+returns-in-None-clause-edit c =
+    let same = of_text c.args.body.now c.in-Ok.ensures.cases.1 ∙ ap (λ text. edit_of_value (read text)) (sym c.in-Ok.ensures.cases.0) in
+    subst (λ r. IfOk c.edit_of_tree.result (λ edit. r ≡ Ok (parts edit))) (sym same) c.edit_of_tree.ensures.edit
 
-pub returns-clause-edit : goal.returns-clause-edit
-returns-clause-edit c =
-    edit_told c.args.body.now _ c.edit_from.result (of_value c.args.body.now (stated c.in_ok-value.value) _ c.in_ok-value.ensures.value (sym c.in-Some.ensures)) c.edit_from.ensures
+pub returns-in-None-clause-json : goal.returns-in-None-clause-json
+returns-in-None-clause-json c is =
+    of_text c.args.body.now c.in-Ok.ensures.cases.1 ∙ ap (λ text. edit_of_value (read text)) (sym c.in-Ok.ensures.cases.0) ∙ c.edit_of_tree.ensures.json is
 
-pub returns-clause-json : goal.returns-clause-json
-returns-clause-json c =
-    json_told c.args.body.now _ c.edit_from.result (of_value c.args.body.now (stated c.in_ok-value.value) _ c.in_ok-value.ensures.value (sym c.in-Some.ensures)) c.edit_from.ensures
-
-pub returns-clause-member : goal.returns-clause-member
-returns-clause-member c =
-    member_told c.args.body.now _ c.edit_from.result (of_value c.args.body.now (stated c.in_ok-value.value) _ c.in_ok-value.ensures.value (sym c.in-Some.ensures)) c.edit_from.ensures
+pub returns-in-None-clause-member : goal.returns-in-None-clause-member
+returns-in-None-clause-member c which is =
+    of_text c.args.body.now c.in-Ok.ensures.cases.1 ∙ ap (λ text. edit_of_value (read text)) (sym c.in-Ok.ensures.cases.0) ∙ c.edit_of_tree.ensures.member which is

@@ -1,5 +1,5 @@
 use Rattle.std.proofs.Common.{◌≡◌, drop}
-use Rattle.edit_bodies.proofs.RatingLemmas.{behind}
+use Rattle.edit_bodies.proofs.EachLemmas.{behind}
 use Rattle.edit_bodies.proofs.rating_rows.rows_in.Given as goal
 use Rattle.edit_bodies.specs.Grammars.{each_of, rating_row_of}
 use Rattle.edit_bodies.specs.Trees.{items_stated}

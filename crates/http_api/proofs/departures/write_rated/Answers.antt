@@ -2,7 +2,7 @@ use Rattle.std.proofs.Common.{codes}
 use Rattle.std.proofs.lemmas.Result.{on_ok_weaker}
 use Rattle.http_api.proofs.TextLemmas.{numbers_joined}
 use Rattle.http_api.proofs.departures.write_rated.Goals as goal
-use Rattle.http_api.specs.Departures.{micro_or_null}
+use Rattle.http_api.specs.JsonTexts.{micro_or_null}
 
 pub returns-clause-ok : goal.returns-clause-ok
 returns-clause-ok c =

@@ -1,0 +1,26 @@
+use Rattle.std.proofs.Common.{◌≡◌, ℤ, Ok, Err, refl, rules}
+use Rattle.edit_bodies.proofs.ChainLemmas.{read_on, stopped, same_answer}
+use Rattle.edit_bodies.proofs.kinds.take_dropped_estimate.Goals as goal
+use Rattle.edit_bodies.specs.Grammars.{day_of}
+use Rattle.edit_bodies.specs.Kinds.{row}
+use Rattle.edit_bodies.specs.Members.{Reader, done, required}
+use Rattle.edit_bodies.specs.Trees.{left}
+use Rattle.edit_bodies.specs.declared.kinds.Kind.TheVariants as kinds
+use Rattle.edit_bodies.specs.declared.members.Member.TheVariants.{Day}
+use Rattle.edits.specs.declared.content.What.{What}
+use Rattle.edits.specs.declared.content.What.TheVariants.{DropEstimate}
+
+-- what is read after each member
+abbrev after_day : ℤ → Reader What
+after_day day = done (DropEstimate day)
+
+pub returns-in_err-day-clause-read : goal.returns-in_err-day-clause-read
+returns-in_err-day-clause-read c =
+    let same : c.from_residual.result ≡ Err c.in_err-day.field-0.0 = search rules in
+    same_answer (row kinds.DropEstimate) (left c.args.fields.now) (left c.take_day.new.fields) c.in_err-day.field-0.0 c.from_residual.result same
+    (stopped (required Day day_of) after_day (left c.args.fields.now) (left c.take_day.new.fields) (left c.take_day.new.fields) c.in_err-day.field-0.0 c.in_err-day.ensures)
+
+pub returns-clause-read : goal.returns-clause-read
+returns-clause-read c =
+    (read_on (required Day day_of) after_day (left c.args.fields.now) (left c.take_day.new.fields) (left c.take_day.new.fields) c.in_ok-day.day (Ok (DropEstimate c.in_ok-day.day)) c.in_ok-day.ensures
+    refl)

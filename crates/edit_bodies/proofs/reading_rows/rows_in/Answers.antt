@@ -1,0 +1,9 @@
+use Rattle.std.proofs.Common.{◌∙◌}
+use Rattle.edit_bodies.proofs.EachLemmas.{item_read}
+use Rattle.edit_bodies.proofs.reading_rows.rows_in.Goals as goal
+use Rattle.edit_bodies.specs.Grammars.{reading_of}
+
+pub loop-item-preserved : goal.loop-item-preserved
+loop-item-preserved c =
+    let read = item_read reading_of c.loop-item.readings.items c.args.items.now c.loop-item.item-index c.item-item.result c.in-Some.reading c.loop-item-test.true c.item-item.is c.in-Some.ensures in
+    rw c.in_ok-push.ensures.items (read ∙ c.loop-item.invariant)

@@ -1,0 +1,17 @@
+use Rattle.std.proofs.Common.{Some, sym, ap, ◌∙◌}
+use Rattle.edit_bodies.proofs.TextLemmas.{initials-told, kept_if-is, reference-told}
+use Rattle.edit_bodies.proofs.UsualLemmas.{put_made}
+use Rattle.edit_bodies.proofs.usual_form.edit_in.Goals as goal
+use Rattle.edit_bodies.specs.Grammars.{kept_if}
+use Rattle.edit_bodies.specs.Texts.{are_initials, is_reference, site_of_text}
+use Rattle.edits.specs.Texts.{AreInitials, IsReference}
+
+pub returns : goal.returns
+returns c rows e =
+    let initials = kept_if-is are_initials (AreInitials c.as_bytes.result.now) c.as_bytes.result.now (Some c.in_ok-new.field-0) (initials-told c.as_bytes.result.now) c.in_ok-new.ensures.range c.in_ok-new.ensures.value in
+    let code = kept_if-is is_reference (IsReference c.as_bytes-2.result.now) c.as_bytes-2.result.now (Some c.in_ok-new-2.field-0) (reference-told c.as_bytes-2.result.now) c.in_ok-new-2.ensures.range c.in_ok-new-2.ensures.value in
+    put_made c.args.sender.now rows c.in_ok-new.field-0 c.in_ok-new-2.field-0 c.in_ok-read_site.field-0 c.args.readings
+    (ap (kept_if are_initials) (sym c.as_bytes.ensures.value) ∙ sym initials)
+    (ap (kept_if is_reference) (sym c.as_bytes-2.ensures.value) ∙ sym code)
+    (ap site_of_text (sym c.as_bytes-3.ensures.value) ∙ sym c.in_ok-read_site.ensures)
+    e

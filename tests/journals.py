@@ -1,7 +1,8 @@
 """Journals of one station, read and written apart from the program: what the scripts beside this compare with.
 
-Edit 1 adds the station, every later one puts a reading, and each tenth one a datum correction instead; some add a rating, put a
-period of the rating before it, or put a field measurement. Each is under a reference of its own."""
+Edit 1 adds the station, every later one puts a reading, and each tenth one a datum correction instead; some put three readings,
+flag all so far, take out the one before, put an estimate, add a rating, put a period of the rating before it, or put a field
+measurement. Each is under a reference of its own."""
 import datetime
 import json
 import struct
@@ -42,7 +43,37 @@ def is_measurement(number):
     return number % 20 == 15 and number < 4_000
 
 
+def is_bulk(number):
+    """Whether an edit puts three readings of its minute, each with another flag."""
+    return number % 10 == 6 and number < 4_000
+
+
+def is_flagging(number):
+    """Whether an edit flags every reading up to its own minute as affected: none of the first 20, so that few faults leave some."""
+    return number % 20 == 4 and 20 < number < 4_000
+
+
+def is_drop(number):
+    """Whether an edit takes out the reading of the edit before it."""
+    return number % 50 == 32 and number < 4_000
+
+
+def is_estimate(number):
+    """Whether an edit puts an estimate, each of another day."""
+    return number % 20 == 8 and number < 4_000
+
+
+FLAGS = ["ok", "erroneous", "affected"]
 ROWS = [(0, 0), (1_000_000, 10_000_000), (2_000_000, 30_500_000)]
+
+
+def day(number):
+    """The day that the estimate of an edit is of, counted from 1970-01-01."""
+    return FIRST // 86_400 + number
+
+
+def day_text(number):
+    return (datetime.date(1970, 1, 1) + datetime.timedelta(days=day(number))).isoformat()
 
 
 def decimal(millionths):
@@ -66,6 +97,14 @@ def content(number, raw):
         return "PutPeriod", {"rating": number - 4, "from": at, "until": text_of(instant(number) + 60)}
     if is_measurement(number):
         return "PutMeasurement", {"number": number, "at": at, "gage": stage, "discharge": "10.5", "grade": "good"}
+    if is_bulk(number):
+        return "PutReadings", {"readings": [[text_of(instant(number) + 20 * n), stage, flag] for n, flag in enumerate(FLAGS)]}
+    if is_flagging(number):
+        return "FlagReadings", {"from": text_of(FIRST), "to": at, "flag": "affected"}
+    if is_drop(number):
+        return "DropReadings", {"from": text_of(instant(number - 1)), "to": at}
+    if is_estimate(number):
+        return "PutEstimate", {"day": day_text(number), "discharge": stage}
     if number % 10 == 0:
         points = [["0", "0.10"], ["1.50", stage]]
         return "PutCorrection", {"set": correction_set(number), "at": at, "points": points, "prorate": number % 20 == 0}
@@ -100,6 +139,15 @@ def payload(number, raw=STAGE):
         return b"\x0b" + head + struct.pack("<IqBq", number - 4, instant(number), 1, instant(number) + 60)
     if is_measurement(number):
         return b"\x0f" + head + struct.pack("<IqqqB", number, instant(number), raw, 10_500_000, 1)
+    if is_bulk(number):
+        rows = b"".join(struct.pack("<qqB", instant(number) + 20 * n, raw, n) for n in range(len(FLAGS)))
+        return b"\x03" + head + struct.pack("<I", len(FLAGS)) + rows
+    if is_flagging(number):
+        return b"\x05" + head + struct.pack("<qqB", FIRST, instant(number), 2)
+    if is_drop(number):
+        return b"\x04" + head + struct.pack("<qq", instant(number - 1), instant(number))
+    if is_estimate(number):
+        return b"\x0d" + head + struct.pack("<iq", day(number), raw)
     if number % 10 == 0:
         points = struct.pack("<Bqqqq", 2, 0, 100_000, 1_500_000, raw)
         return b"\x06" + head + struct.pack("<Bq", correction_set(number), instant(number)) + points + bytes([number % 20 == 0])

@@ -3,8 +3,8 @@
 
     python3 tests/killed_runs.py PROGRAM [--runs 200] [--folder .] [--seed 1]
 
-Each run begins from a new journal. A station and a stream of its readings, corrections, ratings, periods and measurements are sent to `batch --journal`,
-and SIGKILL comes at a random moment while it answers. Then the journal must hold every edit whose reply was written, byte for byte
+Each run begins from a new journal. A station and a stream of its readings, flags, drops, estimates, corrections, ratings, periods and measurements are sent to
+`batch --journal`, and SIGKILL comes at a random moment while it answers. Then the journal must hold every edit whose reply was written, byte for byte
 and in order, and at most one more; and the program must open it again and give the next edit the next number. Prints a
 table of what was found, and ends with status 1 at the first run that is not so. 200 runs take about half a minute.
 

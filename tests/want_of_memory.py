@@ -1,0 +1,212 @@
+#!/usr/bin/env python3
+"""Makes each allocation of a run fail in turn, and looks at what is replied and kept.
+
+    python3 tests/want_of_memory.py PROGRAM [--year] [--folder .] [--jobs 4]
+
+A whole batch (a station, its rating, the rating's period, three readings in one edit, a day before and after turns) is run once for
+each allocation that it makes, with that one refused. Every request must be answered: by its reply, by 507, or by what follows where
+an earlier edit was answered 507. Then the same batch is sent once more over the journal that was left, with all the memory there is:
+every edit must be accepted or told to be repeated, and the day must be computed. With `--year` the three readings are a logger's year
+in one body, settled, with the table of its days (some minutes).
+
+It needs a C compiler (`cc`) for the few lines that stand before the system's allocator, and says so where there is none.
+"""
+import argparse
+import concurrent.futures
+import datetime
+import os
+import pathlib
+import re
+import shutil
+import subprocess
+import sys
+import tempfile
+
+SHIM = r"""
+#define _GNU_SOURCE
+#include <dlfcn.h>
+#include <errno.h>
+#include <stdio.h>
+#include <stdlib.h>
+static unsigned long asked, refused_at;
+static int ready;
+static void *(*next_malloc)(size_t);
+static void *(*next_calloc)(size_t, size_t);
+static void *(*next_realloc)(void *, size_t);
+static int (*next_memalign)(void **, size_t, size_t);
+static void *(*next_aligned)(size_t, size_t);
+__attribute__((constructor)) static void begin(void) {
+    next_malloc = dlsym(RTLD_NEXT, "malloc");
+    next_calloc = dlsym(RTLD_NEXT, "calloc");
+    next_realloc = dlsym(RTLD_NEXT, "realloc");
+    next_memalign = dlsym(RTLD_NEXT, "posix_memalign");
+    next_aligned = dlsym(RTLD_NEXT, "aligned_alloc");
+    const char *text = getenv("REFUSED_ALLOCATION");
+    refused_at = text ? strtoul(text, 0, 10) : 0;
+    ready = 1;
+}
+__attribute__((destructor)) static void end(void) {
+    ready = 0;
+    const char *name = getenv("ALLOCATIONS");
+    FILE *file = name ? fopen(name, "w") : 0;
+    if (file) { fprintf(file, "%lu", asked); fclose(file); }
+}
+static int refused(void) { return ready && ++asked == refused_at; }
+static char early[65536];
+static size_t early_used;
+void *malloc(size_t size) {
+    if (!next_malloc) { void *p = early + early_used; early_used += (size + 15) & ~15UL; return early_used <= sizeof early ? p : 0; }
+    if (refused()) { errno = ENOMEM; return 0; }
+    return next_malloc(size);
+}
+void *calloc(size_t n, size_t size) {
+    if (!next_calloc) return malloc(n * size);
+    if (refused()) { errno = ENOMEM; return 0; }
+    return next_calloc(n, size);
+}
+void *realloc(void *p, size_t size) {
+    if (refused()) { errno = ENOMEM; return 0; }
+    return next_realloc(p, size);
+}
+int posix_memalign(void **p, size_t align, size_t size) {
+    if (refused()) return ENOMEM;
+    return next_memalign(p, align, size);
+}
+void *aligned_alloc(size_t align, size_t size) {
+    if (refused()) { errno = ENOMEM; return 0; }
+    return next_aligned(align, size);
+}
+static void (*next_free)(void *);
+void free(void *p) {
+    if ((char *)p >= early && (char *)p < early + sizeof early) return;
+    if (!next_free) next_free = dlsym(RTLD_NEXT, "free");
+    next_free(p);
+}
+"""
+
+SITE = '"site":"01646500"'
+
+
+def post(target, body=""):
+    data = body.encode()
+    return b"POST %s HTTP/1.1\r\nContent-Length: %d\r\n\r\n%s" % (target.encode(), len(data), data)
+
+
+def get(target):
+    return b"GET %s HTTP/1.1\r\n\r\n" % target.encode()
+
+
+def edit(kind, reference, members):
+    return post("/edits", '{"kind":"%s","by":"AB","ref":"%s",%s,%s}' % (kind, reference, SITE, members))
+
+
+def station(gap):
+    arrays = '"stage_array":"9999999992","discharge_array":"0222233332"'
+    return [
+        edit("AddStation", "a1", '"name":"POTOMAC","zone":"-05:00","gap":%d,%s' % (gap, arrays)),
+        edit("AddRating", "a2", '"rating":1,"rows":[["1.00","10"],["2.00","30"]]'),
+        edit("PutPeriod", "a3", '"rating":1,"from":"2023-01-01T00:00:00Z","until":null'),
+    ]
+
+
+def whole_batch():
+    rows = '"readings":[["2024-01-05T05:00:00Z","1.00"],["2024-01-05T17:00:00Z","2.00"],["2024-01-06T05:00:00Z","1.00"]]'
+    day = get("/stations/01646500/days/2024-01-05")
+    return station(720) + [edit("PutReadings", "a4", rows), day, post("/turns/10"), day]
+
+
+def year():
+    first = datetime.datetime(2024, 1, 1, 5)
+    rows = []
+    for number in range(35_136):
+        at = (first + datetime.timedelta(minutes=15 * number)).strftime("%Y-%m-%dT%H:%M:%SZ")
+        rows.append('["%s",%s]' % (at, '"2001.50","erroneous"' if number == 17_500 else '"1.50","ok"'))
+    put = edit("PutReadings", "a4", '"readings":[%s]' % ",".join(rows))
+    last = edit("PutReadings", "a5", '"readings":[["2025-01-01T05:00:00Z","1.50"]]')
+    table = get("/stations/01646500/daily/2024-01-01/2024-12-31")
+    return station(60) + [put, post("/settle"), last, post("/settle"), table]
+
+
+def replies(output):
+    """The status and the body of each reply."""
+    found, at = [], 0
+    head = re.compile(rb"HTTP/1.1 (\d+) [^\r]*\r\nContent-Type: [^\r]*\r\nContent-Length: (\d+)\r\n\r\n")
+    while at < len(output):
+        match = head.match(output, at)
+        if not match:
+            raise ValueError("no reply at %d: %r" % (at, output[at : at + 80]))
+        end = match.end() + int(match[2])
+        found.append((int(match[1]), output[match.end() : end]))
+        at = end
+    return found
+
+
+def run(program, journal, requests, environment):
+    return subprocess.run(
+        [program, "batch", "--journal", journal], input=b"".join(requests), capture_output=True, env={**os.environ, **environment}
+    )
+
+
+def refused_run(program, shim, folder, requests, due, number):
+    """Runs the batch with one allocation refused, and then once more; which statuses other than 200 came."""
+    journal = os.path.join(folder, "journal-%d" % number)
+    subprocess.run([program, "init", "--journal", journal], check=True)
+    ran = run(program, journal, requests, {"LD_PRELOAD": shim, "REFUSED_ALLOCATION": str(number)})
+    if ran.returncode in (1, 6) and not ran.stdout:
+        came = (("status", ran.returncode),)
+    else:
+        told = replies(ran.stdout)
+        if ran.returncode != 0 or len(told) != len(requests):
+            raise SystemExit("allocation %d: status %d, %d replies, %r" % (number, ran.returncode, len(told), ran.stderr))
+        if (507, b'{"code":"NoMemory"}') not in told and told != due:
+            raise SystemExit("allocation %d: other replies, and none of them 507" % number)
+        came = tuple(sorted({status for status, _ in told if status != 200}))
+    again = run(program, journal, requests, {})
+    told = replies(again.stdout)
+    edits = [body for body in (body for _, body in told) if body.startswith(b'{"edit":')]
+    posts = sum(request.startswith(b"POST /edits") for request in requests)
+    if again.returncode != 0 or any(status != 200 for status, _ in told) or len(edits) != posts or told[-1] != due[-1]:
+        raise SystemExit("allocation %d, sent once more: status %d, %r" % (number, again.returncode, told[-1]))
+    os.unlink(journal)
+    return came
+
+
+def main():
+    words = argparse.ArgumentParser()
+    words.add_argument("program")
+    words.add_argument("--year", action="store_true")
+    words.add_argument("--folder", default=".")
+    words.add_argument("--jobs", type=int, default=4)
+    words.add_argument("--from", dest="first", type=int, default=1)
+    given = words.parse_args()
+    program = str(pathlib.Path(given.program).resolve())
+    if not shutil.which("cc"):
+        print("there is no C compiler here, so no allocation is refused")
+        return 0
+    requests = year() if given.year else whole_batch()
+    with tempfile.TemporaryDirectory(dir=given.folder) as folder:
+        source, shim, count = (os.path.join(folder, name) for name in ("shim.c", "shim.so", "count"))
+        pathlib.Path(source).write_text(SHIM)
+        subprocess.run(["cc", "-O1", "-shared", "-fPIC", "-o", shim, source, "-ldl"], check=True)
+        journal = os.path.join(folder, "journal")
+        subprocess.run([program, "init", "--journal", journal], check=True)
+        ran = run(program, journal, requests, {"LD_PRELOAD": shim, "ALLOCATIONS": count})
+        due = replies(ran.stdout)
+        allocations = int(pathlib.Path(count).read_text())
+        if ran.returncode != 0 or any(status != 200 for status, _ in due):
+            raise SystemExit("with all the memory there is: status %d, %r" % (ran.returncode, due))
+        table = {}
+        with concurrent.futures.ThreadPoolExecutor(given.jobs) as pool:
+            calls = [pool.submit(refused_run, program, shim, folder, requests, due, n) for n in range(given.first, allocations + 1)]
+            for call in calls:
+                came = call.result()
+                table[came] = table.get(came, 0) + 1
+    print("statuses other than 200 | runs")
+    for came, runs in sorted(table.items(), key=str):
+        print("%-23s | %d" % (", ".join(str(status) for status in came) or "none", runs))
+    print("%d allocations, each refused once: every request was answered, and the batch sent once more was done" % allocations)
+    return 0
+
+
+if __name__ == "__main__":
+    sys.exit(main())

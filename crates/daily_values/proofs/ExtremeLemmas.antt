@@ -4,7 +4,7 @@ use Rattle.std.specs.Prelude.{◌≡◌, Bool, true, false, not, ◌&&◌, ◌||
 use Rattle.std.proofs.Common.{ℕ, ◌+◌, ◌<◌, length, drop, get_or, arith, refl, ap, sym, subst, ◌∙◌}
 use Rattle.std.proofs.lemmas.Int.{ints}
 use Rattle.std.proofs.lemmas.List.{append-nil, append_assoc}
-use Rattle.std.proofs.lemmas.List.Elements.{All-head, All-tail, All-cons, All-nil, All-weaker, All-append, filter-append}
+use Rattle.std.proofs.lemmas.List.Elements.{All-head, All-tail, All-cons, All-nil, All-weaker, All-append}
 use Rattle.std.proofs.lemmas.List.Folds.{list_any_none}
 use Rattle.rising.proofs.Parting.{lt_yes, lt_no}
 use Rattle.fixed_units.specs.declared.readings.Reading.{Reading}
@@ -214,31 +214,29 @@ module _ (value : Unit → Option ℤ) (behind : Option ℤ → Option ℤ → B
     best_of units o e = subst (IsBestOf units) (sym e) (best_is units)
 
     -- the best with one more
-    pub more_none_yet : (us : List Unit) (v : Unit) → None ≡ best us → cond (is_some (value v)) (Some v) None ≡ best (us ++ v ∷ [])
+    more_none_yet : (us : List Unit) (v : Unit) → None ≡ best us → cond (is_some (value v)) (Some v) None ≡ best (us ++ v ∷ [])
     more_none_yet us v e = by (is_some (value v)) refl
       where
         by : (b : Bool) → is_some (value v) ≡ b → cond b (Some v) None ≡ best (us ++ v ∷ [])
         by true s = sym (found (us ++ v ∷ []) (Some v) (first_more us v (best_of us None e) s))
         by false s = sym (found (us ++ v ∷ []) None (none_more us v (best_of us None e) s))
 
-    pub more_ahead : (us : List Unit) (x v : Unit) → Some x ≡ best us → behind (value x) (value v) ≡ true → Some v ≡ best (us ++ v ∷ [])
+    more_ahead : (us : List Unit) (x v : Unit) → Some x ≡ best us → behind (value x) (value v) ≡ true → Some v ≡ best (us ++ v ∷ [])
     more_ahead us x v e h =
         sym (found (us ++ v ∷ []) (Some v) (ahead_more us x v (best_of us (Some x) e) h (ahead_valued (value x) (value v) (is_some (value v)) refl h)))
 
-    pub more_behind : (us : List Unit) (x v : Unit) → Some x ≡ best us → behind (value x) (value v) ≡ false → Some x ≡ best (us ++ v ∷ [])
+    more_behind : (us : List Unit) (x v : Unit) → Some x ≡ best us → behind (value x) (value v) ≡ false → Some x ≡ best (us ++ v ∷ [])
     more_behind us x v e h = sym (found (us ++ v ∷ []) (Some x) (stays_more us x v (best_of us (Some x) e) h))
 
--- the extremes of the day among unit values, and with one more
-among_more : (day : DayParts) (us : List Unit) (u : Unit) (b : Bool) → is_of_day day u ≡ b → filter (is_of_day day) (us ++ u ∷ []) ≡ filter (is_of_day day) us ++ cond b (u ∷ []) []
-among_more day us u b e = filter-append (is_of_day day) us (u ∷ []) ∙ ap (λ (x : Bool). filter (is_of_day day) us ++ cond x (u ∷ []) []) e
+    -- by what was kept: none so far, or one
+    pub more_from_none : (us : List Unit) (kept : Option Unit) (v : Unit) (b : Bool) → kept ≡ None → kept ≡ best us → is_some (value v) ≡ b
+        → cond b (Some v) kept ≡ best (us ++ v ∷ [])
+    more_from_none us kept v b none e h = rw (none, sym h) (more_none_yet us v (sym none ∙ e))
 
-pub of_day_more : (day : DayParts) (us : List Unit) (u : Unit) (e : Extremes) → is_of_day day u ≡ true
-    → e ≡ extremes_among (filter (is_of_day day) us ++ u ∷ []) → e ≡ extremes_among (filter (is_of_day day) (us ++ u ∷ []))
-of_day_more day us u e h k = k ∙ ap extremes_among (sym (among_more day us u true h))
-
-pub not_of_day_more : (day : DayParts) (us : List Unit) (u : Unit) (e : Extremes) → is_of_day day u ≡ false
-    → e ≡ extremes_among (filter (is_of_day day) us) → e ≡ extremes_among (filter (is_of_day day) (us ++ u ∷ []))
-not_of_day_more day us u e h k = k ∙ ap extremes_among (sym (among_more day us u false h ∙ append-nil (filter (is_of_day day) us)))
+    pub more_from_some : (us : List Unit) (kept : Option Unit) (x v : Unit) (b : Bool) → kept ≡ Some x → kept ≡ best us → behind (value x) (value v) ≡ b
+        → cond b (Some v) kept ≡ best (us ++ v ∷ [])
+    more_from_some us kept x v true some e h = more_ahead us x v (sym some ∙ e) h
+    more_from_some us kept x v false some e h = some ∙ more_behind us x v (sym some ∙ e) h
 
 -- the extremes of those that were passed, and those that are left
 pub record AreExtremesOfRest (day : DayParts) (rest all : List Unit) (extremes : Extremes) : Type 0 where

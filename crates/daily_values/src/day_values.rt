@@ -203,7 +203,7 @@ impl Figures {
     }
 
     /// The published mean of the discharges, exactly where they cover the whole day.
-    fn mean_discharge(&self) -> Option<Published>
+    pub fn mean_discharge(&self) -> Option<Published>
         ensures { result ≡ mean_discharge self.now }
     {
         if self.discharge.covered != self.length {

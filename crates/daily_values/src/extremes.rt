@@ -37,27 +37,23 @@ impl Extremes {
         }
     }
 
-    /// Those of unit values and one more behind them.
-    fn with(self, unit: &Unit) -> Extremes
-        ensures { (units : List Unit) → self ≡ extremes_among units → result ≡ extremes_among (units ++ unit.now ∷ []) }
+    /// Takes in one unit value more, behind those before it.
+    fn add(&mut self, unit: &Unit)
+        ensures { (units : List Unit) → self.old ≡ extremes_among units → self.new ≡ extremes_among (units ++ unit.now ∷ []) }
     {
-        Extremes {
-            max_stage: greater(self.max_stage, unit, Quantity::Stage),
-            min_stage: less(self.min_stage, unit, Quantity::Stage),
-            max_discharge: greater(self.max_discharge, unit, Quantity::Discharge),
-            min_discharge: less(self.min_discharge, unit, Quantity::Discharge),
-        }
+        raise(&mut self.max_stage, unit, Quantity::Stage);
+        lower(&mut self.min_stage, unit, Quantity::Stage);
+        raise(&mut self.max_discharge, unit, Quantity::Discharge);
+        lower(&mut self.min_discharge, unit, Quantity::Discharge);
     }
 }
 
-/// The extremes with a unit value more, which counts where it is of the day.
-pub(crate) fn add_extremes(extremes: Extremes, parts: &DayParts, unit: &Unit) -> Extremes
-    ensures { (units : List Unit) → extremes ≡ extremes_among (filter (is_of_day parts.now) units) → result ≡ extremes_among (filter (is_of_day parts.now) (units ++ unit.now ∷ [])) }
+/// Takes a unit value more into the extremes, where it is of the day.
+pub(crate) fn add_extremes(extremes: &mut Extremes, parts: &DayParts, unit: &Unit)
+    ensures { (units : List Unit) → extremes.old ≡ extremes_among (filter (is_of_day parts.now) units) → extremes.new ≡ extremes_among (filter (is_of_day parts.now) (units ++ unit.now ∷ [])) }
 {
     if is_within(parts, unit.at) {
-        extremes.with(unit)
-    } else {
-        extremes
+        extremes.add(unit);
     }
 }
 
@@ -82,42 +78,41 @@ impl Quantity {
     }
 }
 
-/// The greatest of unit values with one more behind them, which counts where it is greater than all before it.
-fn greater(most: Option<Unit>, unit: &Unit, quantity: Quantity) -> Option<Unit>
-    ensures { (units : List Unit) → most ≡ greatest (value_of quantity) units → result ≡ greatest (value_of quantity) (units ++ unit.now ∷ []) }
+/// Takes one unit value more into the greatest of those before it, where it is greater than all of them.
+fn raise(most: &mut Option<Unit>, unit: &Unit, quantity: Quantity)
+    ensures { (units : List Unit) → most.old ≡ greatest (value_of quantity) units → most.new ≡ greatest (value_of quantity) (units ++ unit.now ∷ []) }
 {
-    let Some(kept) = &most else {
-        return if_valued(unit, quantity);
-    };
-    if is_less(quantity.value(kept), quantity.value(unit)) {
-        Some(*unit)
-    } else {
-        most
+    if is_greater(most, unit, quantity) {
+        *most = Some(*unit);
     }
 }
 
-/// The least of unit values with one more behind them, which counts where it is less than all before it.
-fn less(least: Option<Unit>, unit: &Unit, quantity: Quantity) -> Option<Unit>
-    ensures { (units : List Unit) → least ≡ values.least (value_of quantity) units → result ≡ values.least (value_of quantity) (units ++ unit.now ∷ []) }
+/// Takes one unit value more into the least of those before it, where it is less than all of them.
+fn lower(least: &mut Option<Unit>, unit: &Unit, quantity: Quantity)
+    ensures { (units : List Unit) → least.old ≡ values.least (value_of quantity) units → least.new ≡ values.least (value_of quantity) (units ++ unit.now ∷ []) }
 {
-    let Some(kept) = &least else {
-        return if_valued(unit, quantity);
-    };
-    if is_less(quantity.value(unit), quantity.value(kept)) {
-        Some(*unit)
-    } else {
-        least
+    if is_lesser(least, unit, quantity) {
+        *least = Some(*unit);
     }
 }
 
-/// A unit value that has a value.
-fn if_valued(unit: &Unit, quantity: Quantity) -> Option<Unit>
-    ensures { result ≡ (if is_some (value_of quantity unit.now) then Some unit.now else None) }
+/// Whether a unit value has a value that is greater than that of the greatest before it, if there is one.
+fn is_greater(most: &Option<Unit>, unit: &Unit, quantity: Quantity) -> bool
+    ensures { (units : List Unit) → most.now ≡ greatest (value_of quantity) units → (if result then Some unit.now else most.now) ≡ greatest (value_of quantity) (units ++ unit.now ∷ []) }
 {
-    if quantity.value(unit).is_some() {
-        Some(*unit)
-    } else {
-        None
+    match most {
+        Some(kept) => is_less(quantity.value(kept), quantity.value(unit)),
+        None => quantity.value(unit).is_some(),
+    }
+}
+
+/// Whether a unit value has a value that is less than that of the least before it, if there is one.
+fn is_lesser(least: &Option<Unit>, unit: &Unit, quantity: Quantity) -> bool
+    ensures { (units : List Unit) → least.now ≡ values.least (value_of quantity) units → (if result then Some unit.now else least.now) ≡ values.least (value_of quantity) (units ++ unit.now ∷ []) }
+{
+    match least {
+        Some(kept) => is_less(quantity.value(unit), quantity.value(kept)),
+        None => quantity.value(unit).is_some(),
     }
 }
 

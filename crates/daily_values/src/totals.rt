@@ -70,7 +70,8 @@ fn totals_along(parts: &DayParts, first: Reading, rest: &[Reading]) -> Totals
     let mut stage = Sum::none();
     let mut discharge = Sum::none();
     let mut counts = add_unit(Counts::none(), parts, &left);
-    let mut extremes = add_extremes(Extremes::none(), parts, &left);
+    let mut extremes = Extremes::none();
+    add_extremes(&mut extremes, parts, &left);
     for reading in rest {
         let right = unit_of(parts, reading);
         let seconds = seconds_between(parts, left.at, right.at);
@@ -89,7 +90,7 @@ fn totals_along(parts: &DayParts, first: Reading, rest: &[Reading]) -> Totals
             seconds,
         );
         counts = add_unit(counts, parts, &right);
-        extremes = add_extremes(extremes, parts, &right);
+        add_extremes(&mut extremes, parts, &right);
         left = right;
     }
     Totals {

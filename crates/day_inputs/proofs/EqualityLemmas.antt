@@ -1,4 +1,4 @@
--- The test of equality decides it. A further member is a line in each of `AreSame`, `from_parts`, `to_parts` and
+-- The test of equality decides it. A further member is a line in each of `AreSame`, `remade`, `from_parts`, `to_parts` and
 -- `Decides-same_members`.
 use Rattle.std.specs.Prelude.{◌≡◌, Bool, Option, Some, None, ℤ}
 use Rattle.std.specs.Bool.{Decides}
@@ -25,11 +25,12 @@ abbrev pub AreSame : DayParts → DayParts → Type 0
 AreSame p q =
     (p.gap ≡ q.gap) × ((p.stage_array ≡ q.stage_array) × ((p.discharge_array ≡ q.discharge_array) × ((p.from ≡ q.from) × ((p.until ≡ q.until) × ((p.window ≡ q.window) × ((p.first ≡ q.first) × ((p.second ≡ q.second) × ((p.third ≡ q.third) × ((p.shifts ≡ q.shifts) × ((p.periods ≡ q.periods) × (p.estimate ≡ q.estimate)))))))))))
 
+abbrev remade : DayParts → DayParts
+remade p = record { gap = p.gap; stage_array = p.stage_array; discharge_array = p.discharge_array; from = p.from; until = p.until; window = p.window; first = p.first; second = p.second; third = p.third; shifts = p.shifts; periods = p.periods; estimate = p.estimate }
+
 pub from_parts : (p q : DayParts) → AreSame p q → p ≡ q
 from_parts p q h =
-    let e : ◌≡◌ {A = DayParts}
-    (record { gap = p.gap; stage_array = p.stage_array; discharge_array = p.discharge_array; from = p.from; until = p.until; window = p.window; first = p.first; second = p.second; third = p.third; shifts = p.shifts; periods = p.periods; estimate = p.estimate })
-    (record { gap = q.gap; stage_array = q.stage_array; discharge_array = q.discharge_array; from = q.from; until = q.until; window = q.window; first = q.first; second = q.second; third = q.third; shifts = q.shifts; periods = q.periods; estimate = q.estimate }) =
+    let e : remade p ≡ remade q =
     rw (h.0, h.1.0, h.1.1.0, h.1.1.1.0, h.1.1.1.1.0, h.1.1.1.1.1.0, h.1.1.1.1.1.1.0, h.1.1.1.1.1.1.1.0, h.1.1.1.1.1.1.1.1.0, h.1.1.1.1.1.1.1.1.1.0, h.1.1.1.1.1.1.1.1.1.1.0, h.1.1.1.1.1.1.1.1.1.1.1) refl in
     e
 

@@ -1,6 +1,6 @@
 -- The ends of a window, and the inputs of a day by them.
 use Rattle.std.specs.Prelude.{◌≡◌, Bool, true, false, ◌&&◌, ℕ, ◌≤◌, List, [], ◌∷◌, All, IfSome, Option, Some, None, is_none, option_map, ℤ, pos, ◌-ℤ◌, ◌<ℤ◌, ◌≤ℤ◌}
-use Rattle.std.proofs.Common.{arith, refl, ap, sym, subst, ◌∙◌}
+use Rattle.std.proofs.Common.{arith, refl, ap, subst, ◌∙◌}
 use Rattle.std.proofs.lemmas.Int.{ints}
 use Rattle.std.proofs.lemmas.List.Elements.{All-head, All-tail}
 use Rattle.fixed_units.specs.declared.readings.Reading.{Reading}
@@ -18,7 +18,8 @@ use Rattle.rising.proofs.Selecting.{AllPairs-head, AllPairs-tail}
 use Rattle.readings.specs.Readings.{IsRising}
 use Rattle.day_inputs.specs.declared.day_inputs.DayParts.{DayParts}
 use Rattle.day_inputs.specs.declared.day_inputs.DayInputs.TheVariants.{Empty, Day}
-use Rattle.day_inputs.specs.DayInputs.{bearing_on, parts_on, last_at, window_ends, ends_of, with_window, AreInputs, most_gap, shortest_day, longest_day}
+use Rattle.day_inputs.specs.DayInputs.{last_at, window_ends, ends_of, with_window, AreInputs, most_gap, shortest_day, longest_day, parts_with as parts_of}
+use Rattle.day_inputs.proofs.EqualityLemmas.{AreSame, from_parts}
 
 last_told : (r : Reading) (rs : List Reading) → option_map (λ (x : Reading). x.at) (last (r ∷ rs)) ≡ Some (last_at r rs)
 last_told r [] = refl
@@ -62,20 +63,7 @@ and_false false = refl
 module _ (gap : ℕ) (stages discharges : List ℕ) (from until : ℤ) (c : Corrections) (shifts : List Entry) (ratings : StationRatings) (estimate : Option ℤ) where
   -- the inputs of a day of this window, with what counts for this time
   abbrev pub parts_with : List Reading → Option (ℤ × ℤ) → DayParts
-  parts_with w span = record {
-    gap = gap;
-    stage_array = stages;
-    discharge_array = discharges;
-    from = from;
-    until = until;
-    window = w;
-    first = bearing_on span c.first;
-    second = bearing_on span c.second;
-    third = bearing_on span c.third;
-    shifts = bearing_on span shifts;
-    periods = parts_on span ratings;
-    estimate = estimate;
-  }
+  parts_with w span = parts_of gap stages discharges from until c shifts ratings estimate w span
 
   pub no_inputs : (w : List Reading) → window_ends w ≡ None → estimate ≡ None → Empty ≡ with_window gap stages discharges from until c shifts ratings w estimate
   no_inputs [] e f = rw f refl
@@ -90,24 +78,9 @@ module _ (gap : ℕ) (stages discharges : List ℕ) (from until : ℤ) (c : Corr
       without (Some q) e h = rw e refl
 
   -- the same with the lists that were copied from the series
-  pub made : (w v : List Reading) (span : Option (ℤ × ℤ)) (first second third fourth : List Entry) (periods : List rating_parts.Part) → span ≡ window_ends w → (is_none span && is_none estimate) ≡ false → v ≡ w
-      → first ≡ bearing_on span c.first → second ≡ bearing_on span c.second → third ≡ bearing_on span c.third → fourth ≡ bearing_on span shifts → periods ≡ parts_on span ratings
-      → Day (record {
-        gap = gap;
-        stage_array = stages;
-        discharge_array = discharges;
-        from = from;
-        until = until;
-        window = v;
-        first = first;
-        second = second;
-        third = third;
-        shifts = fourth;
-        periods = periods;
-        estimate = estimate;
-      }) ≡ with_window gap stages discharges from until c shifts ratings w estimate
-  made w v span first second third fourth periods s h e f g i j k =
-      rw (e, f, g, i, j, k, s) (by_ends w (sym (ap (λ (x : Option (ℤ × ℤ)). is_none x && is_none estimate) s) ∙ h))
+  pub made : (w : List Reading) (p : DayParts) → (is_none (window_ends w) && is_none estimate) ≡ false → AreSame p (parts_with w (window_ends w))
+      → Day p ≡ with_window gap stages discharges from until c shifts ratings w estimate
+  made w p h same = ap Day (from_parts p (parts_with w (window_ends w)) same) ∙ by_ends w h
 
   -- the inputs of a day keep to what they must, where the window, the series and the estimate do
   pub inputs_kept : 1 ≤ gap → gap ≤ most_gap → pos shortest_day ≤ℤ (until -ℤ from) → (until -ℤ from) ≤ℤ pos longest_day → AreCorrections c → IsSeries shifts → AreRatings ratings → IfSome estimate IsDischarge

@@ -39,43 +39,32 @@ abbrev pub parts_on : Option (ℤ × ℤ) → StationRatings → List rating_par
 parts_on None ratings = []
 parts_on (Some span) ratings = rating_parts.parts span.0 span.1 ratings.tables ratings.periods
 
--- the inputs of a day [from, until) without a window: none, but where an estimate stands; then no entry and no period counts
-abbrev pub without_window : ℕ → List ℕ → List ℕ → ℤ → ℤ → Option ℤ → DayInputs
-without_window gap stage_array discharge_array from until None = Empty
-without_window gap stage_array discharge_array from until (Some discharge) = Day (record {
+-- the parts of the inputs of a day [from, until) with this window and this estimate, if there is one: with the entries of these
+-- correction sets and shifts that bear on a time, and the parts of the rating periods that meet it
+abbrev pub parts_with : ℕ → List ℕ → List ℕ → ℤ → ℤ → Corrections → List Entry → StationRatings → Option ℤ → List Reading → Option (ℤ × ℤ) → DayParts
+parts_with gap stage_array discharge_array from until corrections shifts ratings estimate readings span = record {
   gap = gap;
   stage_array = stage_array;
   discharge_array = discharge_array;
   from = from;
   until = until;
-  window = [];
-  first = [];
-  second = [];
-  third = [];
-  shifts = [];
-  periods = [];
-  estimate = Some discharge;
-})
-
--- the inputs of a day [from, until) with this window and this estimate, if there is one: with the entries of these correction sets
--- and shifts that bear on the time from the window's first reading to its last one, and the parts of the rating periods that meet it
-abbrev pub with_window : ℕ → List ℕ → List ℕ → ℤ → ℤ → Corrections → List Entry → StationRatings → List Reading → Option ℤ → DayInputs
-with_window gap stage_array discharge_array from until corrections shifts ratings [] estimate =
-    without_window gap stage_array discharge_array from until estimate
-with_window gap stage_array discharge_array from until corrections shifts ratings (r ∷ rs) estimate = Day (record {
-  gap = gap;
-  stage_array = stage_array;
-  discharge_array = discharge_array;
-  from = from;
-  until = until;
-  window = r ∷ rs;
-  first = bearing r.at (last_at r rs) corrections.first;
-  second = bearing r.at (last_at r rs) corrections.second;
-  third = bearing r.at (last_at r rs) corrections.third;
-  shifts = bearing r.at (last_at r rs) shifts;
-  periods = rating_parts.parts r.at (last_at r rs) ratings.tables ratings.periods;
+  window = readings;
+  first = bearing_on span corrections.first;
+  second = bearing_on span corrections.second;
+  third = bearing_on span corrections.third;
+  shifts = bearing_on span shifts;
+  periods = parts_on span ratings;
   estimate = estimate;
-})
+}
+
+-- the inputs of a day [from, until) with this window and this estimate, if there is one: none where it has neither. The time that
+-- counts is that from the window's first reading to its last one, and without a window there is none
+abbrev pub with_window : ℕ → List ℕ → List ℕ → ℤ → ℤ → Corrections → List Entry → StationRatings → List Reading → Option ℤ → DayInputs
+with_window gap stage_array discharge_array from until corrections shifts ratings [] None = Empty
+with_window gap stage_array discharge_array from until corrections shifts ratings [] (Some discharge) =
+    Day (parts_with gap stage_array discharge_array from until corrections shifts ratings (Some discharge) [] None)
+with_window gap stage_array discharge_array from until corrections shifts ratings (r ∷ rs) estimate =
+    Day (parts_with gap stage_array discharge_array from until corrections shifts ratings estimate (r ∷ rs) (Some (r.at, last_at r rs)))
 
 -- the inputs of the day [from, until) of a station with this gap tolerance, in minutes, these rounding arrays, correction sets,
 -- shifts, ratings and readings, and this estimate of the day

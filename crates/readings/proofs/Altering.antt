@@ -1,24 +1,27 @@
 -- What the comparisons of a change say of the used readings, and of the window.
-use Rattle.std.specs.Prelude.{◌≡◌, ◌≢◌, Bool, true, false, not, ◌||◌, List, [], ◌∷◌, ◌++◌, ℤ, filter, find, is_some, Option, Some, None, option_to_list, All}
+use Rattle.std.specs.Prelude.{◌≡◌, ◌≢◌, Bool, true, false, not, ◌&&◌, ◌||◌, List, [], ◌∷◌, ◌++◌, ℤ, ◌≤ℤ◌, int_le, int_lt, filter, find, is_some, Option, Some, None, option_to_list, All}
 use Rattle.std.specs.List.{list_any}
-use Rattle.std.specs.Borrow.{Bor}
-use Rattle.std.proofs.Common.{refl, ap, sym, ◌∙◌, subst}
-use Rattle.std.proofs.lemmas.List.Elements.{All-head, All-tail, All-cons, All-nil, All-weaker}
+use Rattle.std.proofs.Common.{arith, refl, ap, sym, ◌∙◌, subst}
+use Rattle.std.proofs.lemmas.Bool.{and_parts}
+use Rattle.std.proofs.lemmas.Int.{ints}
+use Rattle.std.proofs.lemmas.Option.{MatchOption-at_some}
+use Rattle.std.proofs.lemmas.List.Elements.{All-head, All-tail, All-cons, All-nil, All-weaker, filter_passes}
 use Rattle.fixed_units.specs.declared.readings.Reading.{Reading}
 use Rattle.fixed_units.specs.declared.readings.Flag.{Flag}
+use Rattle.rising.proofs.Parting.{yes_lt, yes_le}
 use Rattle.rising.proofs.Placing.{filter_rises}
 use Rattle.rising.proofs.Selecting.{none_found, filter_none}
 use Rattle.readings.specs.Readings.{IsRising, instant_of, at_instant, put_all, is_used, in_span, without_span, with_flag}
 use Rattle.readings.specs.Window.{is_of_day, of_day, inner}
 use Rattle.readings.specs.Equality.{same_flag, same_readings}
-use Rattle.readings.specs.Changes.{changed, IsRisingChange}
+use Rattle.readings.specs.Changes.{changed, changed_by, put_list, IsRisingChange}
 use Rattle.readings.specs.declared.changes.Change.{Change}
 use Rattle.readings.specs.declared.changes.Change.TheVariants.{Put, Drop, Flag as Flagged}
 use Rattle.readings.proofs.EqualityLemmas.{flags_decide}
-use Rattle.readings.proofs.Selecting.{find_none, none_kept}
+use Rattle.readings.proofs.Selecting.{find_none, find_kept, none_kept}
 use Rattle.readings.proofs.WindowParts.{inner_found}
-use Rattle.readings.proofs.UnionLemmas.{day_put_all, IsUsedAlike, used_stay, used_stayed}
-use Rattle.readings.proofs.ChangeLemmas.{without_rises, day_without, unused_leave, left_unused, day_flagged, flagged_already, left_flagged}
+use Rattle.readings.proofs.UnionLemmas.{part_put_all, IsUsedAlike, used_stay, used_stayed}
+use Rattle.readings.proofs.ChangeLemmas.{without_rises, part_without, unused_leave, left_unused, part_flagged, flagged_already, left_flagged}
 use Rattle.readings.proofs.PuttingLemmas.{put_all_rises}
 use Rattle.readings.proofs.RunLemmas.{with_flag_rises}
 use Rattle.readings.proofs.Comparing.{differs_false, tell_other, tell_same}
@@ -32,8 +35,10 @@ changed_rises (Put list) rs h k = put_all_rises list.now rs k
 changed_rises (Drop from to) rs h k = without_rises from to rs k
 changed_rises (Flagged from to flag) rs h k = with_flag_rises from to flag rs k
 
-pub list_rises : (change : Change) (list : Bor (List Reading)) → change ≡ Put list → IsRisingChange change → IsRising list.now
-list_rises change list e h = subst IsRisingChange e h
+pub list_rises : (change : Change) → IsRisingChange change → IsRising (put_list change)
+list_rises (Put list) h = h
+list_rises (Drop from to) h = λ i j d k l. absurd (omega arith)
+list_rises (Flagged from to flag) h = λ i j d k l. absurd (omega arith)
 
 -- whether some element passes
 none_first : (x y : Bool) → (x || y) ≡ false → x ≡ false
@@ -128,21 +133,20 @@ part_told a b rs ss part next t e f told =
     ∙ ap (λ (l : List Reading). not (same_readings l (filter is_used next))) (ap (filter is_used) e ∙ inner_found a b rs)
     ∙ ap (λ (l : List Reading). not (same_readings (inner a b rs) l)) (ap (filter is_used) f ∙ inner_found a b ss)
 
-pub put_part : (a b : ℤ) (list rs part front : List Reading) → IsRising rs → part ≡ of_day a b rs → front ≡ of_day a b list
-    → put_all front part ≡ of_day a b (put_all list rs)
-put_part a b list rs part front h e f =
-    ap (λ (l : List Reading). put_all l part) f ∙ ap (put_all (of_day a b list)) e ∙ sym (day_put_all a b list rs h)
+part_changed : (passes : ℤ → Bool) (change : Change) (list rs : List Reading) → IsRising rs
+    → filter (λ r. passes r.at) (changed_by change list rs) ≡ changed_by change (filter (λ r. passes r.at) list) (filter (λ r. passes r.at) rs)
+part_changed passes (Put _) list rs h = part_put_all passes list rs h
+part_changed passes (Drop from to) list rs h = part_without passes from to rs
+part_changed passes (Flagged from to flag) list rs h = part_flagged passes from to flag rs
 
-pub drop_part : (a b from to : ℤ) (rs part : List Reading) → part ≡ of_day a b rs → without_span from to part ≡ of_day a b (without_span from to rs)
-drop_part a b from to rs part e = ap (without_span from to) e ∙ sym (day_without a b from to rs)
-
-pub flag_part : (a b from to : ℤ) (flag : Flag) (rs part : List Reading) → part ≡ of_day a b rs → with_flag from to flag part ≡ of_day a b (with_flag from to flag rs)
-flag_part a b from to flag rs part e = ap (with_flag from to flag) e ∙ sym (day_flagged a b from to flag rs)
-
-pub moved : (a b x y : ℤ) (rs ss : List Reading) (t : Bool) → x ≡ a → y ≡ b → t ≡ not (same_readings (inner x y rs) (inner x y ss))
-    → t ≡ not (same_readings (inner a b rs) (inner a b ss))
-moved a b x y rs ss t e f told =
-    told ∙ ap (λ n. not (same_readings (inner n y rs) (inner n y ss))) e ∙ ap (λ n. not (same_readings (inner a n rs) (inner a n ss))) f
+pub change_told : (a b : ℤ) (change : Change) (list rs put part : List Reading) (t : Bool) → IsRising rs → part ≡ of_day a b rs → put ≡ of_day a b list
+    → t ≡ not (same_readings (filter is_used part) (filter is_used (changed_by change put part)))
+    → t ≡ not (same_readings (inner a b rs) (inner a b (changed_by change list rs)))
+change_told a b change list rs put part t h e f told =
+    part_told a b rs (changed_by change list rs) part (changed_by change put part) t e
+    (ap (λ (l : List Reading). changed_by change l part) f ∙ ap (changed_by change (of_day a b list)) e
+    ∙ sym (part_changed (λ n. int_le a n && int_lt n b) change list rs h))
+    told
 
 -- a day whose readings are all unused, and one that has a used reading
 none_by : (o : Option Reading) → is_some o ≡ false → o ≡ None
@@ -161,5 +165,15 @@ used_day a b rs part o e f g none =
     let wrong : false ≡ true = sym (ap is_some (f ∙ ap (find is_used) g ∙ found)) ∙ e in
     cc
 
-pub same_stretch : (a b x y : ℤ) (rs part : List Reading) → x ≡ a → y ≡ b → part ≡ of_day x y rs → part ≡ of_day a b rs
-same_stretch a b x y rs part e f g = g ∙ ap (λ n. of_day n y rs) e ∙ ap (λ n. of_day a n rs) f
+-- a used reading of a day begins it before it ends
+in_order : (a b : ℤ) (rs : List Reading) (r : Reading) → find is_used (of_day a b rs) ≡ Some r → a ≤ℤ b
+in_order a b rs r e =
+    let within : is_of_day a b r ≡ true =
+    MatchOption-at_some (Unit {0}) (λ r. is_of_day a b r ≡ true) r e (find_kept (λ r. is_of_day a b r ≡ true) is_used (of_day a b rs) (filter_passes (is_of_day a b) rs)) in
+    let start = yes_le a r.at ((and_parts (int_le a r.at) (int_lt r.at b) within).0) in
+    let end = yes_lt r.at b ((and_parts (int_le a r.at) (int_lt r.at b) within).1) in
+    omega (arith, ints, start, end)
+
+pub day_order : (a b : ℤ) (rs part : List Reading) (o : Option Reading) → is_some o ≡ true → o ≡ find is_used part → part ≡ of_day a b rs → a ≤ℤ b
+day_order a b rs part None e f g = absurd (cc)
+day_order a b rs part (Some r) e f g = in_order a b rs r (sym (f ∙ ap (find is_used) g))

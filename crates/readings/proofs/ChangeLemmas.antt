@@ -1,4 +1,4 @@
--- Readings without those of a span, or with those of a span flagged anew: the part of a day, and when the used readings stay.
+-- Readings without those of a span, or with those of a span flagged anew: the part at some instants, and when the used readings stay.
 use Rattle.std.specs.Prelude.{◌≡◌, Bool, true, false, not, List, [], ◌∷◌, ℤ, filter, find, map, None, All, cond}
 use Rattle.std.proofs.Common.{refl, ap, sym, ◌∙◌, subst}
 use Rattle.std.proofs.lemmas.List.Elements.{All-head, All-tail, All-weaker, All-filter, filter_passes}
@@ -8,7 +8,6 @@ use Rattle.fixed_units.specs.declared.readings.Flag.TheVariants.{Usable, Erroneo
 use Rattle.rising.proofs.Selecting.{filter_all, filter_none, none_found}
 use Rattle.rising.proofs.Placing.{filter_rises}
 use Rattle.readings.specs.Readings.{IsRising, instant_of, is_used, is_within, in_span, without_span, flagged_where, with_flag}
-use Rattle.readings.specs.Window.{is_of_day, of_day}
 use Rattle.readings.proofs.Selecting.{find_none, none_kept}
 use Rattle.readings.proofs.Standing.{is_at, here, all_here}
 use Rattle.readings.proofs.UnionLemmas.{filters_swap}
@@ -20,8 +19,9 @@ outside from to r = not (is_within from to r)
 pub without_rises : (from to : ℤ) (rs : List Reading) → IsRising rs → IsRising (without_span from to rs)
 without_rises from to rs h = filter_rises instant_of (outside from to) rs h
 
-pub day_without : (a b from to : ℤ) (rs : List Reading) → of_day a b (without_span from to rs) ≡ without_span from to (of_day a b rs)
-day_without a b from to rs = filters_swap (is_of_day a b) (outside from to) rs
+pub part_without : (passes : ℤ → Bool) (from to : ℤ) (rs : List Reading)
+    → filter (λ r. passes r.at) (without_span from to rs) ≡ without_span from to (filter (λ r. passes r.at) rs)
+part_without passes from to rs = filters_swap (λ r. passes r.at) (outside from to) rs
 
 not_true : (b : Bool) → not b ≡ true → b ≡ false
 not_true true e = absurd (cc)
@@ -65,8 +65,9 @@ filter_map_swap p g h (x ∷ xs) = filter_map_step p g x (p x) (filter p (map g 
 abbrev flagged : ℤ → ℤ → Flag → Reading → Reading
 flagged from to flag r = flagged_where (is_within from to r) flag r
 
-pub day_flagged : (a b from to : ℤ) (flag : Flag) (rs : List Reading) → of_day a b (with_flag from to flag rs) ≡ with_flag from to flag (of_day a b rs)
-day_flagged a b from to flag rs = filter_map_swap (is_of_day a b) (flagged from to flag) (λ r. refl) rs
+pub part_flagged : (passes : ℤ → Bool) (from to : ℤ) (flag : Flag) (rs : List Reading)
+    → filter (λ r. passes r.at) (with_flag from to flag rs) ≡ with_flag from to flag (filter (λ r. passes r.at) rs)
+part_flagged passes from to flag rs = filter_map_swap (λ r. passes r.at) (flagged from to flag) (λ r. refl) rs
 
 -- where each of the span has the flag already, nothing changes
 flag_kept : (b : Bool) (flag : Flag) (r : Reading) → (b ≡ true → r.flag ≡ flag) → flagged_where b flag r ≡ r

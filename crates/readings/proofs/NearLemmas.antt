@@ -104,12 +104,23 @@ lead_back a gap rs h =
     ∙ first_leads a gap (find is_used (reverse (from_instant n bs))) (find is_used (reverse (before_instant n bs))) far
     ∙ close
 
+pub from_before : (n a : ℤ) (rs : List Reading) → from_instant n (before_instant a rs) ≡ of_day n a rs
+from_before n a rs =
+    filter_both (λ r. int_lt r.at a) (λ r. int_le n r.at) rs ∙ filter_agree (λ r. int_lt r.at a && int_le n r.at) (is_of_day n a) (λ r. swap_of_day n a r) rs
+
+pub before_from : (n b : ℤ) (rs : List Reading) → before_instant n (from_instant b rs) ≡ of_day b n rs
+before_from n b rs = filter_both (λ r. int_le b r.at) (λ r. int_lt r.at n) rs
+
+both_from : (a b : ℤ) (r : Reading) → a ≤ℤ b → (int_le a r.at && int_le b r.at) ≡ int_le b r.at
+both_from a b r l = grind (arith, ints)
+
+pub from_from : (a b : ℤ) (rs : List Reading) → a ≤ℤ b → from_instant b (from_instant a rs) ≡ from_instant b rs
+from_from a b rs l =
+    filter_both (λ r. int_le a r.at) (λ r. int_le b r.at) rs ∙ filter_agree (λ r. int_le a r.at && int_le b r.at) (λ r. int_le b r.at) (λ r. both_from a b r l) rs
+
 pub lead_near : (a gap : ℤ) (rs : List Reading) → IsRising rs → neighbour_before a gap rs ≡ find is_used (reverse (of_day (a -ℤ gap) a rs))
 lead_near a gap rs h =
-    let n = a -ℤ gap in
-    let part : from_instant n (before_instant a rs) ≡ of_day n a rs =
-    filter_both (λ r. int_lt r.at a) (λ r. int_le n r.at) rs ∙ filter_agree (λ r. int_lt r.at a && int_le n r.at) (is_of_day n a) (λ r. swap_of_day n a r) rs in
-    lead_back a gap rs h ∙ ap (λ (l : List Reading). find is_used (reverse l)) part
+    lead_back a gap rs h ∙ ap (λ (l : List Reading). find is_used (reverse l)) (from_before (a -ℤ gap) a rs)
 
 pub follow_front : (b gap : ℤ) (rs : List Reading) → IsRising rs → neighbour_after b gap rs ≡ find is_used (before_instant ((b +ℤ gap) +ℤ pos 1) (from_instant b rs))
 follow_front b gap rs h =
@@ -131,7 +142,7 @@ follow_front b gap rs h =
 
 pub follow_near : (b gap : ℤ) (rs : List Reading) → IsRising rs → neighbour_after b gap rs ≡ find is_used (of_day b ((b +ℤ gap) +ℤ pos 1) rs)
 follow_near b gap rs h =
-    follow_front b gap rs h ∙ ap (find is_used) (filter_both (λ r. int_le b r.at) (λ r. int_lt r.at ((b +ℤ gap) +ℤ pos 1)) rs)
+    follow_front b gap rs h ∙ ap (find is_used) (before_from ((b +ℤ gap) +ℤ pos 1) b rs)
 
 -- the neighbours as the ends of the used readings within the gap
 pub lead_inner : (a gap : ℤ) (rs : List Reading) → IsRising rs → neighbour_before a gap rs ≡ final (inner (a -ℤ gap) a rs)

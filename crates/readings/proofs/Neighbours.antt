@@ -1,5 +1,5 @@
 -- The neighbours of a day are the same in two lists exactly where these have the same used readings from the one before on, and up to the one after.
-use Rattle.std.specs.Prelude.{◌≡◌, Bool, true, false, ◌&&◌, List, [], ◌∷◌, ℤ, pos, ◌<ℤ◌, ◌≤ℤ◌, ◌+ℤ◌, ◌-ℤ◌, int_lt, int_le, find, reverse, Option, Some, None, All}
+use Rattle.std.specs.Prelude.{◌≡◌, Bool, true, false, ◌&&◌, List, [], ◌∷◌, ℤ, pos, ◌<ℤ◌, ◌≤ℤ◌, ◌+ℤ◌, ◌-ℤ◌, int_lt, int_le, reverse, Option, Some, None, All}
 use Rattle.std.specs.Option.{option_or}
 use Rattle.std.proofs.Common.{arith, refl, ap, sym, ◌∙◌, subst}
 use Rattle.std.proofs.lemmas.Int.{ints}
@@ -11,11 +11,11 @@ use Rattle.rising.proofs.Parting.{IsAfter, yes_lt, yes_le}
 use Rattle.rising.proofs.Placing.{IsBefore, IsFrom, filter_rises}
 use Rattle.rising.proofs.Splitting.{rest_is_later}
 use Rattle.readings.specs.Readings.{IsRising, instant_of, is_used}
-use Rattle.readings.specs.Window.{is_of_day, of_day, inner, neighbour_before, neighbour_after}
+use Rattle.readings.specs.Window.{is_of_day, inner, neighbour_before, neighbour_after}
 use Rattle.readings.specs.Reach.{lead_from, follow_until}
 use Rattle.readings.proofs.Selecting.{find_kept}
 use Rattle.readings.proofs.WindowParts.{is_inner, both_true}
-use Rattle.readings.proofs.NearLemmas.{inner_split, final, initial, final_append, initial_append, lead_near, follow_near, lead_inner, follow_inner}
+use Rattle.readings.proofs.NearLemmas.{inner_split, final, initial, final_append, initial_append, lead_inner, follow_inner}
 
 -- where the used readings of a part stand
 and_first : (x y : Bool) → (x && y) ≡ true → x ≡ true
@@ -181,12 +181,3 @@ pub follow_stayed : (b gap : ℤ) (rs ss : List Reading) → IsRising rs → IsR
     → inner b (follow_until b gap (neighbour_after b gap rs)) rs ≡ inner b (follow_until b gap (neighbour_after b gap rs)) ss
 follow_stayed b gap rs ss h k same =
     follow_stayed_by ((b +ℤ gap) +ℤ pos 1) b gap rs ss (neighbour_after b gap rs) h k refl (sym (follow_inner b gap rs h)) (sym (follow_inner b gap ss k) ∙ sym same)
-
--- what a look for the neighbours within the gap has found tells how far the readings bear on the window
-pub lead_told : (a gap n : ℤ) (rs : List Reading) (o : Option Reading) → IsRising rs → o ≡ find is_used (reverse (of_day (a -ℤ gap) a rs)) → n ≡ lead_from a gap o
-    → n ≡ lead_from a gap (neighbour_before a gap rs)
-lead_told a gap n rs o h e f = f ∙ ap (lead_from a gap) (e ∙ sym (lead_near a gap rs h))
-
-pub follow_told : (b gap n : ℤ) (rs : List Reading) (o : Option Reading) → IsRising rs → o ≡ find is_used (of_day b ((b +ℤ gap) +ℤ pos 1) rs) → n ≡ follow_until b gap o
-    → n ≡ follow_until b gap (neighbour_after b gap rs)
-follow_told b gap n rs o h e f = f ∙ ap (follow_until b gap) (e ∙ sym (follow_near b gap rs h))

@@ -9,21 +9,17 @@ use Rattle.std.proofs.lemmas.Option.{get_or_from_slice_get}
 use Rattle.std.proofs.lemmas.List.{length-take-le, get_or_default, take-append-drop, drop-append-le, append-nil}
 use Rattle.std.proofs.lemmas.List.Elements.{filter-append, All-weaker, All-drop, All-head, All-tail}
 use Rattle.std.proofs.lemmas.List.Filters.{length-filter_both}
-use Rattle.rising.proofs.Selecting.{filter_all, AllPairs-back}
+use Rattle.rising.proofs.Selecting.{AllPairs-back}
 use Rattle.rising.proofs.Parting.{IsAfter, lt_yes, le_yes}
 use Rattle.rising.proofs.Placing.{IsBefore, before_is_before, from_is_from, write_is_put, at_filter, at_put, at_put_other, none_stands, put_rises, IsTold, told, told_none}
 use Rattle.rising.proofs.Splitting.{none_before, rest_rises, rest_is_later, whole}
 use Rattle.fixed_units.specs.declared.readings.Reading.{Reading}
 use Rattle.readings.specs.Readings.{IsRising, instant_of, before_instant, from_instant, after_instant, at_instant, put, put_all}
-use Rattle.readings.proofs.HalvesLemmas.{cut, front_of, back_of}
+use Rattle.readings.proofs.HalvesLemmas.{all_before, cut, front_of, back_of}
 
 -- a part has no more readings than the whole
 pub fewer : (p : Reading → Bool) (rs : List Reading) → length (filter p rs) ≤ length rs
 fewer p rs = omega (arith, length-filter_both p (λ r. not (p r)) (λ r. refl) rs)
-
-pub all_before : (at : ℤ) (rs : List Reading) → All (IsBefore instant_of at) rs → before_instant at rs ≡ rs
-all_before at rs h =
-    filter_all (λ r. int_lt r.at at) rs (All-weaker (IsBefore instant_of at) (λ r. int_lt r.at at ≡ true) (λ r k. lt_yes r.at at k) rs h)
 
 -- the place of an instant among the readings from an earlier place on tells its place among all
 place_behind : (at : ℤ) (rs : List Reading) (from k : ℕ) → IsRising rs → from ≤ length (before_instant at rs) → k ≤ length (drop from rs)
@@ -163,11 +159,15 @@ all_within at rs = fewer (λ r. int_lt r.at at) rs
 pub drop_rises : (i : ℕ) (rs : List Reading) → IsRising rs → IsRising (drop i rs)
 drop_rises i rs h = AllPairs-back (λ r s. r.at <ℤ s.at) (take i rs) (drop i rs) (subst IsRising (sym (take-append-drop i rs)) h)
 
-pub none_told : (o : Option Reading) (b : Bool) → is_some o ≡ not b → b ≡ is_none o
-none_told None true h = refl
-none_told None false h = absurd (cc)
-none_told (Some r) true h = absurd (cc)
-none_told (Some r) false h = refl
+pub none_told : (o : Option Reading) (b : Bool) → b ≡ is_some o → is_none o ≡ not b
+none_told None b e = ap not (sym e)
+none_told (Some r) b e = ap not (sym e)
+
+-- what stands at an instant stands among those from it on
+pub found_behind : (n : ℤ) (xs ys : List Reading) → ys ≡ from_instant n xs → at_instant n ys ≡ at_instant n xs
+found_behind n xs ys e =
+    ap (at_instant n) e
+    ∙ at_filter instant_of n (λ x. int_le n x.at) (λ x f. le_yes n x.at (let at : x.at ≡ n = (Decides-int_eq x.at n).0 f in omega (arith, ints, at))) xs
 
 pub put_all_rises : (ls rs : List Reading) → IsRising rs → IsRising (put_all ls rs)
 put_all_rises [] rs h = h

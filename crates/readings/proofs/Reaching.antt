@@ -1,8 +1,8 @@
 -- What a walk from an end of rising readings passes until it comes to one too far.
-use Rattle.std.specs.Prelude.{◌≡◌, Bool, true, false, List, [], ◌∷◌, ◌++◌, ℤ, reverse, int_lt, int_le, All}
+use Rattle.std.specs.Prelude.{◌≡◌, Bool, true, false, List, [], ◌∷◌, ◌++◌, ℤ, ℕ, ◌-◌, take, drop, length, reverse, int_lt, int_le, All}
 use Rattle.std.specs.List.{take_while}
-use Rattle.std.proofs.Common.{refl, ap, ◌∙◌}
-use Rattle.std.proofs.lemmas.List.{reverse-append}
+use Rattle.std.proofs.Common.{arith, refl, ap, sym, ◌∙◌, length-append}
+use Rattle.std.proofs.lemmas.List.{reverse-append, length-reverse}
 use Rattle.std.proofs.lemmas.List.Elements.{All-head, All-tail, All-weaker}
 use Rattle.std.proofs.lemmas.List.Sums.{take_while-cons}
 use Rattle.fixed_units.specs.declared.readings.Reading.{Reading}
@@ -10,7 +10,7 @@ use Rattle.rising.proofs.Parting.{lt_yes, lt_no, le_yes, le_no}
 use Rattle.rising.proofs.Placing.{IsBefore, IsFrom, before_is_before, from_is_from}
 use Rattle.rising.proofs.Selecting.{All-reverse}
 use Rattle.readings.specs.Readings.{IsRising, instant_of, before_instant, from_instant}
-use Rattle.readings.proofs.HalvesLemmas.{cut}
+use Rattle.readings.proofs.HalvesLemmas.{cut, front_of, back_of}
 
 -- the walk ends where the readings that pass do
 pub walked : (p : Reading → Bool) (xs ys : List Reading) → All (λ r. p r ≡ true) xs → All (λ r. p r ≡ false) ys → take_while p (xs ++ ys) ≡ xs
@@ -38,3 +38,12 @@ walked_on n rs h =
     ∙ walked (λ r. int_lt r.at n) (before_instant n rs) (from_instant n rs)
     (All-weaker (IsBefore instant_of n) (λ r. int_lt r.at n ≡ true) (λ r k. lt_yes r.at n k) (before_instant n rs) (before_is_before instant_of n rs))
     (All-weaker (IsFrom instant_of n) (λ r. int_lt r.at n ≡ false) (λ r k. lt_no r.at n k) (from_instant n rs) (from_is_from instant_of n rs))
+
+-- how many readings a walk passes tells where it ended
+pub tail_is : (n : ℤ) (rs : List Reading) (k : ℕ) → IsRising rs → k ≡ length (take_while (λ r. int_le n r.at) (reverse rs)) → drop (length rs - k) rs ≡ from_instant n rs
+tail_is n rs k h e =
+    let count : k ≡ length (from_instant n rs) = e ∙ ap length (walked_back n rs h) ∙ length-reverse (from_instant n rs) in
+    back_of n rs (length rs - k) h (omega (arith, count, ap length (cut n rs h), length-append (before_instant n rs) (from_instant n rs)))
+
+pub head_is : (n : ℤ) (rs : List Reading) (k : ℕ) → IsRising rs → k ≡ length (take_while (λ r. int_lt r.at n) rs) → take k rs ≡ before_instant n rs
+head_is n rs k h e = front_of n rs k h (sym (e ∙ ap length (walked_on n rs h)))

@@ -29,6 +29,12 @@ cut_to at (r ∷ rs) h =
     let b : int_le r.at at ≡ true = le_yes r.at at l in
     rw (a, b) (ap (λ k. r ∷ k) (cut_to at rs (rest_rises instant_of r rs h))))
 
+pub front_to : (at : ℤ) (rs : List Reading) (n : ℕ) → IsRising rs → length (up_to instant_of at rs) ≡ n → take n rs ≡ up_to instant_of at rs
+front_to at rs n h e = ap (take n) (cut_to at rs h) ∙ take_at (up_to instant_of at rs) (after_instant at rs) n e
+
+pub back_to : (at : ℤ) (rs : List Reading) (n : ℕ) → IsRising rs → length (up_to instant_of at rs) ≡ n → drop n rs ≡ after_instant at rs
+back_to at rs n h e = ap (drop n) (cut_to at rs h) ∙ drop_at (up_to instant_of at rs) (after_instant at rs) n e
+
 -- those after a span
 abbrev pub behind_span : ℤ → ℤ → List Reading → List Reading
 behind_span from to rs = after_instant to (from_instant from rs)

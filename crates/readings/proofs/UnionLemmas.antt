@@ -1,5 +1,5 @@
 -- Readings that are put in bulk: what stands at an instant then, what a part of the list becomes, and when the used readings stay.
-use Rattle.std.specs.Prelude.{◌≡◌, ◌≢◌, Bool, true, false, ◌&&◌, List, [], ◌∷◌, ◌++◌, ℤ, ◌<ℤ◌, int_lt, int_le, filter, option_to_list, All, ◌⊎◌, cond}
+use Rattle.std.specs.Prelude.{◌≡◌, ◌≢◌, Bool, true, false, ◌&&◌, List, [], ◌∷◌, ◌++◌, ℤ, ◌<ℤ◌, int_lt, filter, option_to_list, All, ◌⊎◌, cond}
 use Rattle.std.proofs.Common.{arith, refl, ap, sym, ◌∙◌, subst, inl, inr}
 use Rattle.std.proofs.lemmas.Int.{ints}
 use Rattle.std.proofs.lemmas.List.Elements.{All-head, All-tail, All-weaker, filter-append, filter_agree}
@@ -9,7 +9,6 @@ use Rattle.rising.proofs.Parting.{after_is_after}
 use Rattle.rising.proofs.Placing.{before_is_before, at_put_other}
 use Rattle.rising.proofs.Splitting.{compared, whole, at_is_at, rest_rises, rest_is_later}
 use Rattle.readings.specs.Readings.{IsRising, instant_of, before_instant, after_instant, at_instant, put, put_all, is_used}
-use Rattle.readings.specs.Window.{is_of_day, of_day}
 use Rattle.readings.proofs.WindowLemmas.{put_rises}
 use Rattle.readings.proofs.WindowParts.{swapped}
 use Rattle.readings.proofs.Standing.{is_at, here, here_later, here_earlier, here_first, here_other, here_one, all_here, at_here, at_no}
@@ -101,21 +100,20 @@ here_put_all n [] rs h k = refl
 here_put_all n (r ∷ list) rs h k =
     here_put_step n r list rs h k (here_put_all n list (put r rs) (rest_rises instant_of r list h) (put_rises r rs k)) (compared r.at n)
 
--- of a part from an instant on and before another: the part of the list put into the part of the readings
-day_out : (a b : ℤ) (r s : Reading) → is_of_day a b r ≡ false → s.at ≡ r.at → is_of_day a b s ≡ false
-day_out a b r s d e = ap (λ (n : ℤ). int_le a n && int_lt n b) e ∙ d
+-- of the readings at some instants: those of the list at such instants put among them
+put_step : (passes : ℤ → Bool) (r : Reading) (list rs : List Reading) (c : Bool) → passes r.at ≡ c → IsRising rs
+    → filter (λ s. passes s.at) (put_all list (put r rs)) ≡ put_all (filter (λ s. passes s.at) list) (filter (λ s. passes s.at) (put r rs))
+    → filter (λ s. passes s.at) (put_all list (put r rs))
+    ≡ put_all (cond c (r ∷ filter (λ s. passes s.at) list) (filter (λ s. passes s.at) list)) (filter (λ s. passes s.at) rs)
+put_step passes r list rs true d h same = same ∙ ap (put_all (filter (λ s. passes s.at) list)) (put_in (λ s. passes s.at) r rs d)
+put_step passes r list rs false d h same =
+    same ∙ ap (put_all (filter (λ s. passes s.at) list)) (put_out (λ s. passes s.at) r rs h (λ s e. ap passes e ∙ d))
 
-day_step : (a b : ℤ) (r : Reading) (list rs : List Reading) (c : Bool) → is_of_day a b r ≡ c → IsRising rs
-    → of_day a b (put_all list (put r rs)) ≡ put_all (of_day a b list) (of_day a b (put r rs))
-    → of_day a b (put_all list (put r rs)) ≡ put_all (cond c (r ∷ of_day a b list) (of_day a b list)) (of_day a b rs)
-day_step a b r list rs true d h same = same ∙ ap (put_all (of_day a b list)) (put_in (is_of_day a b) r rs d)
-day_step a b r list rs false d h same =
-    same ∙ ap (put_all (of_day a b list)) (put_out (is_of_day a b) r rs h (λ s e. day_out a b r s d e))
-
-pub day_put_all : (a b : ℤ) (list rs : List Reading) → IsRising rs → of_day a b (put_all list rs) ≡ put_all (of_day a b list) (of_day a b rs)
-day_put_all a b [] rs h = refl
-day_put_all a b (r ∷ list) rs h =
-    day_step a b r list rs (is_of_day a b r) refl h (day_put_all a b list (put r rs) (put_rises r rs h))
+pub part_put_all : (passes : ℤ → Bool) (list rs : List Reading) → IsRising rs
+    → filter (λ r. passes r.at) (put_all list rs) ≡ put_all (filter (λ r. passes r.at) list) (filter (λ r. passes r.at) rs)
+part_put_all passes [] rs h = refl
+part_put_all passes (r ∷ list) rs h =
+    put_step passes r list rs (passes r.at) refl h (part_put_all passes list (put r rs) (put_rises r rs h))
 
 -- a reading is used as the one at its instant is: both are not, or they are one
 abbrev pub IsUsedAlike : List Reading → Reading → Type 0

@@ -1,16 +1,20 @@
 //! The changes of a station's readings, and which of them alter the window of a day.
 
-ghost use Rattle.std.specs.Prelude.{◌≡◌, ◌*◌, ◌∷◌, [], not, pos, filter, option_to_list};
+ghost use Rattle.std.specs.Prelude.{◌≡◌, ◌*◌, ◌∷◌, [], not, pos, List, filter, option_to_list};
 ghost use Rattle.std.specs.List.{list_any};
-ghost use Rattle.readings.specs.Changes.{changed, IsRisingChange};
+ghost use Rattle.fixed_units.specs.declared.readings.Reading.{Reading};
+ghost use Rattle.readings.specs.Changes.{changed, changed_by, put_list, IsRisingChange};
 ghost use Rattle.readings.specs.Equality.{same_flag, same_readings};
 ghost use Rattle.readings.specs.Halves.{joined};
-ghost use Rattle.readings.specs.Readings.{IsRising, at_instant, is_used, put_all, with_flag, without_span};
-ghost use Rattle.readings.specs.Window.{inner, window};
+ghost use Rattle.readings.specs.Reach.{lead_used, follow_used};
+ghost use Rattle.readings.specs.Readings.{IsRising, before_instant, from_instant, at_instant, is_used, put_all, with_flag, without_span};
+ghost use Rattle.readings.specs.Window.{window};
 
 use crate::halves::Halves;
 use crate::lists::Readings;
-use crate::reach::{follow_until, lead_from, part, stretch};
+use crate::reach::{
+    follow_until, head, lead_from, neighbour_after, neighbour_before, split_at_key, tail,
+};
 use crate::used::is_usable;
 use fixed_units::{Flag, Reading, Second};
 
@@ -44,30 +48,76 @@ impl Readings {
         requires rising { IsRisingChange change.now }
         ensures { result ≡ not (same_readings (window a b (pos (60 * gap)) self.now.list) (window a b (pos (60 * gap)) (changed change.now self.now.list))) }
     {
-        let kept = self.halves();
-        let (start, end) = (a.get(), b.get());
-        if alters_used(&kept, change, start, end) {
+        let parts = self.halves().parts(a, b);
+        let (early, rest) = split_at_key(change.put_list(), a);
+        let (inner, late) = split_at_key(rest, b);
+        if alters_used(&parts.day, change, inner) {
             return true;
         }
-        if stretch(&kept, start, end).first_used().is_none() {
+        if parts.day.first_used().is_none() {
             return false;
         }
-        alters_used(&kept, change, lead_from(&kept, a, gap), start)
-            || alters_used(&kept, change, end, follow_until(&kept, b, gap))
+        alters_lead(&parts.before, change, early, a, gap)
+            || alters_follow(&parts.behind, change, late, b, gap)
     }
 }
 
-/// Whether a change alters the used readings from a number of seconds on and before another.
-fn alters_used(kept: &Halves<'_>, change: &Change<'_>, from: i64, end: i64) -> bool
-    requires kept { IsRising (joined kept.now) }
-    requires change { IsRisingChange change.now }
-    ensures { result ≡ not (same_readings (inner from end (joined kept.now)) (inner from end (changed change.now (joined kept.now)))) }
+impl<'a> Change<'a> {
+    /// What it puts.
+    fn put_list(&self) -> &'a [Reading]
+        ensures { result.now ≡ put_list self.now }
+    {
+        match self {
+            Change::Put(list) => list,
+            _ => &[],
+        }
+    }
+}
+
+/// Whether a change alters the used readings before a day that bear on its window; it puts these before the day, and `gap` is in
+/// minutes.
+fn alters_lead(
+    early: &Halves<'_>,
+    change: &Change<'_>,
+    put: &[Reading],
+    a: Second,
+    gap: u32,
+) -> bool
+    requires early { IsRising (joined early.now) }
+    requires put { IsRising put.now }
+    ensures { (readings list : List Reading) → IsRising readings → joined early.now ≡ before_instant a readings → put.now ≡ before_instant a list → result ≡ not (same_readings (lead_used a (pos (60 * gap)) readings readings) (lead_used a (pos (60 * gap)) readings (changed_by change.now list readings))) }
 {
-    let kept = stretch(kept, from, end);
+    let from = lead_from(neighbour_before(early, a, gap), a, gap);
+    alters_used(&early.tail(from), change, tail(put, from))
+}
+
+/// Whether a change alters the used readings behind a day that bear on its window; it puts these behind the day, and `gap` is in
+/// minutes.
+fn alters_follow(
+    late: &Halves<'_>,
+    change: &Change<'_>,
+    put: &[Reading],
+    b: Second,
+    gap: u32,
+) -> bool
+    requires late { IsRising (joined late.now) }
+    requires put { IsRising put.now }
+    ensures { (readings list : List Reading) → IsRising readings → joined late.now ≡ from_instant b readings → put.now ≡ from_instant b list → result ≡ not (same_readings (follow_used b (pos (60 * gap)) readings readings) (follow_used b (pos (60 * gap)) readings (changed_by change.now list readings))) }
+{
+    let until = follow_until(neighbour_after(late, b, gap), b, gap);
+    alters_used(&late.head(until), change, head(put, until))
+}
+
+/// Whether a change that puts these alters the used ones of some readings.
+fn alters_used(kept: &Halves<'_>, change: &Change<'_>, put: &[Reading]) -> bool
+    requires kept { IsRising (joined kept.now) }
+    requires put { IsRising put.now }
+    ensures { result ≡ not (same_readings (filter is_used (joined kept.now)) (filter is_used (changed_by change.now put.now (joined kept.now)))) }
+{
     match change {
-        Change::Put(list) => put_alters(&kept, part(list, from, end)),
-        Change::Drop { from, to } => drop_alters(&kept, *from, *to),
-        Change::Flag { from, to, flag } => flag_alters(&kept, *from, *to, *flag),
+        Change::Put(_) => put_alters(kept, put),
+        Change::Drop { from, to } => drop_alters(kept, *from, *to),
+        Change::Flag { from, to, flag } => flag_alters(kept, *from, *to, *flag),
     }
 }
 

@@ -1,11 +1,13 @@
 //! Readings that rise, lent in two slices, and what is found in them by binary search.
 
-ghost use Rattle.std.specs.Prelude.{◌≡◌, ◌≤◌, length, take, drop, find, reverse};
+ghost use Rattle.std.specs.Prelude.{◌≡◌, true, false, ◌≤◌, ◌<ℤ◌, ◌≤ℤ◌, length, take, drop, find, reverse, is_some, All};
 ghost use Rattle.rising.specs.Ends.{first, last};
+ghost use Rattle.rising.specs.Lists.{up_to};
 ghost use Rattle.readings.specs.Halves.{joined};
-ghost use Rattle.readings.specs.Readings.{IsRising, before_instant, from_instant, at_instant, in_span, is_used};
+ghost use Rattle.readings.specs.Readings.{IsRising, instant_of, before_instant, from_instant, after_instant, at_instant, in_span, is_used};
 ghost use Rattle.readings.specs.Window.{of_day};
 
+use crate::reach::{head, tail};
 use crate::used;
 use fixed_units::{Reading, Second};
 
@@ -16,6 +18,17 @@ pub struct Halves<'a> {
     pub left: &'a [Reading],
     /// Those after these.
     pub right: &'a [Reading],
+}
+
+/// Readings about a day.
+#[derive(Clone, Copy, Debug, Drop)]
+pub(crate) struct Parts<'a> {
+    /// Those before the day.
+    pub before: Halves<'a>,
+    /// Those of the day.
+    pub day: Halves<'a>,
+    /// Those behind it.
+    pub behind: Halves<'a>,
 }
 
 impl<'a> Halves<'a> {
@@ -40,14 +53,62 @@ impl<'a> Halves<'a> {
         self.right.last().or(self.left.last()).copied()
     }
 
-    /// How many readings stand before an instant.
+    /// Whether an instant lies no earlier than the right slice begins: then what stands about it stands there, else in the left one.
+    fn is_on_right(&self, at: Second) -> bool
+        requires { IsRising (joined self.now) }
+        ensures right { result ≡ true → All (λ r. r.at <ℤ at) self.now.left.now }
+        ensures left { result ≡ false → All (λ r. at <ℤ r.at) self.now.right.now }
+    {
+        match self.right.first() {
+            Some(reading) => reading.at.get() <= at.get(),
+            None => false,
+        }
+    }
+
+    /// How many readings stand before an instant: one binary search.
     pub(crate) fn count_before(&self, at: Second) -> usize
         requires { IsRising (joined self.now) }
         ensures within { result ≤ length (joined self.now) }
         ensures front { take result (joined self.now) ≡ before_instant at (joined self.now) }
         ensures back { drop result (joined self.now) ≡ from_instant at (joined self.now) }
     {
-        rising::count_before(self.left, at) + rising::count_before(self.right, at)
+        if self.is_on_right(at) {
+            self.left.len() + rising::count_before(self.right, at)
+        } else {
+            rising::count_before(self.left, at)
+        }
+    }
+
+    /// How many readings stand before an instant or at it: one binary search.
+    pub(crate) fn count_to(&self, at: Second) -> usize
+        requires { IsRising (joined self.now) }
+        ensures within { result ≤ length (joined self.now) }
+        ensures front { take result (joined self.now) ≡ up_to instant_of at (joined self.now) }
+        ensures back { drop result (joined self.now) ≡ after_instant at (joined self.now) }
+    {
+        if self.is_on_right(at) {
+            self.left.len() + rising::count_to(self.right, at)
+        } else {
+            rising::count_to(self.left, at)
+        }
+    }
+
+    /// So many of the first readings, and the others.
+    pub(crate) fn split_at(&self, place: usize) -> (Halves<'a>, Halves<'a>)
+        requires { place ≤ length (joined self.now) }
+        ensures front { joined result.0 ≡ take place (joined self.now) }
+        ensures back { joined result.1 ≡ drop place (joined self.now) }
+    {
+        let length = self.left.len();
+        let (left, behind) = self.left.split_at(place.min(length));
+        let (early, right) = self.right.split_at(place.saturating_sub(length));
+        (
+            Halves { left, right: early },
+            Halves {
+                left: behind,
+                right,
+            },
+        )
     }
 
     /// The readings before an instant, and those from it on.
@@ -56,15 +117,24 @@ impl<'a> Halves<'a> {
         ensures before { joined result.0 ≡ before_instant at (joined self.now) }
         ensures from { joined result.1 ≡ from_instant at (joined self.now) }
     {
-        let (left, right) = self.left.split_at(rising::count_before(self.left, at));
-        let (early, late) = self.right.split_at(rising::count_before(self.right, at));
-        (
-            Halves { left, right: early },
-            Halves {
-                left: right,
-                right: late,
-            },
-        )
+        self.split_at(self.count_before(at))
+    }
+
+    /// The readings about a day: the end is searched behind the start alone.
+    pub(crate) fn parts(&self, a: Second, b: Second) -> Parts<'a>
+        requires { IsRising (joined self.now) }
+        ensures before { joined result.before ≡ before_instant a (joined self.now) }
+        ensures day { joined result.day ≡ of_day a b (joined self.now) }
+        ensures behind { a ≤ℤ b → joined result.behind ≡ from_instant b (joined self.now) }
+        ensures rising { IsRising (joined result.before) × (IsRising (joined result.day) × IsRising (joined result.behind)) }
+    {
+        let (before, rest) = self.split_at_key(a);
+        let (day, behind) = rest.split_at_key(b);
+        Parts {
+            before,
+            day,
+            behind,
+        }
     }
 
     /// The readings from an instant on and before another: none where that one is no later.
@@ -72,10 +142,7 @@ impl<'a> Halves<'a> {
         requires { IsRising (joined self.now) }
         ensures { joined result ≡ of_day a b (joined self.now) }
     {
-        Halves {
-            left: part(self.left, a, b),
-            right: part(self.right, a, b),
-        }
+        self.parts(a, b).day
     }
 
     /// The readings from an instant to another, both included.
@@ -83,18 +150,55 @@ impl<'a> Halves<'a> {
         requires { IsRising (joined self.now) }
         ensures { joined result ≡ in_span from to (joined self.now) }
     {
-        Halves {
-            left: span(self.left, from, to),
-            right: span(self.right, from, to),
-        }
+        let (_early, rest) = self.split_at_key(from);
+        let (span, _late) = rest.split_at(rest.count_to(to));
+        span
     }
 
-    /// The reading at an instant, if there is one.
+    /// The reading at an instant, if there is one: one binary search.
     pub(crate) fn at(&self, at: Second) -> Option<Reading>
         requires { IsRising (joined self.now) }
         ensures { result ≡ at_instant at (joined self.now) }
     {
-        reading_at(self.left, at).or(reading_at(self.right, at))
+        if self.is_on_right(at) {
+            reading_at(self.right, at)
+        } else {
+            reading_at(self.left, at)
+        }
+    }
+
+    /// Whether one stands at an instant, where all stand from it on.
+    pub(crate) fn begins_at(&self, at: Second) -> bool
+        requires rising { IsRising (joined self.now) }
+        requires from { All (λ r. at ≤ℤ r.at) (joined self.now) }
+        ensures { result ≡ is_some (at_instant at (joined self.now)) }
+    {
+        match self.first() {
+            Some(reading) => reading.at == at,
+            None => false,
+        }
+    }
+
+    /// The readings from a number of seconds on, which may lie where no instant is: found by a walk from the last one.
+    pub(crate) fn tail(&self, number: i64) -> Halves<'a>
+        requires { IsRising (joined self.now) }
+        ensures { joined result ≡ from_instant number (joined self.now) }
+    {
+        Halves {
+            left: tail(self.left, number),
+            right: tail(self.right, number),
+        }
+    }
+
+    /// The readings before a number of seconds, which may lie where no instant is: found by a walk from the first one.
+    pub(crate) fn head(&self, number: i64) -> Halves<'a>
+        requires { IsRising (joined self.now) }
+        ensures { joined result ≡ before_instant number (joined self.now) }
+    {
+        Halves {
+            left: head(self.left, number),
+            right: head(self.right, number),
+        }
     }
 
     /// The last reading that is used.
@@ -138,26 +242,6 @@ impl<'a> Halves<'a> {
         };
         Some(reading)
     }
-}
-
-/// The readings of a slice from an instant on and before another.
-fn part(list: &[Reading], a: Second, b: Second) -> &[Reading]
-    requires { IsRising list.now }
-    ensures { result.now ≡ of_day a b list.now }
-{
-    let (_early, rest) = list.split_at(rising::count_before(list, a));
-    let (day, _late) = rest.split_at(rising::count_before(rest, b));
-    day
-}
-
-/// The readings of a slice from an instant to another, both included.
-fn span(list: &[Reading], from: Second, to: Second) -> &[Reading]
-    requires { IsRising list.now }
-    ensures { result.now ≡ in_span from to list.now }
-{
-    let (_early, rest) = list.split_at(rising::count_before(list, from));
-    let (span, _late) = rest.split_at(rising::count_to(rest, to));
-    span
 }
 
 /// The reading of a slice at an instant, if there is one.

@@ -162,7 +162,8 @@ impl Readings {
     {
         let all = self.halves();
         let first = all.count_before(from);
-        (first, first + all.span(from, to).len())
+        let (_early, rest) = all.split_at(first);
+        (first, first + rest.count_to(to))
     }
 
     /// How many readings stand from an instant to another, both included.
@@ -208,7 +209,7 @@ impl Readings {
         self.between(a, b).first_used().is_some()
     }
 
-    /// How many of these readings stand at instants of no reading. They rise by instant.
+    /// How many of these readings stand at instants of no reading. They rise by instant, and each is searched behind the one before.
     pub fn count_new(&self, list: &[Reading]) -> usize
         requires { IsRising list.now }
         ensures { length (put_all list.now self.now.list) ≡ length self.now.list + result }
@@ -216,10 +217,10 @@ impl Readings {
         let mut rest = self.halves();
         let mut count = 0;
         for reading in list {
-            if rest.at(reading.at).is_none() {
+            (_, rest) = rest.split_at_key(reading.at);
+            if !rest.begins_at(reading.at) {
                 count += 1;
             }
-            (_, rest) = rest.split_at_key(reading.at);
         }
         count
     }

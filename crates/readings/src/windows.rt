@@ -7,7 +7,7 @@ ghost use Rattle.readings.specs.Window.{window, of_day, window_before, window_af
 
 use crate::halves::Halves;
 use crate::lists::Readings;
-use crate::reach::{reach_before, reach_behind};
+use crate::reach::{neighbour_after, neighbour_before};
 use crate::used::{count_used, is_usable};
 use fixed_units::{NoMemory, Reading, Second};
 use std::alloc::Global;
@@ -52,10 +52,9 @@ impl Readings {
         ensures inner { result.left.now ++ result.right.now ≡ of_day a b self.now.list }
         ensures after { result.after ≡ window_after a b (pos (60 * gap)) self.now.list }
     {
-        let all = self.halves();
-        let day = all.between(a, b);
-        let Halves { left, right } = day;
-        let Some(_) = day.first_used() else {
+        let parts = self.halves().parts(a, b);
+        let Halves { left, right } = parts.day;
+        let Some(_) = parts.day.first_used() else {
             return Window {
                 before: None,
                 left,
@@ -63,13 +62,11 @@ impl Readings {
                 after: None,
             };
         };
-        let (early, _) = all.split_at_key(a);
-        let (_, late) = all.split_at_key(b);
         Window {
-            before: early.last_used_from(reach_before(a, gap)),
+            before: neighbour_before(&parts.before, a, gap),
             left,
             right,
-            after: late.first_used_before(reach_behind(b, gap)),
+            after: neighbour_after(&parts.behind, b, gap),
         }
     }
 

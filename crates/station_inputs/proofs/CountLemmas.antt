@@ -7,7 +7,8 @@ use Rattle.curves.specs.declared.entries.Entry.{Entry}
 use Rattle.curves.specs.Entries as entries
 use Rattle.edits.specs.Lawful.{IsLawful, IsSetNumber}
 use Rattle.edits.specs.declared.content.What.{What}
-use Rattle.edits.specs.declared.content.What.TheVariants.{AddStation, SetStation, PutReadings, DropReadings, FlagReadings, DropCorrection, DropShift, DropPeriod, PutEstimate, DropEstimate, DropMeasurement}
+use Rattle.edits.specs.declared.decisions.Decision.{Decision}
+use Rattle.edits.specs.declared.content.What.TheVariants.{AddStation, SetStation, PutReadings, DropReadings, FlagReadings, DropCorrection, DropShift, DropPeriod, PutEstimate, DropEstimate, DropMeasurement, Review, Decide}
 use Rattle.edits.specs.declared.estimates.Estimate.{Estimate}
 use Rattle.edits.specs.declared.measurements.Measurement.{Measurement}
 use Rattle.fixed_units.specs.Quantities.{IsStamp}
@@ -197,7 +198,9 @@ RaisesNone what =
     ⊎ (((from : ℤ) × (what ≡ DropPeriod from))
     ⊎ (((estimate : Estimate) × (what ≡ PutEstimate estimate))
     ⊎ (((day : ℤ) × (what ≡ DropEstimate day))
-    ⊎ ((number : ℕ) × (what ≡ DropMeasurement number)))))))))))
+    ⊎ (((number : ℕ) × (what ≡ DropMeasurement number))
+    ⊎ (((from : ℤ) × (to : ℤ) × (what ≡ Review from to))
+    ⊎ ((from : ℤ) × (to : ℤ) × (decision : Decision) × (what ≡ Decide from to decision)))))))))))))
 
 told_at : (s : StationRecord) (what other : What) → what ≡ other → passed_count s (station_after other s) ≡ None → None ≡ passed_count s (station_after what s)
 told_at s what other e h = sym (ap (λ (w : What). passed_count s (station_after w s)) e ∙ h)
@@ -215,4 +218,6 @@ none_raised s what k l (inr (inr (inr (inr (inr (inr (inl p))))))) = told_at s w
 none_raised s what k l (inr (inr (inr (inr (inr (inr (inr (inl p)))))))) = told_at s what (DropPeriod p.0) p.1 (no_period_count s p.0 k)
 none_raised s what k l (inr (inr (inr (inr (inr (inr (inr (inr (inl p))))))))) = told_at s what (PutEstimate p.0) p.1 (same_count s)
 none_raised s what k l (inr (inr (inr (inr (inr (inr (inr (inr (inr (inl p)))))))))) = told_at s what (DropEstimate p.0) p.1 (same_count s)
-none_raised s what k l (inr (inr (inr (inr (inr (inr (inr (inr (inr (inr p)))))))))) = told_at s what (DropMeasurement p.0) p.1 (no_measurement_count s p.0 k)
+none_raised s what k l (inr (inr (inr (inr (inr (inr (inr (inr (inr (inr (inl p))))))))))) = told_at s what (DropMeasurement p.0) p.1 (no_measurement_count s p.0 k)
+none_raised s what k l (inr (inr (inr (inr (inr (inr (inr (inr (inr (inr (inr (inl p)))))))))))) = told_at s what (Review p.0 p.1) p.2 (same_count s)
+none_raised s what k l (inr (inr (inr (inr (inr (inr (inr (inr (inr (inr (inr (inr p)))))))))))) = told_at s what (Decide p.0 p.1 p.2) p.3 (same_count s)

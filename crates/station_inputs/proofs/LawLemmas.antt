@@ -3,7 +3,8 @@ use Rattle.std.specs.Prelude.{◌≡◌, ℕ, ◌⊎◌, List, Option, Some, Non
 use Rattle.std.proofs.Common.{refl, ap, sym, inl, inr, ◌∙◌}
 use Rattle.edits.specs.Lawful.{IsLawful}
 use Rattle.edits.specs.declared.content.What.{What}
-use Rattle.edits.specs.declared.content.What.TheVariants.{AddStation, SetStation, PutReadings, DropReadings, FlagReadings, PutCorrection, DropCorrection, PutShift, DropShift, AddRating, PutPeriod, DropPeriod, PutEstimate, DropEstimate, PutMeasurement, DropMeasurement}
+use Rattle.edits.specs.declared.decisions.Decision.{Decision}
+use Rattle.edits.specs.declared.content.What.TheVariants.{AddStation, SetStation, PutReadings, DropReadings, FlagReadings, PutCorrection, DropCorrection, PutShift, DropShift, AddRating, PutPeriod, DropPeriod, PutEstimate, DropEstimate, PutMeasurement, DropMeasurement, Review, Decide}
 use Rattle.curves.specs.Entries.{entry_of}
 use Rattle.edits.specs.declared.measurements.Measurement.{Measurement}
 use Rattle.rating_tables.specs.Table.{Row}
@@ -37,6 +38,8 @@ same_site (PutEstimate estimate) s = refl
 same_site (DropEstimate own) s = refl
 same_site (PutMeasurement measurement) s = refl
 same_site (DropMeasurement number) s = refl
+same_site (Review from to) s = refl
+same_site (Decide from to decision) s = refl
 
 pub same_days : (what : What) (s : StationRecord) (day : ℤ) → day_start (station_after what s) day ≡ day_start s day
 same_days (AddStation name zone gap stages discharges) s day = refl
@@ -55,6 +58,8 @@ same_days (PutEstimate estimate) s day = refl
 same_days (DropEstimate own) s day = refl
 same_days (PutMeasurement measurement) s day = refl
 same_days (DropMeasurement number) s day = refl
+same_days (Review from to) s day = refl
+same_days (Decide from to decision) s day = refl
 
 -- what nothing that stands in the way tells of the ratings
 pub is_free : (o : Option Numbered) → rating_obstacle (is_some o) ≡ None → o ≡ None
@@ -86,6 +91,8 @@ still_station (PutEstimate estimate) s k l e = estimate_put s estimate _ k l ref
 still_station (DropEstimate own) s k l e = estimate_dropped s own _ k refl
 still_station (PutMeasurement measurement) s k l e = measurement_put s measurement _ k l refl
 still_station (DropMeasurement number) s k l e = measurement_dropped s number _ k refl
+still_station (Review from to) s k l e = k
+still_station (Decide from to decision) s k l e = k
 
 -- the edits that change no inputs of a day are these
 abbrev pub ChangesNone : What → Type 0
@@ -93,7 +100,9 @@ ChangesNone what =
     ((name : List ℕ) × (zone : List ℕ) × (gap : ℕ) × (stages : List ℕ) × (discharges : List ℕ) × (what ≡ AddStation name zone gap stages discharges))
     ⊎ (((rating : ℕ) × (table : List Row) × (what ≡ AddRating rating table))
     ⊎ (((measurement : Measurement) × (what ≡ PutMeasurement measurement))
-    ⊎ ((number : ℕ) × (what ≡ DropMeasurement number))))
+    ⊎ (((number : ℕ) × (what ≡ DropMeasurement number))
+    ⊎ (((from : ℤ) × (to : ℤ) × (what ≡ Review from to))
+    ⊎ ((from : ℤ) × (to : ℤ) × (decision : Decision) × (what ≡ Decide from to decision))))))
 
 told_at : (s : StationRecord) (what other : What) (day : ℤ) → what ≡ other → true ≡ keeps_station_day s other day → true ≡ keeps_station_day s what day
 told_at s what other day e h = h ∙ ap (λ (w : What). keeps_station_day s w day) (sym e)
@@ -105,4 +114,6 @@ pub none_changed : (s : StationRecord) (what : What) (day : ℤ) → IsStation s
 none_changed s what day k (inl p) = told_at s what (AddStation p.0 p.1 p.2 p.3 p.4) day p.5 (same_day s day)
 none_changed s what day k (inr (inl p)) = told_at s what (AddRating p.0 p.1) day p.2 (rating_told s day (record { number = p.0; rows = p.1 }) k)
 none_changed s what day k (inr (inr (inl p))) = told_at s what (PutMeasurement p.0) day p.1 (same_day s day)
-none_changed s what day k (inr (inr (inr p))) = told_at s what (DropMeasurement p.0) day p.1 (same_day s day)
+none_changed s what day k (inr (inr (inr (inl p)))) = told_at s what (DropMeasurement p.0) day p.1 (same_day s day)
+none_changed s what day k (inr (inr (inr (inr (inl p))))) = told_at s what (Review p.0 p.1) day p.2 (same_day s day)
+none_changed s what day k (inr (inr (inr (inr (inr p))))) = told_at s what (Decide p.0 p.1 p.2) day p.3 (same_day s day)

@@ -2,7 +2,7 @@
 use Rattle.std.specs.Prelude.{Bool, is_some, Option, Some, None, option_map, if◌then◌else◌, ℤ}
 use Rattle.curves.specs.Entries.{stands_at}
 use Rattle.edits.specs.declared.content.What.{What}
-use Rattle.edits.specs.declared.content.What.TheVariants.{AddStation, SetStation, PutReadings, DropReadings, FlagReadings, PutCorrection, DropCorrection, PutShift, DropShift, AddRating, PutPeriod, DropPeriod, PutEstimate, DropEstimate, PutMeasurement, DropMeasurement}
+use Rattle.edits.specs.declared.content.What.TheVariants.{AddStation, SetStation, PutReadings, DropReadings, FlagReadings, PutCorrection, DropCorrection, PutShift, DropShift, AddRating, PutPeriod, DropPeriod, PutEstimate, DropEstimate, PutMeasurement, DropMeasurement, Review, Decide}
 use Rattle.ratings.specs.Numbered.{period_from, rating_of}
 use Rattle.ratings.specs.Periods.{overlap}
 use Rattle.readings.specs.Readings.{in_span}
@@ -43,3 +43,5 @@ obstacle s (PutEstimate estimate) = None
 obstacle s (DropEstimate day) = unless_there (is_some (estimate_of day s))
 obstacle s (PutMeasurement measurement) = None
 obstacle s (DropMeasurement number) = unless_there (is_some (measurement_of number s))
+obstacle s (Review from to) = None
+obstacle s (Decide from to decision) = None

@@ -1,7 +1,7 @@
 -- What is made ready for an edit of a station, so that its acceptance takes no memory.
 use Rattle.std.specs.Prelude.{◌≡◌, ℕ, ◌≤◌, ◌<◌, ⊤, List, length}
 use Rattle.edits.specs.declared.content.What.{What}
-use Rattle.edits.specs.declared.content.What.TheVariants.{AddStation, SetStation, PutReadings, DropReadings, FlagReadings, PutCorrection, DropCorrection, PutShift, DropShift, AddRating, PutPeriod, DropPeriod, PutEstimate, DropEstimate, PutMeasurement, DropMeasurement}
+use Rattle.edits.specs.declared.content.What.TheVariants.{AddStation, SetStation, PutReadings, DropReadings, FlagReadings, PutCorrection, DropCorrection, PutShift, DropShift, AddRating, PutPeriod, DropPeriod, PutEstimate, DropEstimate, PutMeasurement, DropMeasurement, Review, Decide}
 use Rattle.rating_tables.specs.Table.{Row}
 use Rattle.station_inputs.specs.KeptStation.{KeptStation}
 use Rattle.station_inputs.specs.Series.{room_in}
@@ -39,3 +39,5 @@ HasStationRoom kept staged (PutEstimate estimate) = 0 < kept.estimate_room
 HasStationRoom kept staged (DropEstimate day) = ⊤
 HasStationRoom kept staged (PutMeasurement measurement) = 0 < kept.measurement_room
 HasStationRoom kept staged (DropMeasurement number) = ⊤
+HasStationRoom kept staged (Review from to) = ⊤
+HasStationRoom kept staged (Decide from to decision) = ⊤

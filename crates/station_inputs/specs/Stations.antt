@@ -13,7 +13,7 @@ use Rattle.civil_days.specs.Starts.{day_start_of}
 use Rattle.day_inputs.specs.DayInputs.{day_inputs}
 use Rattle.day_inputs.specs.declared.day_inputs.DayInputs.{DayInputs}
 use Rattle.edits.specs.declared.content.What.{What}
-use Rattle.edits.specs.declared.content.What.TheVariants.{AddStation, SetStation, PutReadings, DropReadings, FlagReadings, PutCorrection, DropCorrection, PutShift, DropShift, AddRating, PutPeriod, DropPeriod, PutEstimate, DropEstimate, PutMeasurement, DropMeasurement}
+use Rattle.edits.specs.declared.content.What.TheVariants.{AddStation, SetStation, PutReadings, DropReadings, FlagReadings, PutCorrection, DropCorrection, PutShift, DropShift, AddRating, PutPeriod, DropPeriod, PutEstimate, DropEstimate, PutMeasurement, DropMeasurement, Review, Decide}
 use Rattle.edits.specs.declared.estimates.Estimate.{Estimate}
 use Rattle.edits.specs.declared.measurements.Measurement.{Measurement}
 use Rattle.ratings.specs.Numbered.{StationRatings, with_period, with_rating, without_period}
@@ -154,6 +154,8 @@ station_after (PutEstimate estimate) s = with_estimates (lists.put estimated_day
 station_after (DropEstimate day) s = with_estimates (lists.without estimated_day day) s
 station_after (PutMeasurement measurement) s = with_measurements (lists.put number_of measurement) s
 station_after (DropMeasurement number) s = with_measurements (lists.without number_of (pos number)) s
+station_after (Review from to) s = s
+station_after (Decide from to decision) s = s
 
 -- when a station's day begins
 abbrev pub day_start : StationRecord → ℤ → ℤ

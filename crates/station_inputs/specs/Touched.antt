@@ -9,7 +9,7 @@ use Rattle.curves.specs.Entries.{entry_after, entry_before}
 use Rattle.day_inputs.specs.declared.day_inputs.DayInputs.{DayInputs}
 use Rattle.day_inputs.specs.declared.day_inputs.DayInputs.TheVariants.{Empty, Day}
 use Rattle.edits.specs.declared.content.What.{What}
-use Rattle.edits.specs.declared.content.What.TheVariants.{AddStation, SetStation, PutReadings, DropReadings, FlagReadings, PutCorrection, DropCorrection, PutShift, DropShift, AddRating, PutPeriod, DropPeriod, PutEstimate, DropEstimate, PutMeasurement, DropMeasurement}
+use Rattle.edits.specs.declared.content.What.TheVariants.{AddStation, SetStation, PutReadings, DropReadings, FlagReadings, PutCorrection, DropCorrection, PutShift, DropShift, AddRating, PutPeriod, DropPeriod, PutEstimate, DropEstimate, PutMeasurement, DropMeasurement, Review, Decide}
 use Rattle.ratings.specs.Numbered.{period_from}
 use Rattle.readings.specs.Readings.{in_span, is_used}
 use Rattle.readings.specs.Window.{of_day}
@@ -103,3 +103,5 @@ touched_at s (PutEstimate estimate) = One estimate.day
 touched_at s (DropEstimate day) = One day
 touched_at s (PutMeasurement measurement) = Nothing
 touched_at s (DropMeasurement number) = Nothing
+touched_at s (Review from to) = Nothing
+touched_at s (Decide from to decision) = Nothing

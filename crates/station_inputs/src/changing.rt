@@ -45,7 +45,9 @@ impl Station {
             | What::DropShift { .. }
             | What::DropPeriod { .. }
             | What::DropEstimate { .. }
-            | What::DropMeasurement { .. } => {}
+            | What::DropMeasurement { .. }
+            | What::Review { .. }
+            | What::Decide { .. } => {}
         }
         Ok(Staged::Nothing)
     }
@@ -60,7 +62,7 @@ impl Station {
     {
         let _site = self.site();
         match what {
-            What::AddStation { .. } => {}
+            What::AddStation { .. } | What::Review { .. } | What::Decide { .. } => {}
             What::SetStation {
                 gap,
                 stage_array,

@@ -74,7 +74,9 @@ impl Station {
             What::AddStation { .. }
             | What::AddRating { .. }
             | What::PutMeasurement { .. }
-            | What::DropMeasurement { .. } => true,
+            | What::DropMeasurement { .. }
+            | What::Review { .. }
+            | What::Decide { .. } => true,
         }
     }
 }

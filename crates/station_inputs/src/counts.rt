@@ -75,7 +75,9 @@ impl Station {
             | What::DropPeriod { .. }
             | What::PutEstimate { .. }
             | What::DropEstimate { .. }
-            | What::DropMeasurement { .. } => None,
+            | What::DropMeasurement { .. }
+            | What::Review { .. }
+            | What::Decide { .. } => None,
         }
     }
 
@@ -105,7 +107,9 @@ impl Station {
             | What::PutCorrection { .. }
             | What::PutShift { .. }
             | What::PutEstimate { .. }
-            | What::PutMeasurement { .. } => None,
+            | What::PutMeasurement { .. }
+            | What::Review { .. }
+            | What::Decide { .. } => None,
         }
     }
 

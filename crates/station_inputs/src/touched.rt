@@ -63,7 +63,9 @@ impl Station {
             What::AddStation { .. }
             | What::AddRating { .. }
             | What::PutMeasurement { .. }
-            | What::DropMeasurement { .. } => Touched::Nothing,
+            | What::DropMeasurement { .. }
+            | What::Review { .. }
+            | What::Decide { .. } => Touched::Nothing,
         }
     }
 }

@@ -25,7 +25,7 @@ loop-reading-init c =
     let stages = sum-start day (neighbours (map stage_point units)) stage (ap (λ (s : Sum). s.twice) c.none-stage.ensures) (ap (λ (s : Sum). s.covered) c.none-stage.ensures) in
     let discharges = sum-start day (neighbours (map discharge_point units)) discharge (ap (λ (s : Sum). s.twice) c.none-discharge.ensures) (ap (λ (s : Sum). s.covered) c.none-discharge.ensures) in
     let counted = subst (λ (us : List Unit). AreCountsOfRest day us units c.none.result) (sym whole) (counts-start day units c.none.result c.none.ensures) in
-    let kept = subst (λ (us : List Unit). AreExtremesOfRest day us units c.none-2.result) (sym whole) (extremes-start day units c.none-2.result c.none-2.ensures) in
+    let kept = subst (λ (us : List Unit). AreExtremesOfRest day us units c.none-extremes.result) (sym whole) (extremes-start day units c.none-extremes.result c.none-extremes.ensures) in
     let one = c.add_unit-counts.ensures in
     record {
       rising = subst AreRising (sym whole) (units-rise day day.window c.requires.parts.rising);
@@ -35,7 +35,7 @@ loop-reading-init c =
       discharges = subst (λ (us : List Unit). IsSumOfRest day (neighbours (map discharge_point us)) (neighbours (map discharge_point units)) discharge) (sym whole) discharges;
       counted = counts-step day left (map (unit_of day) (drop 0 c.args.rest.now)) units c.none.result c.add_unit-counts.result counted
           (record { readings = one.readings; affected = one.affected; no_rating = one.no_rating; below = one.below; above = one.above });
-      extremes = extremes-step day left (map (unit_of day) (drop 0 c.args.rest.now)) units c.none-2.result c.add_extremes-extremes.result kept c.add_extremes-extremes.ensures;
+      extremes = extremes-step day left (map (unit_of day) (drop 0 c.args.rest.now)) units c.none-extremes.result c.add_extremes.new.extremes kept c.add_extremes.ensures;
       stage_fits = subst (IsSumWithin most_millionths most_millionths) (sym c.none-stage.ensures) (none-within most_millionths most_millionths 0 refl);
       discharge_fits = subst (IsSumWithin most_millionths most_millionths) (sym c.none-discharge.ensures) (none-within most_millionths most_millionths 0 refl);
       stage_within = subst (IsSumWithin most_corrected most_corrected) (sym c.none-stage.ensures) (none-within most_corrected most_corrected 0 refl);
@@ -166,7 +166,7 @@ loop-reading-preserved c =
           (c.add_pair-discharge.ensures.covered ∙ ap (λ p. c.loop-reading.discharge.covered + pair_seconds day p) discharge_pair);
       counted = counts-step day right behind (units_of day) c.loop-reading.counts c.add_unit-counts-in-loop-reading.result counted
           (record { readings = one.readings; affected = one.affected; no_rating = one.no_rating; below = one.below; above = one.above });
-      extremes = extremes-step day right behind (units_of day) c.loop-reading.extremes c.add_extremes-extremes-in-loop-reading.result kept c.add_extremes-extremes-in-loop-reading.ensures;
+      extremes = extremes-step day right behind (units_of day) c.loop-reading.extremes c.add_extremes-in-loop-reading.new.extremes kept c.add_extremes-in-loop-reading.ensures;
       stage_fits = c.add_pair-stage.ensures.fits;
       discharge_fits = c.add_pair-discharge.ensures.fits;
       stage_within = c.add_pair-stage.ensures.within most_corrected most_corrected

@@ -1,9 +1,10 @@
 -- By the ends of the window.
-use Rattle.std.specs.Prelude.{◌≡◌, Bool, false, not, ◌&&◌, Option, is_none, is_some, ℤ}
-use Rattle.std.proofs.Common.{ap, ◌∙◌}
+use Rattle.std.specs.Prelude.{◌≡◌, Bool, List, false, not, ◌&&◌, Option, is_none, is_some, ℤ}
+use Rattle.std.proofs.Common.{refl, ap, sym, ◌∙◌}
+use Rattle.curves.specs.declared.entries.Entry.{Entry}
 use Rattle.curves.specs.Series.{Contents}
 use Rattle.curves.specs.Corrections.{entries_of}
-use Rattle.day_inputs.specs.DayInputs.{bearing_on, window_ends}
+use Rattle.day_inputs.specs.DayInputs.{bearing_on, parts_on, window_ends}
 use Rattle.day_inputs.proofs.WindowEnds.{and_false, end_stamp, made}
 use Rattle.day_inputs.proofs.making.with_window.Goals.{else-is_none-via-then-is_none+else-is_none-2, else-is_none-via-else-is_none}
 use Rattle.day_inputs.proofs.making.with_window.Goals as goal
@@ -28,9 +29,40 @@ returns c =
       | else-is_none-via-else-is_none w ↦ ap (λ (b : Bool). b && is_none c.args.estimate) (is_told c.ends-span.result c.is_none.result c.is_none.ensures w.if-is_none.false)
     ] in
     let span = c.ends-span.result in
-    made c.args.settings.gap c.args.settings.stage_array c.args.settings.discharge_array c.args.from c.args.until (entries_of c.args.corrections.now)
-    c.args.shifts.now.series.entries c.args.ratings.now.ratings c.args.estimate c.args.window.items c.from_vec.result span c.in_ok-bearing_list.field-0
-    c.in_ok-bearing_list-2.field-0 c.in_ok-bearing_list-3.field-0 c.in_ok-bearing_list-4.field-0 c.in_ok-cut_parts.field-0
-    (c.ends-span.ensures ∙ ap window_ends w) some c.from_vec.ensures (c.in_ok-bearing_list.ensures ∙ on_set span c.set.ensures)
-    (c.in_ok-bearing_list-2.ensures ∙ on_set span c.set-2.ensures) (c.in_ok-bearing_list-3.ensures ∙ on_set span c.set-3.ensures)
-    (c.in_ok-bearing_list-4.ensures ∙ on_set span c.series.ensures) c.in_ok-cut_parts.ensures
+    let found : span ≡ window_ends c.args.window.items = c.ends-span.ensures ∙ ap window_ends w in
+    let corrections = entries_of c.args.corrections.now in
+    let shifts = c.args.shifts.now.series.entries in
+    let ratings = c.args.ratings.now.ratings in
+    let count = λ (e : List Entry). ap (λ (o : Option (ℤ × ℤ)). bearing_on o e) found in
+    made c.args.settings.gap c.args.settings.stage_array c.args.settings.discharge_array c.args.from c.args.until corrections shifts ratings c.args.estimate
+    c.args.window.items _ (ap (λ (o : Option (ℤ × ℤ)). is_none o && is_none c.args.estimate) (sym found) ∙ some) (
+      refl,
+      (
+        refl,
+        (
+          refl,
+          (
+            refl,
+            (
+              refl,
+              (
+                c.from_vec.ensures,
+                (
+                  c.in_ok-bearing_list.ensures ∙ on_set span c.set.ensures ∙ count corrections.first,
+                  (
+                    c.in_ok-bearing_list-2.ensures ∙ on_set span c.set-2.ensures ∙ count corrections.second,
+                    (
+                      c.in_ok-bearing_list-3.ensures ∙ on_set span c.set-3.ensures ∙ count corrections.third,
+                      (
+                        c.in_ok-bearing_list-4.ensures ∙ on_set span c.series.ensures ∙ count shifts,
+                        (c.in_ok-cut_parts.ensures ∙ ap (λ (o : Option (ℤ × ℤ)). parts_on o ratings) found, refl),
+                      ),
+                    ),
+                  ),
+                ),
+              ),
+            ),
+          ),
+        ),
+      ),
+    )

@@ -1,78 +1,108 @@
 -- The used readings of the day tell, and where it keeps one those as far as its neighbours do.
-use Rattle.std.specs.Prelude.{◌≡◌, ◌*◌, true, false, not, pos, List}
-use Rattle.std.proofs.Common.{arith, ap, sym, ◌∙◌, subst, w64, to_z, of_z}
-use Rattle.std.proofs.lemmas.Int.{to_z-of_z}
+use Rattle.std.specs.Prelude.{◌≡◌, ◌≤ℤ◌, ◌*◌, true, false, not, pos, List, int_lt, int_le}
+use Rattle.std.proofs.Common.{ap, sym, ◌∙◌, subst}
 use Rattle.fixed_units.specs.declared.readings.Reading.{Reading}
-use Rattle.readings.specs.Changes.{changed}
+use Rattle.rising.proofs.Placing.{filter_rises}
+use Rattle.readings.specs.Changes.{changed, put_list}
 use Rattle.readings.specs.Equality.{same_readings}
 use Rattle.readings.specs.Halves.{joined}
-use Rattle.readings.specs.Reach.{lead_from, follow_until}
-use Rattle.readings.specs.Window.{window, neighbour_before, neighbour_after}
-use Rattle.readings.proofs.Altering.{changed_rises, moved, same_stretch, unused_day, used_day}
+use Rattle.readings.specs.Readings.{IsRising, instant_of, before_instant, from_instant}
+use Rattle.readings.specs.Window.{of_day, window}
+use Rattle.readings.proofs.Altering.{changed_rises, list_rises, change_told, unused_day, used_day, day_order}
 use Rattle.readings.proofs.Comparing.{day_altered, day_unused, lead_altered, neighbours_told}
+use Rattle.readings.proofs.NearLemmas.{before_from, from_from}
 use Rattle.readings.proofs.lists.Readings.alters_window.Goals as goal
+
+pub split_at_key-requires-2 : goal.split_at_key-requires-2
+split_at_key-requires-2 c =
+    subst IsRising (sym (c.split_at_key.ensures.from ∙ ap (from_instant c.args.a) c.put_list.ensures))
+    (filter_rises instant_of (λ r. int_le c.args.a r.at) (put_list c.args.change.now) (list_rises c.args.change.now c.requires.rising))
+
+pub alters_used-requires-clause-put : goal.alters_used-requires-clause-put
+alters_used-requires-clause-put c =
+    subst IsRising (sym (c.split_at_key-2.ensures.before ∙ ap (before_instant c.args.b) (c.split_at_key.ensures.from ∙ ap (from_instant c.args.a) c.put_list.ensures)))
+    (filter_rises instant_of (λ r. int_lt r.at c.args.b) (from_instant c.args.a (put_list c.args.change.now))
+    (filter_rises instant_of (λ r. int_le c.args.a r.at) (put_list c.args.change.now) (list_rises c.args.change.now c.requires.rising)))
+
+pub alters_lead-requires-clause-put : goal.alters_lead-requires-clause-put
+alters_lead-requires-clause-put c =
+    subst IsRising (sym (c.split_at_key.ensures.before ∙ ap (before_instant c.args.a) c.put_list.ensures))
+    (filter_rises instant_of (λ r. int_lt r.at c.args.a) (put_list c.args.change.now) (list_rises c.args.change.now c.requires.rising))
+
+pub alters_follow-requires-clause-put : goal.alters_follow-requires-clause-put
+alters_follow-requires-clause-put c =
+    subst IsRising (sym (c.split_at_key-2.ensures.from ∙ ap (from_instant c.args.b) (c.split_at_key.ensures.from ∙ ap (from_instant c.args.a) c.put_list.ensures)))
+    (filter_rises instant_of (λ r. int_le c.args.b r.at) (from_instant c.args.a (put_list c.args.change.now))
+    (filter_rises instant_of (λ r. int_le c.args.a r.at) (put_list c.args.change.now) (list_rises c.args.change.now c.requires.rising)))
 
 pub returns-then-alters_used : goal.returns-then-alters_used
 returns-then-alters_used c =
-    let rs = joined c.halves-kept.result in
+    let rs = joined c.halves.result in
     let change = c.args.change.now in
+    let list = put_list change in
     let a = c.args.a in
     let b = c.args.b in
     let gap = pos (60 * c.args.gap) in
-    let start : to_z w64 (of_z w64 c.get-start.result) ≡ a = grind (arith, to_z-of_z) in
-    let end : to_z w64 (of_z w64 c.get-end.result) ≡ b = grind (arith, to_z-of_z) in
-    subst (λ (l : List Reading). true ≡ not (same_readings (window a b gap l) (window a b gap (changed change l)))) c.halves-kept.ensures.list
-    (day_altered a b gap rs (changed change rs) c.halves-kept.ensures.rising (changed_rises change rs c.requires.rising c.halves-kept.ensures.rising)
-    (moved a b _ _ rs (changed change rs) true start end (sym c.if-alters_used.true ∙ c.alters_used.ensures)))
+    let rising = c.halves.ensures.rising in
+    let rest : c.split_at_key.result.1.now ≡ from_instant a list = c.split_at_key.ensures.from ∙ ap (from_instant a) c.put_list.ensures in
+    let inner_list : c.split_at_key-2.result.0.now ≡ of_day a b list = c.split_at_key-2.ensures.before ∙ ap (before_instant b) rest ∙ before_from b a list in
+    subst (λ (l : List Reading). true ≡ not (same_readings (window a b gap l) (window a b gap (changed change l)))) c.halves.ensures.list
+    (day_altered a b gap rs (changed change rs) rising (changed_rises change rs c.requires.rising rising)
+    (change_told a b change list rs _ _ true rising c.parts-parts.ensures.day inner_list (sym c.if-alters_used.true ∙ c.alters_used.ensures)))
 
 pub returns-then-is_none : goal.returns-then-is_none
 returns-then-is_none c =
-    let rs = joined c.halves-kept.result in
+    let rs = joined c.halves.result in
     let change = c.args.change.now in
+    let list = put_list change in
     let a = c.args.a in
     let b = c.args.b in
     let gap = pos (60 * c.args.gap) in
-    let start : to_z w64 (of_z w64 c.get-start.result) ≡ a = grind (arith, to_z-of_z) in
-    let end : to_z w64 (of_z w64 c.get-end.result) ≡ b = grind (arith, to_z-of_z) in
-    subst (λ (l : List Reading). false ≡ not (same_readings (window a b gap l) (window a b gap (changed change l)))) c.halves-kept.ensures.list
+    let rising = c.halves.ensures.rising in
+    let rest : c.split_at_key.result.1.now ≡ from_instant a list = c.split_at_key.ensures.from ∙ ap (from_instant a) c.put_list.ensures in
+    let inner_list : c.split_at_key-2.result.0.now ≡ of_day a b list = c.split_at_key-2.ensures.before ∙ ap (before_instant b) rest ∙ before_from b a list in
+    subst (λ (l : List Reading). false ≡ not (same_readings (window a b gap l) (window a b gap (changed change l)))) c.halves.ensures.list
     (day_unused a b gap rs (changed change rs)
-    (moved a b _ _ rs (changed change rs) false start end (sym c.if-alters_used.false ∙ c.alters_used.ensures))
-    (unused_day a b rs (joined c.stretch.result) c.first_used.result (c.is_none.ensures ∙ ap not c.if-is_none.true) c.first_used.ensures
-    (same_stretch a b _ _ rs (joined c.stretch.result) start end c.stretch.ensures)))
+    (change_told a b change list rs _ _ false rising c.parts-parts.ensures.day inner_list (sym c.if-alters_used.false ∙ c.alters_used.ensures))
+    (unused_day a b rs (joined c.parts-parts.result.day) c.first_used.result (c.is_none.ensures ∙ ap not c.if-is_none.true) c.first_used.ensures c.parts-parts.ensures.day))
 
-pub returns-then-alters_used-2 : goal.returns-then-alters_used-2
-returns-then-alters_used-2 c =
-    let rs = joined c.halves-kept.result in
+pub returns-then-alters_lead : goal.returns-then-alters_lead
+returns-then-alters_lead c =
+    let rs = joined c.halves.result in
     let change = c.args.change.now in
+    let list = put_list change in
     let a = c.args.a in
     let b = c.args.b in
     let gap = pos (60 * c.args.gap) in
-    let start : to_z w64 (of_z w64 c.get-start.result) ≡ a = grind (arith, to_z-of_z) in
-    let end : to_z w64 (of_z w64 c.get-end.result) ≡ b = grind (arith, to_z-of_z) in
-    let reach : to_z w64 (of_z w64 c.lead_from.result) ≡ lead_from a gap (neighbour_before a gap rs) = grind (arith, to_z-of_z) in
-    subst (λ (l : List Reading). c.alters_used-2.result ≡ not (same_readings (window a b gap l) (window a b gap (changed change l)))) c.halves-kept.ensures.list
-    (c.if-alters_used-2.true
-    ∙ lead_altered a b gap rs (changed change rs) c.halves-kept.ensures.rising (changed_rises change rs c.requires.rising c.halves-kept.ensures.rising)
-    (moved a b _ _ rs (changed change rs) false start end (sym c.if-alters_used.false ∙ c.alters_used.ensures))
-    (used_day a b rs (joined c.stretch.result) c.first_used.result (c.is_none.ensures ∙ ap not c.if-is_none.false) c.first_used.ensures
-    (same_stretch a b _ _ rs (joined c.stretch.result) start end c.stretch.ensures))
-    (moved _ a _ _ rs (changed change rs) true reach start (sym c.if-alters_used-2.true ∙ c.alters_used-2.ensures)))
+    let rising = c.halves.ensures.rising in
+    let rest : c.split_at_key.result.1.now ≡ from_instant a list = c.split_at_key.ensures.from ∙ ap (from_instant a) c.put_list.ensures in
+    let inner_list : c.split_at_key-2.result.0.now ≡ of_day a b list = c.split_at_key-2.ensures.before ∙ ap (before_instant b) rest ∙ before_from b a list in
+    let early_list : c.split_at_key.result.0.now ≡ before_instant a list = c.split_at_key.ensures.before ∙ ap (before_instant a) c.put_list.ensures in
+    subst (λ (l : List Reading). c.alters_lead.result ≡ not (same_readings (window a b gap l) (window a b gap (changed change l)))) c.halves.ensures.list
+    (c.if-alters_lead.true
+    ∙ lead_altered a b gap rs (changed change rs) rising (changed_rises change rs c.requires.rising rising)
+    (change_told a b change list rs _ _ false rising c.parts-parts.ensures.day inner_list (sym c.if-alters_used.false ∙ c.alters_used.ensures))
+    (used_day a b rs (joined c.parts-parts.result.day) c.first_used.result (c.is_none.ensures ∙ ap not c.if-is_none.false) c.first_used.ensures c.parts-parts.ensures.day)
+    (sym c.if-alters_lead.true ∙ c.alters_lead.ensures rs list rising c.parts-parts.ensures.before early_list))
 
-pub returns-else-alters_used-2 : goal.returns-else-alters_used-2
-returns-else-alters_used-2 c =
-    let rs = joined c.halves-kept.result in
+pub returns-else-alters_lead : goal.returns-else-alters_lead
+returns-else-alters_lead c =
+    let rs = joined c.halves.result in
     let change = c.args.change.now in
+    let list = put_list change in
     let a = c.args.a in
     let b = c.args.b in
     let gap = pos (60 * c.args.gap) in
-    let start : to_z w64 (of_z w64 c.get-start.result) ≡ a = grind (arith, to_z-of_z) in
-    let end : to_z w64 (of_z w64 c.get-end.result) ≡ b = grind (arith, to_z-of_z) in
-    let reach : to_z w64 (of_z w64 c.lead_from.result) ≡ lead_from a gap (neighbour_before a gap rs) = grind (arith, to_z-of_z) in
-    let until : to_z w64 (of_z w64 c.follow_until.result) ≡ follow_until b gap (neighbour_after b gap rs) = grind (arith, to_z-of_z) in
-    subst (λ (l : List Reading). c.alters_used-else-alters_used-2.result ≡ not (same_readings (window a b gap l) (window a b gap (changed change l)))) c.halves-kept.ensures.list
-    (neighbours_told a b gap rs (changed change rs) _ c.halves-kept.ensures.rising (changed_rises change rs c.requires.rising c.halves-kept.ensures.rising)
-    (moved a b _ _ rs (changed change rs) false start end (sym c.if-alters_used.false ∙ c.alters_used.ensures))
-    (used_day a b rs (joined c.stretch.result) c.first_used.result (c.is_none.ensures ∙ ap not c.if-is_none.false) c.first_used.ensures
-    (same_stretch a b _ _ rs (joined c.stretch.result) start end c.stretch.ensures))
-    (moved _ a _ _ rs (changed change rs) false reach start (sym c.if-alters_used-2.false ∙ c.alters_used-2.ensures))
-    (moved b _ _ _ rs (changed change rs) _ end until c.alters_used-else-alters_used-2.ensures))
+    let rising = c.halves.ensures.rising in
+    let rest : c.split_at_key.result.1.now ≡ from_instant a list = c.split_at_key.ensures.from ∙ ap (from_instant a) c.put_list.ensures in
+    let inner_list : c.split_at_key-2.result.0.now ≡ of_day a b list = c.split_at_key-2.ensures.before ∙ ap (before_instant b) rest ∙ before_from b a list in
+    let early_list : c.split_at_key.result.0.now ≡ before_instant a list = c.split_at_key.ensures.before ∙ ap (before_instant a) c.put_list.ensures in
+    let order : a ≤ℤ b =
+    day_order a b rs (joined c.parts-parts.result.day) c.first_used.result (c.is_none.ensures ∙ ap not c.if-is_none.false) c.first_used.ensures c.parts-parts.ensures.day in
+    let late_list : c.split_at_key-2.result.1.now ≡ from_instant b list = c.split_at_key-2.ensures.from ∙ ap (from_instant b) rest ∙ from_from a b list order in
+    subst (λ (l : List Reading). c.alters_follow.result ≡ not (same_readings (window a b gap l) (window a b gap (changed change l)))) c.halves.ensures.list
+    (neighbours_told a b gap rs (changed change rs) _ rising (changed_rises change rs c.requires.rising rising)
+    (change_told a b change list rs _ _ false rising c.parts-parts.ensures.day inner_list (sym c.if-alters_used.false ∙ c.alters_used.ensures))
+    (used_day a b rs (joined c.parts-parts.result.day) c.first_used.result (c.is_none.ensures ∙ ap not c.if-is_none.false) c.first_used.ensures c.parts-parts.ensures.day)
+    (sym c.if-alters_lead.false ∙ c.alters_lead.ensures rs list rising c.parts-parts.ensures.before early_list)
+    (c.alters_follow.ensures rs list rising (c.parts-parts.ensures.behind order) late_list))

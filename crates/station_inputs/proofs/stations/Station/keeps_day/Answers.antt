@@ -21,6 +21,12 @@ returns-in-AddStation-3 c = none_changed c.args.self.now.station c.args.what.now
 pub returns-in-AddStation-4 : goal.returns-in-AddStation-4
 returns-in-AddStation-4 c = none_changed c.args.self.now.station c.args.what.now c.args.day c.site-site.ensures.kept c.in-AddStation.is
 
+pub returns-in-AddStation-5 : goal.returns-in-AddStation-5
+returns-in-AddStation-5 c = none_changed c.args.self.now.station c.args.what.now c.args.day c.site-site.ensures.kept c.in-AddStation.is
+
+pub returns-in-AddStation-6 : goal.returns-in-AddStation-6
+returns-in-AddStation-6 c = none_changed c.args.self.now.station c.args.what.now c.args.day c.site-site.ensures.kept c.in-AddStation.is
+
 pub returns-in-PutEstimate : goal.returns-in-PutEstimate
 returns-in-PutEstimate c =
     c.keeps_day_estimated.ensures ∙ put_told c.args.self.now.station c.in-PutEstimate.estimate c.args.day

@@ -1,29 +1,25 @@
-//! How far the record of a day is approved.
+//! How far the record of each day is approved, and by whom: who may review days and decide on them, and which edits an approved day
+//! locks out.
 #![tactic(auto)]
 
-ghost use Rattle.std.specs.Prelude.{◌≡◌};
-ghost use Rattle.approval.specs.Statuses.{status_name};
+mod applying;
+mod changed;
+mod day_lists;
+mod days;
+pub mod laws;
+pub mod objections;
+mod questions;
+mod rooms;
+pub mod sites;
+mod spans;
+pub mod status;
+pub mod statuses;
 
-/// How far a day's record is approved.
-#[derive(Clone, Copy, Debug, PartialEq, Eq)]
-pub enum Status {
-    /// The record is being worked.
-    Working,
-    /// It is in review.
-    Review,
-    /// It is approved.
-    Approved,
-}
-
-impl Status {
-    /// Its name, as replies have it.
-    pub fn name(&self) -> &'static [u8]
-        ensures { result.now ≡ status_name self.now }
-    {
-        match self {
-            Status::Working => b"working",
-            Status::Review => b"review",
-            Status::Approved => b"approved",
-        }
-    }
-}
+// A contract can name the standings only if the types of their fields are exported.
+#[doc(hidden)]
+pub use days::DayStanding;
+pub use objections::Objection;
+#[doc(hidden)]
+pub use sites::SiteStandings;
+pub use status::Status;
+pub use statuses::Statuses;

@@ -16,7 +16,7 @@ use Rattle.day_inputs.specs.declared.day_inputs.DayInputs.{DayInputs}
 use Rattle.day_inputs.specs.declared.day_inputs.DayInputs.TheVariants.{Empty, Day}
 use Rattle.edits.specs.Lawful.{IsLawful}
 use Rattle.edits.specs.declared.content.What.{What}
-use Rattle.edits.specs.declared.content.What.TheVariants.{AddStation, SetStation, PutReadings, DropReadings, FlagReadings, PutCorrection, DropCorrection, PutShift, DropShift, AddRating, PutPeriod, DropPeriod, PutEstimate, DropEstimate, PutMeasurement, DropMeasurement}
+use Rattle.edits.specs.declared.content.What.TheVariants.{AddStation, SetStation, PutReadings, DropReadings, FlagReadings, PutCorrection, DropCorrection, PutShift, DropShift, AddRating, PutPeriod, DropPeriod, PutEstimate, DropEstimate, PutMeasurement, DropMeasurement, Review, Decide}
 use Rattle.edits.specs.declared.content.Edit.{Edit}
 use Rattle.office_inputs.specs.Changes.{keeps_day}
 use Rattle.office_inputs.specs.Kept.{AreStations, records_of}
@@ -113,6 +113,8 @@ changed_day s (PutEstimate estimate) day k l d n = own_day estimate.day day _ (p
 changed_day s (DropEstimate own) day k l d n = own_day own day _ (drop_told s own day ∙ n)
 changed_day s (PutMeasurement measurement) day k l d n = same_not (station_day s day) n
 changed_day s (DropMeasurement number) day k l d n = same_not (station_day s day) n
+changed_day s (Review from to) day k l d n = same_not (station_day s day) n
+changed_day s (Decide from to decision) day k l d n = same_not (station_day s day) n
 
 -- and so it is of the edit's interval
 by_station : (limits : Limits) (kept : List KeptStation) (edit : Edit) (day : ℤ) (o : Option StationRecord) → station_of (records_of kept) edit.site ≡ o

@@ -2,7 +2,8 @@
 
 ghost use Rattle.std.specs.Prelude.{◌≡◌, List, [], ℕ, ℤ, false, true, None};
 ghost use Rattle.edits.specs.declared.content.Edit.{Edit};
-ghost use Rattle.edits.specs.declared.content.What.TheVariants.{AddRating, DropMeasurement, PutMeasurement};
+ghost use Rattle.edits.specs.declared.content.What.TheVariants.{AddRating, Decide, DropMeasurement, PutMeasurement, Review};
+ghost use Rattle.edits.specs.declared.decisions.Decision.{Decision};
 ghost use Rattle.edits.specs.declared.measurements.Measurement.{Measurement};
 ghost use Rattle.fixed_units.specs.Quantities.{IsDay};
 ghost use Rattle.office_inputs.specs.Changes.{keeps_day};
@@ -25,4 +26,10 @@ pub fn ratings_and_measurements_change_no_day()
     ensures rating { (stations : List StationRecord) (edit : Edit) (rating : ℕ) (table : List Row) → edit.what ≡ AddRating rating table → interval stations edit ≡ [] }
     ensures put { (stations : List StationRecord) (edit : Edit) (measurement : Measurement) → edit.what ≡ PutMeasurement measurement → interval stations edit ≡ [] }
     ensures dropped { (stations : List StationRecord) (edit : Edit) (number : ℕ) → edit.what ≡ DropMeasurement number → interval stations edit ≡ [] }
+{}
+
+/// Reviews and decisions have no day in their interval either.
+pub fn reviews_and_decisions_change_no_day()
+    ensures review { (stations : List StationRecord) (edit : Edit) (from to : ℤ) → edit.what ≡ Review from to → interval stations edit ≡ [] }
+    ensures decision { (stations : List StationRecord) (edit : Edit) (from to : ℤ) (decision : Decision) → edit.what ≡ Decide from to decision → interval stations edit ≡ [] }
 {}

@@ -1,7 +1,7 @@
 -- Why there is no such edit.
 use Rattle.edits.specs.Lawful.{IsLawful}
 use Rattle.edits.specs.declared.content.What.{What}
-use Rattle.edits.specs.declared.content.What.TheVariants.{AddStation, SetStation, PutReadings, DropReadings, FlagReadings, PutCorrection, DropCorrection, PutShift, DropShift, AddRating, PutPeriod, DropPeriod, PutEstimate, DropEstimate, PutMeasurement, DropMeasurement}
+use Rattle.edits.specs.declared.content.What.TheVariants.{AddStation, SetStation, PutReadings, DropReadings, FlagReadings, PutCorrection, DropCorrection, PutShift, DropShift, AddRating, PutPeriod, DropPeriod, PutEstimate, DropEstimate, PutMeasurement, DropMeasurement, Review, Decide}
 use Rattle.edits.specs.declared.faults.EditFault.{EditFault}
 use Rattle.edits.specs.declared.faults.EditFault.TheVariants.{NotLawful, NoMemory}
 
@@ -23,6 +23,8 @@ AddsStation (PutEstimate estimate) = ⊥
 AddsStation (DropEstimate day) = ⊥
 AddsStation (PutMeasurement measurement) = ⊥
 AddsStation (DropMeasurement number) = ⊥
+AddsStation (Review from to) = ⊥
+AddsStation (Decide from to decision) = ⊥
 
 -- `NotLawful` where it is not lawful, and `NoMemory` only where it is and adds a station
 abbrev pub IsEditFault : What → EditFault → Type 0

@@ -1,10 +1,10 @@
 -- What an edit keeps to, by its kind.
-use Rattle.std.specs.Prelude.{ℕ, ◌≤◌, ◌≤ℤ◌, List, length, All, IfSome, ℤ}
+use Rattle.std.specs.Prelude.{ℕ, ◌≤◌, ◌≤ℤ◌, ◌<ℤ◌, ◌+ℤ◌, pos, List, length, All, IfSome, ℤ}
 use Rattle.civil_days.specs.Starts.{IsZone}
 use Rattle.curves.specs.Curve.{stage_of}
 use Rattle.edits.specs.Texts.{IsName}
 use Rattle.edits.specs.declared.content.What.{What}
-use Rattle.edits.specs.declared.content.What.TheVariants.{AddStation, SetStation, PutReadings, DropReadings, FlagReadings, PutCorrection, DropCorrection, PutShift, DropShift, AddRating, PutPeriod, DropPeriod, PutEstimate, DropEstimate, PutMeasurement, DropMeasurement}
+use Rattle.edits.specs.declared.content.What.TheVariants.{AddStation, SetStation, PutReadings, DropReadings, FlagReadings, PutCorrection, DropCorrection, PutShift, DropShift, AddRating, PutPeriod, DropPeriod, PutEstimate, DropEstimate, PutMeasurement, DropMeasurement, Review, Decide}
 use Rattle.edits.specs.declared.estimates.Estimate.{Estimate}
 use Rattle.edits.specs.declared.measurements.Measurement.{Measurement}
 use Rattle.fixed_units.specs.Quantities.{IsAmount, IsDay, IsDischarge, IsStage, IsStamp}
@@ -103,6 +103,17 @@ pub record IsPutMeasurement (measurement : Measurement) : Type 0 where
   pub gage : IsStage measurement.gage
   pub discharge : IsDischarge measurement.discharge
 
+-- how many days one edit reviews, or decides on, at most
+abbrev pub most_reviewed_days : ℕ
+most_reviewed_days = 366
+
+-- the days of a review or of a decision: from one day to another that is not before it, and not too many
+pub record IsReviewSpan (from to : ℤ) : Type 0 where
+  pub begins : IsDay from
+  pub ends : IsDay to
+  pub ordered : from ≤ℤ to
+  pub most : to <ℤ (from +ℤ pos most_reviewed_days)
+
 -- what an edit of each kind is lawful by
 abbrev pub IsLawful : What → Type 0
 IsLawful (AddStation name zone gap stage_array discharge_array) =
@@ -122,3 +133,5 @@ IsLawful (PutEstimate estimate) = IsPutEstimate estimate
 IsLawful (DropEstimate day) = IsDay day
 IsLawful (PutMeasurement measurement) = IsPutMeasurement measurement
 IsLawful (DropMeasurement number) = IsMeasurementNumber number
+IsLawful (Review from to) = IsReviewSpan from to
+IsLawful (Decide from to decision) = IsReviewSpan from to

@@ -1,3 +1,4 @@
+pub mod Decisions
 pub mod Faults
 pub mod Grades
 pub mod Lawful

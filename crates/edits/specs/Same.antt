@@ -5,7 +5,8 @@ use Rattle.curves.specs.Entries.{entry_of}
 use Rattle.curves.specs.Equality.{same_entry}
 use Rattle.edits.specs.declared.content.Edit.{Edit}
 use Rattle.edits.specs.declared.content.What.{What}
-use Rattle.edits.specs.declared.content.What.TheVariants.{AddStation, SetStation, PutReadings, DropReadings, FlagReadings, PutCorrection, DropCorrection, PutShift, DropShift, AddRating, PutPeriod, DropPeriod, PutEstimate, DropEstimate, PutMeasurement, DropMeasurement}
+use Rattle.edits.specs.declared.content.What.TheVariants.{AddStation, SetStation, PutReadings, DropReadings, FlagReadings, PutCorrection, DropCorrection, PutShift, DropShift, AddRating, PutPeriod, DropPeriod, PutEstimate, DropEstimate, PutMeasurement, DropMeasurement, Review, Decide}
+use Rattle.edits.specs.Decisions.{decision_number}
 use Rattle.edits.specs.Grades.{grade_number}
 use Rattle.edits.specs.declared.estimates.Estimate.{Estimate}
 use Rattle.edits.specs.declared.measurements.Measurement.{Measurement}
@@ -28,7 +29,7 @@ same_end _ _ = false
 abbrev pub same_period : Span → Span → Bool
 same_period p q = int_eq p.from q.from && (same_end p.until q.until && p.rating == q.rating)
 
--- the first and the last instants are
+-- the first and the last instants, or days, are
 abbrev pub same_span : ℤ → ℤ → ℤ → ℤ → Bool
 same_span from to its_from its_to = int_eq from its_from && int_eq to its_to
 
@@ -65,6 +66,8 @@ is_same_what (PutEstimate estimate) (PutEstimate its_estimate) = same_estimate e
 is_same_what (DropEstimate day) (DropEstimate its_day) = int_eq day its_day
 is_same_what (PutMeasurement measurement) (PutMeasurement its_measurement) = same_measurement measurement its_measurement
 is_same_what (DropMeasurement number) (DropMeasurement its_number) = number == its_number
+is_same_what (Review from to) (Review its_from its_to) = same_span from to its_from its_to
+is_same_what (Decide from to decision) (Decide its_from its_to its_decision) = same_span from to its_from its_to && decision_number decision == decision_number its_decision
 is_same_what _ _ = false
 
 -- sent alike, and they change the same

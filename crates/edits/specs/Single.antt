@@ -4,10 +4,10 @@ use Rattle.std.proofs.Common.{ap, ◌∙◌}
 use Rattle.std.proofs.Props.{props}
 use Rattle.civil_days.specs.Starts.{IsZone}
 use Rattle.civil_days.proofs.ZoneLemmas.{IsZone-prop}
-use Rattle.edits.specs.Lawful.{IsLawful, AreSettings, ArePutReadings, IsMeasurementNumber, IsPutCurve, IsPutEstimate, IsPutMeasurement, IsPutPeriod, IsRatingNumber, IsReadingSpan, IsSetNumber, IsStationZone}
+use Rattle.edits.specs.Lawful.{IsLawful, AreSettings, ArePutReadings, IsMeasurementNumber, IsPutCurve, IsPutEstimate, IsPutMeasurement, IsPutPeriod, IsRatingNumber, IsReadingSpan, IsReviewSpan, IsSetNumber, IsStationZone}
 use Rattle.edits.specs.Texts.{IsName}
 use Rattle.edits.specs.declared.content.What.{What}
-use Rattle.edits.specs.declared.content.What.TheVariants.{AddStation, SetStation, PutReadings, DropReadings, FlagReadings, PutCorrection, DropCorrection, PutShift, DropShift, AddRating, PutPeriod, DropPeriod, PutEstimate, DropEstimate, PutMeasurement, DropMeasurement}
+use Rattle.edits.specs.declared.content.What.TheVariants.{AddStation, SetStation, PutReadings, DropReadings, FlagReadings, PutCorrection, DropCorrection, PutShift, DropShift, AddRating, PutPeriod, DropPeriod, PutEstimate, DropEstimate, PutMeasurement, DropMeasurement, Review, Decide}
 use Rattle.fixed_units.specs.Quantities.{IsDay, IsStamp}
 use Rattle.edits.specs.declared.estimates.Estimate.{Estimate}
 use Rattle.edits.specs.declared.measurements.Measurement.{Measurement}
@@ -64,6 +64,9 @@ measurement_prop measurement = Prim.hlevel props
 number_prop : (number : ℕ) → IsProp (IsMeasurementNumber number)
 number_prop number = Prim.hlevel props
 
+review_prop : (from to : ℤ) → IsProp (IsReviewSpan from to)
+review_prop from to = Prim.hlevel props
+
 pub IsLawful-prop : (what : What) → IsProp (IsLawful what)
 IsLawful-prop (AddStation name zone gap stages discharges) a b =
     ap (λ (x : AreSettings name gap stages discharges). (x, a.1)) (settings_prop name gap stages discharges a.0 b.0) ∙ ap (λ (x : IsStationZone zone). (b.0, x)) (IsStationZone-prop zone a.1 b.1)
@@ -82,3 +85,5 @@ IsLawful-prop (PutEstimate estimate) a b = estimate_prop estimate a b
 IsLawful-prop (DropEstimate day) a b = day_prop day a b
 IsLawful-prop (PutMeasurement measurement) a b = measurement_prop measurement a b
 IsLawful-prop (DropMeasurement number) a b = number_prop number a b
+IsLawful-prop (Review from to) a b = review_prop from to a b
+IsLawful-prop (Decide from to decision) a b = review_prop from to a b

@@ -3,6 +3,7 @@
 ghost use Rattle.edits.specs.Lawful.{IsLawful};
 ghost use Rattle.edits.specs.Single.{IsLawful-prop};
 
+use crate::decisions::Decision;
 use crate::estimates::Estimate;
 use crate::measurements::Measurement;
 use crate::names::Name;
@@ -128,6 +129,22 @@ pub enum What {
     DropMeasurement {
         /// The number, from 1.
         number: u32,
+    },
+    /// Puts the days from one to another, both included, in review.
+    Review {
+        /// The first day.
+        from: Day,
+        /// The last day: not before the first, and at most 366 days with it.
+        to: Day,
+    },
+    /// Decides on the days from one to another, both included.
+    Decide {
+        /// The first day.
+        from: Day,
+        /// The last day: not before the first, and at most 366 days with it.
+        to: Day,
+        /// What is decided.
+        decision: Decision,
     },
 }
 

@@ -2,9 +2,10 @@
 
 ghost use Rattle.std.specs.Prelude.{◌≡◌, ◌↔◌, true};
 ghost use Rattle.edits.specs.Same.{are_sent_alike, is_same, is_same_what, same_period};
-ghost use Rattle.edits.specs.declared.content.What.TheVariants.{AddStation, SetStation, PutReadings, DropReadings, FlagReadings, PutCorrection, DropCorrection, PutShift, DropShift, AddRating, PutPeriod, DropPeriod, PutEstimate, DropEstimate, PutMeasurement, DropMeasurement};
+ghost use Rattle.edits.specs.declared.content.What.TheVariants.{AddStation, SetStation, PutReadings, DropReadings, FlagReadings, PutCorrection, DropCorrection, PutShift, DropShift, AddRating, PutPeriod, DropPeriod, PutEstimate, DropEstimate, PutMeasurement, DropMeasurement, Review, Decide};
 
 use crate::content::{Edit, What};
+use crate::decisions::Decision;
 use crate::estimates::Estimate;
 use crate::measurements::Measurement;
 use crate::names::Name;
@@ -74,6 +75,8 @@ fn is_same_what(what: &What, other: &What) -> bool
         What::DropEstimate { day } => is_dropped_estimate(other, *day),
         What::PutMeasurement { measurement } => is_put_measurement(other, measurement),
         What::DropMeasurement { number } => is_dropped_measurement(other, *number),
+        What::Review { from, to } => is_review(other, *from, *to),
+        What::Decide { from, to, decision } => is_decision(other, *from, *to, *decision),
     }
 }
 
@@ -316,6 +319,35 @@ fn is_dropped_measurement(what: &What, number: u32) -> bool
 {
     match what {
         What::DropMeasurement { number: own_number } => number == *own_number,
+        _ => false,
+    }
+}
+
+/// Whether this reviews the days from one to another.
+fn is_review(what: &What, from: Day, to: Day) -> bool
+    ensures same { result ≡ is_same_what (Review from to) what.now }
+    ensures equal { result ≡ true ↔ what.now ≡ Review from to }
+{
+    match what {
+        What::Review {
+            from: own_from,
+            to: own_to,
+        } => from == *own_from && to == *own_to,
+        _ => false,
+    }
+}
+
+/// Whether this decides so on the days from one to another.
+fn is_decision(what: &What, from: Day, to: Day, decision: Decision) -> bool
+    ensures same { result ≡ is_same_what (Decide from to decision) what.now }
+    ensures equal { result ≡ true ↔ what.now ≡ Decide from to decision }
+{
+    match what {
+        What::Decide {
+            from: own_from,
+            to: own_to,
+            decision: own_decision,
+        } => from == *own_from && to == *own_to && decision.number() == own_decision.number(),
         _ => false,
     }
 }

@@ -3,6 +3,7 @@
 #![tactic(auto)]
 
 pub mod content;
+pub mod decisions;
 pub mod equality;
 pub mod estimates;
 pub mod faults;
@@ -12,12 +13,13 @@ pub mod names;
 pub mod senders;
 
 pub use content::{Edit, What};
+pub use decisions::Decision;
 pub use estimates::Estimate;
 pub use faults::EditFault;
 pub use making::{
     are_put_readings, are_settings, is_gap, is_measurement_number, is_put_curve, is_put_estimate,
     is_put_measurement, is_put_period, is_put_point, is_put_reading, is_rating_number,
-    is_reading_count, is_reading_span, is_set_number, is_zone,
+    is_reading_count, is_reading_span, is_review_span, is_set_number, is_zone,
 };
 pub use measurements::{Grade, Measurement};
 pub use names::{Name, is_name};

@@ -3,7 +3,7 @@
 ghost use Rattle.std.specs.Prelude.{◌≡◌, ◌↔◌, true, ◌≤◌, ◌&&◌, int_lt, length, IfOk, IfErr, IfSome, OnErr, All};
 ghost use Rattle.civil_days.specs.Starts.{IsZone};
 ghost use Rattle.edits.specs.Faults.{AddsStation, IsEditFault};
-ghost use Rattle.edits.specs.Lawful.{IsLawful, AreSettings, ArePutReadings, IsGap, IsMeasurementNumber, IsPutCurve, IsPutEstimate, IsPutMeasurement, IsPutPeriod, IsPutPoint, IsPutReading, IsRatingNumber, IsReadingSpan, IsSetNumber, IsStationZone, most_readings};
+ghost use Rattle.edits.specs.Lawful.{IsLawful, AreSettings, ArePutReadings, IsGap, IsMeasurementNumber, IsPutCurve, IsPutEstimate, IsPutMeasurement, IsPutPeriod, IsPutPoint, IsPutReading, IsRatingNumber, IsReadingSpan, IsReviewSpan, IsSetNumber, IsStationZone, most_readings};
 ghost use Rattle.fixed_units.specs.Quantities.{IsDay, IsStamp, is_stage, is_stamp};
 ghost use Rattle.rating_tables.specs.Table.{IsRating};
 ghost use Rattle.readings.specs.Readings.{IsRising};
@@ -87,6 +87,8 @@ fn is_lawful(alloc: Global, what: &What) -> Result<bool, NoMemory>
         What::DropEstimate { day } => Ok(is_calendar_day(*day)),
         What::PutMeasurement { measurement } => Ok(is_put_measurement(measurement)),
         What::DropMeasurement { number } => Ok(is_measurement_number(*number)),
+        What::Review { from, to } => Ok(is_review_span(*from, *to)),
+        What::Decide { from, to, .. } => Ok(is_review_span(*from, *to)),
     }
 }
 
@@ -291,6 +293,13 @@ pub fn is_measurement_number(number: u32) -> bool
     ensures { result ≡ true ↔ IsMeasurementNumber number }
 {
     1 <= number
+}
+
+/// Whether an edit may review the days from one to another, or decide on them: at most 366, both included.
+pub fn is_review_span(from: Day, to: Day) -> bool
+    ensures { result ≡ true ↔ IsReviewSpan from to }
+{
+    from <= to && to.get() - from.get() < 366
 }
 
 /// Whether an edit may put this measurement.

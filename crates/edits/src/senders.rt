@@ -38,6 +38,13 @@ impl By {
         }
     }
 
+    /// A copy of them. It takes no memory.
+    pub fn copy(&self) -> By
+        ensures { result ≡ self.now }
+    {
+        By::new(self.as_slice()).unwrap()
+    }
+
     /// The letters.
     pub fn as_slice(&self) -> &[u8]
         ensures letters { result.now ≡ self.now }

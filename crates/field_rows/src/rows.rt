@@ -10,4 +10,5 @@ mod fixtures;
 mod quantities;
 mod ratings_rows;
 mod readings_rows;
+mod sheets_rows;
 mod units_rows;

@@ -1,6 +1,9 @@
-//! Worked rows of the inputs in force and of the days that an edit changes: what no clause says, over stations of fixed zones.
+//! Worked rows of the inputs in force, of the days that an edit changes, and of their reviews and approvals: what no clause says, over
+//! stations of fixed zones.
 #![tactic(auto)]
 
+#[cfg(test)]
+mod approval_rows;
 #[cfg(test)]
 mod bulk_rows;
 #[cfg(test)]

@@ -4,7 +4,7 @@ use Rattle.std.proofs.Common.{arith, refl, ap}
 use Rattle.std.proofs.lemmas.List.{length-map}
 use Rattle.std.proofs.lemmas.List.Filters.{length-filter_both}
 use Rattle.edits.specs.declared.content.What.{What}
-use Rattle.edits.specs.declared.content.What.TheVariants.{AddStation, SetStation, PutReadings, DropReadings, FlagReadings, PutCorrection, DropCorrection, PutShift, DropShift, AddRating, PutPeriod, DropPeriod, PutEstimate, DropEstimate, PutMeasurement, DropMeasurement}
+use Rattle.edits.specs.declared.content.What.TheVariants.{AddStation, SetStation, PutReadings, DropReadings, FlagReadings, PutCorrection, DropCorrection, PutShift, DropShift, AddRating, PutPeriod, DropPeriod, PutEstimate, DropEstimate, PutMeasurement, DropMeasurement, Review, Decide}
 use Rattle.fixed_units.specs.declared.readings.Reading.{Reading}
 use Rattle.readings.specs.Readings.{flagged_where, is_within}
 use Rattle.readings.specs.Window.{is_of_day}
@@ -70,3 +70,5 @@ fewer (PutEstimate estimate) s n = kept_all s _ refl refl
 fewer (DropEstimate day) s n = kept_all s _ refl refl
 fewer (PutMeasurement measurement) s n = kept_all s _ refl refl
 fewer (DropMeasurement number) s n = kept_all s _ refl refl
+fewer (Review from to) s n = kept_all s _ refl refl
+fewer (Decide from to decision) s n = kept_all s _ refl refl

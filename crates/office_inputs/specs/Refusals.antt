@@ -1,5 +1,7 @@
 -- Which edits the inputs in force refuse, and for which cause: the first that holds.
 use Rattle.std.specs.Prelude.{ℕ, Bool, true, false, not, ◌&&◌, List, length, sum_by, Option, Some, None, is_some, option_map, if◌then◌else◌}
+use Rattle.approval.specs.declared.objections.Objection.{Objection}
+use Rattle.approval.specs.declared.objections.Objection.TheVariants as objections
 use Rattle.edits.specs.declared.content.What.{What}
 use Rattle.edits.specs.declared.content.What.TheVariants.{AddStation}
 use Rattle.edits.specs.declared.content.Edit.{Edit}
@@ -14,7 +16,7 @@ use Rattle.station_inputs.specs.declared.counts.Counted.TheVariants as counted
 use Rattle.station_inputs.specs.declared.obstacles.Obstacle.{Obstacle}
 use Rattle.station_inputs.specs.declared.obstacles.Obstacle.TheVariants as obstacles
 use Rattle.office_inputs.specs.declared.refusals.Refusal.{Refusal}
-use Rattle.office_inputs.specs.declared.refusals.Refusal.TheVariants.{NoStation, StationExists, Limit, NoRating, RatingExists, PeriodOverlap, NoEntry}
+use Rattle.office_inputs.specs.declared.refusals.Refusal.TheVariants.{NoStation, StationExists, Limit, NoRating, RatingExists, PeriodOverlap, NoEntry, NotInReview, SamePerson, NotApproved, AlreadyApproved}
 use Rattle.office_inputs.specs.declared.refusals.Which.{Which}
 use Rattle.office_inputs.specs.declared.refusals.Which.TheVariants as counts
 
@@ -63,6 +65,13 @@ refusal_for obstacles.NoRating = NoRating
 refusal_for obstacles.RatingExists = RatingExists
 refusal_for (obstacles.PeriodOverlap from) = PeriodOverlap from
 refusal_for obstacles.NoEntry = NoEntry
+
+-- why the statuses of its days do not allow an edit, as a refusal
+abbrev pub refusal_for_objection : Objection → Refusal
+refusal_for_objection (objections.NotInReview day) = NotInReview day
+refusal_for_objection (objections.SamePerson day) = SamePerson day
+refusal_for_objection (objections.NotApproved day) = NotApproved day
+refusal_for_objection (objections.AlreadyApproved day) = AlreadyApproved day
 
 -- what of the station stands in the way, where there is one
 abbrev pub obstacle_of : Option StationRecord → What → Option Obstacle

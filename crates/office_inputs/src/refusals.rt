@@ -1,6 +1,7 @@
 //! Why an edit is refused.
 
-use fixed_units::Second;
+use approval::Objection;
+use fixed_units::{Day, Second};
 use station_inputs::{Counted, Obstacle};
 use thiserror::Error;
 
@@ -76,6 +77,24 @@ pub enum Refusal {
     /// estimate of its day, or no measurement of its number.
     #[error("nothing stands where the edit would act")]
     NoEntry,
+    /// An approval names this day, which is not in review: the first such day.
+    #[error("a day to be approved is not in review")]
+    NotInReview(Day),
+    /// An approval names this day, which the approver put in review: the first such day.
+    #[error("a day to be approved was put in review by the approver")]
+    SamePerson(Day),
+    /// An approval names this day, which awaits the edit of this number: the first such day.
+    #[error("a day to be approved awaits an edit")]
+    Awaits(Day, u64),
+    /// A rescission names this day, which is not approved: the first such day.
+    #[error("a day whose approval is to be taken back is not approved")]
+    NotApproved(Day),
+    /// A review names this day, which is approved: the first such day.
+    #[error("a day to be reviewed is approved")]
+    AlreadyApproved(Day),
+    /// The edit would change the inputs of this day, which is approved: the first such day.
+    #[error("an approved day would change")]
+    Locked(Day),
     /// The history has no room.
     #[error("the history is full")]
     HistoryFull(Full),
@@ -102,6 +121,22 @@ impl From<Obstacle> for Refusal {
             Obstacle::RatingExists => Refusal::RatingExists,
             Obstacle::PeriodOverlap(from) => Refusal::PeriodOverlap(from),
             Obstacle::NoEntry => Refusal::NoEntry,
+        }
+    }
+}
+
+impl From<Objection> for Refusal {
+    ghost use Rattle.std.specs.Prelude.{◌≡◌};
+    ghost use Rattle.office_inputs.specs.Refusals.{refusal_for_objection};
+
+    ghost from_gives = { λ objection refusal. refusal ≡ refusal_for_objection objection };
+
+    fn from(objection: Objection) -> Refusal {
+        match objection {
+            Objection::NotInReview(day) => Refusal::NotInReview(day),
+            Objection::SamePerson(day) => Refusal::SamePerson(day),
+            Objection::NotApproved(day) => Refusal::NotApproved(day),
+            Objection::AlreadyApproved(day) => Refusal::AlreadyApproved(day),
         }
     }
 }

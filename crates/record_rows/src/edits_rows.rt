@@ -2,7 +2,7 @@
 
 use crate::fixtures::{AB, Change, DISCHARGES, STAGES, Sent, curve, edit, made, name, reading};
 use edits::{
-    By, EditFault, Estimate, Grade, Ref, are_put_readings, are_settings, is_gap,
+    By, Decision, EditFault, Estimate, Grade, Ref, are_put_readings, are_settings, is_gap,
     is_measurement_number, is_name, is_put_curve, is_put_estimate, is_put_point, is_put_reading,
     is_rating_number, is_reading_count, is_reading_span, is_set_number, is_zone,
 };
@@ -213,7 +213,7 @@ const BELOW: &[(i64, i64)] = &[(0, -1), (1, 0)];
 const TOO_HIGH: &[(i64, i64)] = &[(0, 0), (100_000_000_001, 0)];
 
 /// What may not be changed, told by its place from 0 on.
-const UNLAWFUL: [Change; 37] = [
+const UNLAWFUL: [Change; 41] = [
     Change::Addition("-05:00", 721, STAGES),
     Change::Addition("-05:60", 720, STAGES),
     Change::Setting("A", 0, STAGES),
@@ -251,6 +251,10 @@ const UNLAWFUL: [Change; 37] = [
     Change::Measurement((1, 0, 100_000_000_001, 0, Grade::Good)),
     Change::Measurement((1, 0, 0, -1, Grade::Good)),
     Change::NoMeasurement(0),
+    Change::Review(1, 0),
+    Change::Review(0, 366),
+    Change::Decision(1, 0, Decision::Approve),
+    Change::Decision(0, 366, Decision::Rescind),
 ];
 
 fn fault(alloc: Global, change: Change) -> Option<EditFault> {
@@ -275,7 +279,7 @@ fn what_is_not_lawful_makes_no_edit(rt: HostRuntime) {
 const SET: Change = Change::Setting("A", 1, STAGES);
 
 /// Edits of which no two are the same, told by their places from 0 on.
-const EDITS: [&Sent; 59] = [
+const EDITS: [&Sent; 66] = [
     &(AB, "a1", Change::Addition("+00:00", 720, STAGES)),
     &(AB, "a1", Change::Addition("-00:00", 720, STAGES)),
     &(AB, "a1", Change::Addition("+00:00", 719, STAGES)),
@@ -339,6 +343,13 @@ const EDITS: [&Sent; 59] = [
     &(AB, "a1", Change::Measurement((1, 0, 0, 1, Grade::Good))),
     &(AB, "a1", Change::Measurement((1, 0, 0, 0, Grade::Fair))),
     &(AB, "a1", Change::NoMeasurement(1)),
+    &(AB, "a1", Change::Review(0, 1)),
+    &(AB, "a1", Change::Review(0, 2)),
+    &(AB, "a1", Change::Review(1, 1)),
+    &(AB, "a1", Change::Decision(0, 1, Decision::Approve)),
+    &(AB, "a1", Change::Decision(0, 2, Decision::Approve)),
+    &(AB, "a1", Change::Decision(1, 1, Decision::Approve)),
+    &(AB, "a1", Change::Decision(0, 1, Decision::Rescind)),
     &(AB, "a1", SET),
     &(AB, "a2", SET),
     &(("AC", 8, 1_646_500), "a1", SET),

@@ -1,11 +1,12 @@
 //! Edits of the rows as plain values, and the edits for which these stand.
 
 use curves::Curve;
-use edits::{By, Edit, EditFault, Estimate, Grade, Measurement, Name, Ref, What};
+use edits::{By, Decision, Edit, EditFault, Estimate, Grade, Measurement, Name, Ref, What};
 use fixed_units::{Day, Flag, Micro, Reading, RoundingArray, Second, Site, Text};
 use rating_tables::{SharedTable, Table};
 use ratings::Period;
 use readings::ReadingList;
+use records::{Record, SheetList};
 use std::alloc::Global;
 
 /// The usual array of stages.
@@ -51,6 +52,10 @@ pub enum Change {
     Measurement(Measured),
     /// Takes out the measurement of a number.
     NoMeasurement(u32),
+    /// Reviews the days from one to another.
+    Review(i32, i32),
+    /// Decides on the days from one to another.
+    Decision(i32, i32, Decision),
 }
 
 /// A measurement: its number, its second, its gage height and its discharge in millionths, and its grade.
@@ -230,6 +235,15 @@ fn what(alloc: Global, change: Change) -> Option<What> {
         }),
         Change::Measurement(measured) => measurement(measured),
         Change::NoMeasurement(number) => Some(What::DropMeasurement { number }),
+        Change::Review(from, to) => Some(What::Review {
+            from: Day::new(from)?,
+            to: Day::new(to)?,
+        }),
+        Change::Decision(from, to, decision) => Some(What::Decide {
+            from: Day::new(from)?,
+            to: Day::new(to)?,
+            decision,
+        }),
     }
 }
 
@@ -245,4 +259,18 @@ pub fn made(alloc: Global, sent: &Sent) -> Option<Result<Edit, EditFault>> {
 /// The edit of these parts, where there is one.
 pub fn edit(alloc: Global, sent: &Sent) -> Option<Edit> {
     made(alloc, sent)?.ok()
+}
+
+/// The list of these sheets.
+fn sheet_list(alloc: Global, sheets: &[&[u8]]) -> Option<SheetList> {
+    let mut list = SheetList::new(alloc);
+    for sheet in sheets {
+        list.push(Text::from_vec(sheet.to_vec(alloc).ok()?)).ok()?;
+    }
+    Some(list)
+}
+
+/// The record of the edit of these parts and of these sheets, where there is one.
+pub fn record(alloc: Global, sent: &Sent, sheets: &[&[u8]]) -> Option<Record> {
+    Record::new(edit(alloc, sent)?, sheet_list(alloc, sheets)?)
 }

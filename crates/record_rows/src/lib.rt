@@ -15,3 +15,5 @@ mod rating_fields;
 mod reading_fields;
 #[cfg(test)]
 mod refusals;
+#[cfg(test)]
+mod review_fields;

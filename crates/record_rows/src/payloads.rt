@@ -1,10 +1,10 @@
 //! The bytes of records, written out by hand.
 
-use crate::fixtures::{AB, Change, DISCHARGES, STAGES, Sent, edit};
-use edits::Grade;
+use crate::fixtures::{AB, Change, DISCHARGES, STAGES, Sent, record};
+use edits::{Decision, Grade};
 use fixed_units::Flag::{Affected, Erroneous, Usable};
 use records::laws::{keeps_grammar, none_begins_another, payload_of_one_record, sizes};
-use records::{DecodeFault, Record, decode, encode, encode_and_close};
+use records::{DecodeFault, Record, SheetList, decode, encode, encode_and_close, record_len};
 use std::alloc::Global;
 
 /// POTOMAC is added, with readings up to twelve hours apart.
@@ -86,6 +86,21 @@ const MEASUREMENT: &[u8] =
 const NO_MEASUREMENT: &[u8] =
     b"\x14\0\0\0\x10\x02AB\x02m2\x08\xa4\x1f\x19\0\0\0\0\0\xff\xff\xff\xff";
 
+/// 2024-01-05 and the next day are in review.
+const REVIEW: &[u8] =
+    b"\x18\0\0\0\x11\x02AB\x02v1\x08\xa4\x1f\x19\0\0\0\0\0\x0f\x4d\0\0\x10\x4d\0\0";
+
+/// The approval of the first 366 days is rescinded.
+const RESCISSION: &[u8] =
+    b"\x19\0\0\0\x12\x02AB\x02x1\x08\xa4\x1f\x19\0\0\0\0\0\x21\x9c\xff\xff\x8e\x9d\xff\xff\x01";
+
+/// The last day before 1970 and the next two are approved, with a sheet for each.
+const APPROVAL: &[u8] =
+    b"\x32\0\0\0\x12\x02AB\x02y1\x08\xa4\x1f\x19\0\0\0\0\0\xff\xff\xff\xff\x01\0\0\0\0\x08\0\0\0STATE A\n\x01\0\0\0\xff\x04\0\0\0\0\0\0\0";
+
+/// The sheets of that approval.
+const SHEETS: [&[u8]; 3] = [b"STATE A\n", b"\xff", b"\0\0\0\0"];
+
 /// The rows of that rating in millionths.
 const ROWS: &[(i64, i64)] = &[(1_000_000, 10_000_000), (2_000_000, 30_000_000)];
 
@@ -97,7 +112,7 @@ const STATION: [(&Sent, usize); 3] = [
 ];
 
 /// Edits, and the bytes of their records.
-const RECORDS: [(&Sent, &[u8]); 20] = [
+const RECORDS: [(&Sent, &[u8]); 22] = [
     (
         &(AB, "a1", Change::Addition("-05:00", 720, STAGES)),
         ADDITION,
@@ -196,7 +211,19 @@ const RECORDS: [(&Sent, &[u8]); 20] = [
         &(AB, "m2", Change::NoMeasurement(4_294_967_295)),
         NO_MEASUREMENT,
     ),
+    (&(AB, "v1", Change::Review(19_727, 19_728)), REVIEW),
+    (
+        &(
+            AB,
+            "x1",
+            Change::Decision(-25_567, -25_202, Decision::Rescind),
+        ),
+        RESCISSION,
+    ),
 ];
+
+/// An approval of three days.
+const APPROVED: &Sent = &(AB, "y1", Change::Decision(-1, 1, Decision::Approve));
 
 /// The payload of a record: its bytes but for the four of the length.
 fn payload(bytes: &[u8]) -> &[u8] {
@@ -220,25 +247,38 @@ fn is_closed(alloc: Global, piece: &Record, bytes: &[u8]) -> bool {
 
 fn is_read(alloc: Global, piece: &Record, payload: &[u8]) -> bool {
     match decode(alloc, payload) {
-        Ok(found) => found.edit.is_same(&piece.edit),
+        Ok(found) => found.edit().is_same(piece.edit()) && are_same(found.sheets(), piece.sheets()),
         Err(_) => false,
     }
 }
 
+fn are_same(sheets: &SheetList, others: &SheetList) -> bool {
+    for place in 0..sheets.len() {
+        if sheets.get(place) != others.get(place) {
+            return false;
+        }
+    }
+    sheets.len() == others.len()
+}
+
 /// Whether the record of an edit is written as these bytes, with a closed gate behind them too, and read from them.
-fn has_bytes(alloc: Global, sent: &Sent, bytes: &[u8]) -> Option<[bool; 3]> {
-    let piece = Record {
-        edit: edit(alloc, sent)?,
-    };
+fn has_bytes(alloc: Global, sent: &Sent, sheets: &[&[u8]], bytes: &[u8]) -> Option<[bool; 4]> {
+    let piece = record(alloc, sent, sheets)?;
     let written = is_written(alloc, &piece, bytes);
     let closed = is_closed(alloc, &piece, bytes);
-    Some([written, closed, is_read(alloc, &piece, payload(bytes))])
+    let counted = record_len(&piece) == payload(bytes).len();
+    Some([
+        written,
+        closed,
+        is_read(alloc, &piece, payload(bytes)),
+        counted,
+    ])
 }
 
 /// The reference of the first edit whose record has other bytes.
 fn first_otherwise(alloc: Global) -> Option<&'static str> {
     for (sent, bytes) in &RECORDS {
-        if has_bytes(alloc, sent, bytes) != Some([true; 3]) {
+        if has_bytes(alloc, sent, &[], bytes) != Some([true; 4]) {
             return Some(sent.1);
         }
     }
@@ -252,13 +292,62 @@ fn records_are_written_and_read(rt: HostRuntime) {
     sizes();
     let otherwise = first_otherwise(rt.alloc());
     assert!(rt; otherwise.is_none(), "{otherwise:?}");
+    let approved = has_bytes(rt.alloc(), APPROVED, &SHEETS, APPROVAL);
+    assert!(rt; approved == Some([true; 4]), "{approved:?}");
+}
+
+/// An approval of as many days as it may be.
+const LONGEST_APPROVAL: &Sent = &(AB, "z1", Change::Decision(0, 365, Decision::Approve));
+
+/// The longest sheet.
+const LONGEST_SHEET: &[u8] = &[b'A'; 2_400];
+
+/// How many bytes the record of that approval takes with such sheets, and whether it is read again.
+fn longest_approval(alloc: Global) -> Option<(usize, bool)> {
+    let piece = record(alloc, LONGEST_APPROVAL, &[LONGEST_SHEET; 366])?;
+    let text = encode(alloc, &piece).ok()?;
+    let read = is_read(alloc, &piece, payload(text.as_slice()));
+    Some((text.len(), read))
+}
+
+#[test]
+fn an_approval_of_366_days_is_written_and_read(rt: HostRuntime) {
+    let told = longest_approval(rt.alloc());
+    assert!(rt; told == Some((879_893, true)), "{told:?}");
+}
+
+/// Edits, and sheets that are not those of their records.
+const OTHER_SHEETS: [(&Sent, &[&[u8]]); 6] = [
+    (APPROVED, &[b"A", b"B"]),
+    (APPROVED, &[b"A", b"B", b"C", b"D"]),
+    (APPROVED, &[b"A", b"", b"C"]),
+    (APPROVED, &[b"A", &[b'B'; 2_401], b"C"]),
+    (
+        &(AB, "x1", Change::Decision(0, 0, Decision::Rescind)),
+        &[b"A"],
+    ),
+    (&(AB, "v1", Change::Review(0, 0)), &[b"A"]),
+];
+
+/// The number from 0 on of the first edit that has a record with such sheets.
+fn first_with_other_sheets(alloc: Global) -> Option<usize> {
+    for (row, (sent, sheets)) in OTHER_SHEETS.iter().enumerate() {
+        if record(alloc, sent, sheets).is_some() {
+            return Some(row);
+        }
+    }
+    None
+}
+
+#[test]
+fn a_record_has_the_sheets_of_its_edit(rt: HostRuntime) {
+    let kept = first_with_other_sheets(rt.alloc());
+    assert!(rt; kept.is_none(), "{kept:?}");
 }
 
 /// How many bytes the record of an edit takes, with the gate behind it for the one before it.
 fn taken(alloc: Global, sent: &Sent) -> Option<usize> {
-    let piece = Record {
-        edit: edit(alloc, sent)?,
-    };
+    let piece = record(alloc, sent, &[])?;
     Some(encode_and_close(alloc, &piece).ok()?.as_slice().len())
 }
 
@@ -294,7 +383,7 @@ fn shortest_record(alloc: Global, bytes: &[u8]) -> Option<usize> {
 
 /// The reference of the first edit with another front of its payload that is not refused.
 fn first_shorter(alloc: Global) -> Option<&'static str> {
-    for (sent, bytes) in &RECORDS {
+    for (sent, bytes) in RECORDS.iter().chain(&[(APPROVED, APPROVAL)]) {
         let payload = payload(bytes);
         if shortest_record(alloc, payload) != Some(payload.len()) {
             return Some(sent.1);

@@ -3,6 +3,7 @@
 use crate::entry_fields::{DROPPED_FROM, ENTRIES, INSTANTS, PUT_INTO};
 use crate::rating_fields::{MEASUREMENTS, NUMBERS, PERIODS, RATINGS};
 use crate::reading_fields::{DAYS, ESTIMATES, FLAGGED, READINGS, SPANS};
+use crate::review_fields::{DECISIONS, REVIEWS, SHEETS};
 use records::{DecodeFault, decode};
 use std::alloc::Global;
 
@@ -224,7 +225,7 @@ const OTHERS: [Row; 5] = [
     (&[SET, BY, REF, SITE, NAME, GAP, ARRAYS, b"\0"], true),
     (&[PUT, BY, REF, SITE, READING, b"\0"], true),
     (&[b"\0", BY, REF, SITE, READING], true),
-    (&[b"\x11", BY, REF, SITE, READING], true),
+    (&[b"\x13", BY, REF, SITE, READING], true),
 ];
 
 /// The name of a table, the front of its payloads, and its rows.
@@ -266,6 +267,13 @@ const RATED_TABLES: [Table; 5] = [
     ("dropped measurements", &[b"\x10", BY, REF, SITE], &NUMBERS),
 ];
 
+/// Those of reviews and decisions.
+const REVIEW_TABLES: [Table; 3] = [
+    ("reviews", &[b"\x11", BY, REF, SITE], &REVIEWS),
+    ("decisions", &[b"\x12", BY, REF, SITE], &DECISIONS),
+    ("sheets", &[b"\x12", BY, REF, SITE], &SHEETS),
+];
+
 /// The first table with such a row, and the number of the row.
 fn first_wrong_of_all(alloc: Global, tables: &[Table]) -> Option<(&'static str, usize)> {
     for (table, front, rows) in tables {
@@ -291,6 +299,12 @@ fn each_field_of_readings_and_estimates_keeps_to_its_range(rt: HostRuntime) {
 #[test]
 fn each_field_of_a_rating_keeps_to_its_range(rt: HostRuntime) {
     let wrong = first_wrong_of_all(rt.alloc(), &RATED_TABLES);
+    assert!(rt; wrong.is_none(), "{wrong:?}");
+}
+
+#[test]
+fn each_field_of_reviews_and_decisions_keeps_to_its_range(rt: HostRuntime) {
+    let wrong = first_wrong_of_all(rt.alloc(), &REVIEW_TABLES);
     assert!(rt; wrong.is_none(), "{wrong:?}");
 }
 

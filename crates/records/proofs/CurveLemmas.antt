@@ -9,7 +9,7 @@ use Rattle.std.proofs.lemmas.List.{append-nil}
 use Rattle.std.proofs.lemmas.List.Concat.{flat_map-cons}
 use Rattle.edits.specs.Lawful.{IsPutCurve}
 use Rattle.records.specs.Payloads.{signed_number, point_bytes, curve_bytes, mark_number, entry_bytes}
-use Rattle.records.specs.Reading.{◌>>=◌, both_at, byte_at, signed_number_at, point_at, points_at, curve_at, mark_at, entry_at}
+use Rattle.records.specs.Parsing.{◌>>=◌, both_at, byte_at, signed_number_at, point_at, points_at, curve_at, mark_at, entry_at}
 use Rattle.records.proofs.Fields.{IsBytes, bind_some, some_is, Takes, Takes-then, Reads, IsAny, both_reads, byte_takes, byte_again, signed_reads}
 use Rattle.records.proofs.ManyLemmas.{none_many, behind, next_many, many_take, many_again}
 

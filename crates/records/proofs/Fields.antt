@@ -8,7 +8,7 @@ use Rattle.std.proofs.lemmas.List.{take_at, drop_at, take-append-drop, length-ap
 use Rattle.std.proofs.lemmas.Nat.{le_bytes_4, le_bytes_8, from_le_bytes-to_le_bytes_4, from_le_bytes-to_le_bytes_8}
 use Rattle.fixed_units.specs.Quantities.{SiteNumber}
 use Rattle.records.specs.Payloads.{short_text, signed_number, day_number, site_number}
-use Rattle.records.specs.Reading.{◌>>=◌, both_at, made_at, byte_at, number_at, front_at, short_text_at, signed_number_at, day_at, site_number_at}
+use Rattle.records.specs.Parsing.{◌>>=◌, both_at, made_at, byte_at, number_at, front_at, short_text_at, signed_number_at, day_at, site_number_at}
 
 abbrev pub IsBytes : List ℕ → Type 0
 IsBytes bytes = (i : ℕ) → get_or bytes i 0 < 256
@@ -185,7 +185,7 @@ day_reads = record { takes = day_takes; again = day_again }
 
 -- ---- texts and site numbers
 
-front_takes : (count : ℕ) (bytes text rest : List ℕ) → IsBytes bytes → front_at count bytes ≡ Some (text, rest) → Takes bytes text rest × (length text ≡ count)
+pub front_takes : (count : ℕ) (bytes text rest : List ℕ) → IsBytes bytes → front_at count bytes ≡ Some (text, rest) → Takes bytes text rest × (length text ≡ count)
 front_takes count bytes text rest fits e =
     let g = guard_false (ltb (length bytes) count) (take count bytes, drop count bytes) (text, rest) e in
     let long : count ≤ length bytes = ltb-false _ _ g.0 in
@@ -194,7 +194,7 @@ front_takes count bytes text rest fits e =
     let len : length (take count bytes) ≡ count = omega (arith, length-take count bytes) in
     (record { parts = rw (← text-is, ← rest-is) (sym (take-append-drop count bytes)); rest_fits = rw (← rest-is) (IsBytes-drop count bytes fits) }, rw (← text-is) len)
 
-front_again : (count : ℕ) (text rest : List ℕ) → length text ≡ count → front_at count (text ++ rest) ≡ Some (text, rest)
+pub front_again : (count : ℕ) (text rest : List ℕ) → length text ≡ count → front_at count (text ++ rest) ≡ Some (text, rest)
 front_again count text rest len =
     let long : ltb (length (text ++ rest)) count ≡ false = le-ltb _ _ (omega (arith, length-append text rest)) in
     rw (long, take_at text rest count len, drop_at text rest count len) refl

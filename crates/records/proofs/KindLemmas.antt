@@ -6,14 +6,15 @@ use Rattle.std.proofs.lemmas.Bool.{eqb-true}
 use Rattle.std.proofs.lemmas.Int.{ints}
 use Rattle.edits.specs.Lawful.{IsLawful}
 use Rattle.edits.specs.declared.content.What.{What}
-use Rattle.edits.specs.declared.content.What.TheVariants.{AddStation, SetStation, PutReadings, DropReadings, FlagReadings, PutCorrection, DropCorrection, PutShift, DropShift, AddRating, PutPeriod, DropPeriod, PutEstimate, DropEstimate, PutMeasurement, DropMeasurement}
+use Rattle.edits.specs.declared.content.What.TheVariants.{AddStation, SetStation, PutReadings, DropReadings, FlagReadings, PutCorrection, DropCorrection, PutShift, DropShift, AddRating, PutPeriod, DropPeriod, PutEstimate, DropEstimate, PutMeasurement, DropMeasurement, Review, Decide}
 use Rattle.fixed_units.specs.Quantities.{IsDay, IsStamp, IsStage, IsDischarge, SiteNumber}
 use Rattle.fixed_units.specs.declared.readings.Reading.{Reading}
 use Rattle.records.specs.Payloads.{short_text, signed_number, day_number, site_number, kind, fields}
-use Rattle.records.specs.Reading.{both_at, byte_at, number_at, front_at, short_text_at, signed_number_at, site_number_at, day_at, sender_at, arrays_at, addition, addition_at, setting, setting_at, put, put_at, readings_at, dropped_readings, dropped_readings_at, flagged_readings, flagged_readings_at, entry_at, correction, correction_at, dropped_correction, dropped_correction_at, shift, shift_at, dropped_shift, dropped_shift_at, added_rating, rating_at, period, period_at, dropped_period, dropped_period_at, estimate, estimate_at, dropped_estimate, dropped_estimate_at, measurement, measurement_at, dropped_measurement, dropped_measurement_at, fields_at}
+use Rattle.records.specs.Parsing.{both_at, byte_at, number_at, front_at, short_text_at, signed_number_at, site_number_at, day_at, sender_at, arrays_at, addition, addition_at, setting, setting_at, put, put_at, readings_at, dropped_readings, dropped_readings_at, flagged_readings, flagged_readings_at, entry_at, correction, correction_at, dropped_correction, dropped_correction_at, shift, shift_at, dropped_shift, dropped_shift_at, added_rating, rating_at, period, period_at, dropped_period, dropped_period_at, estimate, estimate_at, dropped_estimate, dropped_estimate_at, measurement, measurement_at, dropped_measurement, dropped_measurement_at, review, review_at, decided, decided_at, fields_at}
 use Rattle.records.proofs.Fields.{IsBytes, Takes, Reads, IsAny, both_reads, made_takes, made_again, byte_reads, number_reads, signed_reads, day_reads, wide32, front_reads, short_reads, site_reads}
 use Rattle.records.proofs.CurveLemmas.{which, Parts, entry_parts, FitsEntry, entry_reads, entry_spelling, put_fits}
 use Rattle.records.proofs.MeasurementLemmas.{Estimated, estimated_parts, estimated_bytes, FitsEstimated, estimated_reads, Measured, measured_parts, measured_bytes, FitsMeasured, measured_reads}
+use Rattle.records.proofs.ReviewLemmas.{Reviewed, reviewed_parts, reviewed_bytes, FitsReviewed, reviewed_reads, Judged, judged_parts, judged_bytes, FitsJudged, judged_reads}
 use Rattle.records.proofs.RatingLemmas.{Rating, rating_parts, rating_bytes, FitsRating, rating_reads, rating_fits, Period, period_parts, period_spelled, FitsPeriod, period_reads, end_fits}
 use Rattle.records.proofs.PutLemmas.{Flagged, flagged_parts, flagged_bytes, FitsFlagged, flagged_reads, readings_bytes, FitsReadings, readings_read, readings_fit}
 
@@ -258,6 +259,18 @@ dropped_measurement_takes bytes what rest fits e =
     let m = made_takes ℕ What dropped_measurement (number_at w32) (to_le_bytes w32) (λ n. n < 2 ^ 32) number32_reads bytes what rest fits e in
     took 16 bytes (to_le_bytes w32 m.0) rest (dropped_measurement m.0) what m.1 refl refl m.2
 
+review_takes : (bytes : List ℕ) (what : What) (rest : List ℕ) → IsBytes bytes → review_at bytes ≡ Some (what, rest) → TakesKind 17 bytes what rest
+unfolding review_at
+review_takes bytes what rest fits e =
+    let m = made_takes Reviewed What review reviewed_parts reviewed_bytes FitsReviewed reviewed_reads bytes what rest fits e in
+    took 17 bytes (reviewed_bytes m.0) rest (review m.0) what m.1 refl refl m.2
+
+decided_takes : (bytes : List ℕ) (what : What) (rest : List ℕ) → IsBytes bytes → decided_at bytes ≡ Some (what, rest) → TakesKind 18 bytes what rest
+unfolding decided_at
+decided_takes bytes what rest fits e =
+    let m = made_takes Judged What decided judged_parts judged_bytes FitsJudged judged_reads bytes what rest fits e in
+    took 18 bytes (judged_bytes m.0) rest (decided m.0) what m.1 refl refl m.2
+
 along : (m n : ℕ) (bytes : List ℕ) (what : What) (rest : List ℕ) → m ≡ n → TakesKind n bytes what rest → TakesKind m bytes what rest
 along m n bytes what rest e t = subst (λ (k : ℕ). TakesKind k bytes what rest) (sym e) t
 
@@ -289,7 +302,9 @@ fields_take number bytes what rest fits e =
     (picked number 14 bytes what rest _ _ (dropped_estimate_takes bytes what rest fits)
     (picked number 15 bytes what rest _ _ (measurement_takes bytes what rest fits)
     (picked number 16 bytes what rest _ _ (dropped_measurement_takes bytes what rest fits)
-    (λ no. absurd (let none : None ≡ Some (what, rest) = no in cc))))))))))))))))) e
+    (picked number 17 bytes what rest _ _ (review_takes bytes what rest fits)
+    (picked number 18 bytes what rest _ _ (decided_takes bytes what rest fits)
+    (λ no. absurd (let none : None ≡ Some (what, rest) = no in cc))))))))))))))))))) e
 
 addition_again : (f : Addition) (rest : List ℕ) → FitsAddition f → addition_at (addition_bytes f ++ rest) ≡ Some (addition f, rest)
 unfolding addition_at
@@ -368,6 +383,14 @@ unfolding dropped_measurement_at
 dropped_measurement_again n rest fits =
     made_again ℕ What dropped_measurement (number_at w32) (to_le_bytes w32) (λ n. n < 2 ^ 32) number32_reads n rest fits
 
+review_again : (f : Reviewed) (rest : List ℕ) → FitsReviewed f → review_at (reviewed_bytes f ++ rest) ≡ Some (review f, rest)
+unfolding review_at
+review_again f rest fits = made_again Reviewed What review reviewed_parts reviewed_bytes FitsReviewed reviewed_reads f rest fits
+
+decided_again : (f : Judged) (rest : List ℕ) → FitsJudged f → decided_at (judged_bytes f ++ rest) ≡ Some (decided f, rest)
+unfolding decided_at
+decided_again f rest fits = made_again Judged What decided judged_parts judged_bytes FitsJudged judged_reads f rest fits
+
 addition_back : (f : Addition) (rest : List ℕ) → FitsAddition f → fields_at 1 (fields (addition f) ++ rest) ≡ Some (addition f, rest)
 unfolding fields_at
 addition_back f rest fits =
@@ -436,6 +459,14 @@ dropped_measurement_back : (n : ℕ) (rest : List ℕ) → n < 2 ^ 32 → fields
 unfolding fields_at
 dropped_measurement_back n rest fits = dropped_measurement_again n rest fits
 
+review_back : (f : Reviewed) (rest : List ℕ) → FitsReviewed f → fields_at 17 (fields (review f) ++ rest) ≡ Some (review f, rest)
+unfolding fields_at
+review_back f rest fits = review_again f rest fits
+
+decided_back : (f : Judged) (rest : List ℕ) → FitsJudged f → fields_at 18 (fields (decided f) ++ rest) ≡ Some (decided f, rest)
+unfolding fields_at
+decided_back f rest fits = decided_again f rest fits
+
 stamp_fits : (at : ℤ) → IsStamp at → FitsSigned w64 at
 stamp_fits at stamp = omega (arith, ints)
 
@@ -477,3 +508,7 @@ fields_again (PutMeasurement m) rest put =
     measurement_back (m.number, (m.at, (m.gage, (m.discharge, m.grade)))) rest
     (omega (arith, put.numbered.greatest), (stamp_fits m.at put.stamp, (stage_fits m.gage put.gage, (discharge_fits m.discharge put.discharge, tt))))
 fields_again (DropMeasurement number) rest law = dropped_measurement_back number rest (omega (arith, law.greatest))
+fields_again (Review from to) rest span =
+    review_back (from, to) rest (day_fits from span.begins, day_fits to span.ends)
+fields_again (Decide from to decision) rest span =
+    decided_back (from, (to, decision)) rest (day_fits from span.begins, (day_fits to span.ends, tt))

@@ -1,5 +1,5 @@
 -- The laws of the spelling: lengths, bytes, and that no record begins another.
-use Rattle.std.proofs.Common.{◌≡◌, ℕ, ◌^◌, ◌<◌, ◌≤◌, ◌%◌, ◌/◌, List, true, ◌||◌, get_or, [], ◌∷◌, ◌++◌, length, take, drop, Option, Some, None, refl, sym, ap, subst, ◌∙◌, length-append, arith, w64}
+use Rattle.std.proofs.Common.{◌≡◌, ℕ, ◌+◌, ◌^◌, ◌<◌, ◌≤◌, ◌%◌, ◌/◌, List, true, ◌||◌, get_or, [], ◌∷◌, ◌++◌, length, take, drop, Option, Some, None, refl, sym, ap, subst, ◌∙◌, length-append, arith, w64}
 use Rattle.std.specs.Prelude.{ℤ, Bool, false, All, ◌==◌, flat_map}
 use Rattle.std.specs.Int.{w32, to_le_bytes, cast_unsigned}
 use Rattle.std.specs.List.{list_all}
@@ -8,27 +8,32 @@ use Rattle.std.proofs.lemmas.Bool.Decides.{nat_tests}
 use Rattle.std.proofs.lemmas.List.{take_at, drop_at}
 use Rattle.std.proofs.lemmas.List.Concat.{flat_map-cons}
 use Rattle.std.proofs.lemmas.List.Sums.{AllPass-from_list_all}
-use Rattle.std.proofs.lemmas.List.Elements.{All-nil, All-cons, All-append}
+use Rattle.std.proofs.lemmas.List.Elements.{All-nil, All-cons, All-append, All-head, All-tail}
+use Rattle.edits.specs.Decisions.{decision_number}
 use Rattle.edits.specs.Grades.{grade_number}
 use Rattle.edits.specs.Lawful.{IsLawful}
 use Rattle.edits.specs.Texts.{is_letter, is_digit, is_printed, AreInitials, IsReference, IsName}
 use Rattle.edits.specs.declared.content.What.{What}
-use Rattle.edits.specs.declared.content.What.TheVariants.{AddStation, SetStation, PutReadings, DropReadings, FlagReadings, PutCorrection, DropCorrection, PutShift, DropShift, AddRating, PutPeriod, DropPeriod, PutEstimate, DropEstimate, PutMeasurement, DropMeasurement}
+use Rattle.edits.specs.declared.content.What.TheVariants.{AddStation, SetStation, PutReadings, DropReadings, FlagReadings, PutCorrection, DropCorrection, PutShift, DropShift, AddRating, PutPeriod, DropPeriod, PutEstimate, DropEstimate, PutMeasurement, DropMeasurement, Review, Decide}
+use Rattle.edits.specs.declared.decisions.Decision.TheVariants.{Approve}
 use Rattle.edits.specs.declared.measurements.Measurement.{Measurement}
 use Rattle.fixed_units.specs.Quantities.{SiteNumber, IsSite}
 use Rattle.fixed_units.specs.RoundingArray.{IsRoundingArray}
 use Rattle.fixed_units.specs.declared.readings.Flag.{Flag}
 use Rattle.fixed_units.specs.declared.readings.Flag.TheVariants.{Usable, Erroneous, Affected}
 use Rattle.fixed_units.specs.declared.readings.Reading.{Reading}
-use Rattle.records.specs.Payloads.{short_text, signed_number, site_number, flag_number, reading_bytes, point_bytes, curve_bytes, mark_number, entry_bytes, table_bytes, end_bytes, day_number, measurement_bytes, kind, fields, longest_fields, longest_payload, payload, encoded, IsInGrammar}
-use Rattle.records.specs.Reading.{number_at}
-use Rattle.records.specs.declared.payloads.Record.{Record}
+use Rattle.records.specs.Payloads.{short_text, signed_number, site_number, flag_number, reading_bytes, point_bytes, curve_bytes, mark_number, entry_bytes, table_bytes, end_bytes, day_number, measurement_bytes, kind, fields, edit_bytes, sheet_bytes, longest_fields, longest_payload, payload, encoded, IsInGrammar}
+use Rattle.records.specs.Parsing.{number_at}
+use Rattle.records.specs.Sheets.{AreSheetsOf}
+use Rattle.records.specs.Sheets.{Record}
 use Rattle.records.proofs.Fields.{some_is, wide32, number_again}
 use Rattle.records.proofs.CurveLemmas.{length-entry}
 use Rattle.records.proofs.MeasurementLemmas.{grade_byte, length-measurement}
 use Rattle.records.proofs.PutLemmas.{length-readings}
 use Rattle.records.proofs.RatingLemmas.{length-table, period_within}
 use Rattle.records.proofs.Records.{one_record}
+use Rattle.records.proofs.ReviewLemmas.{decision_byte}
+use Rattle.records.proofs.SheetLemmas.{few_sheets, length-sheets}
 
 -- ---- lengths
 
@@ -62,14 +67,24 @@ few_fields (PutEstimate estimate) law = omega arith
 few_fields (DropEstimate day) law = omega arith
 few_fields (PutMeasurement m) law = omega (arith, length-measurement m)
 few_fields (DropMeasurement number) law = omega arith
+few_fields (Review from to) law = omega arith
+few_fields (Decide from to decision) law = omega arith
 
-pub few_bytes : (piece : Record) → IsInGrammar piece.edit → length (payload piece) ≤ longest_payload
+-- the fields and the sheets behind them
+few_behind : (what : What) (sheets : List (List ℕ)) → IsLawful what → AreSheetsOf what sheets → length (fields what) + length (flat_map sheet_bytes sheets) ≤ longest_fields
+few_behind (Decide from to Approve) sheets law are =
+    omega (arith, length-sheets sheets are.each, few_sheets (Decide from to Approve) sheets law are)
+few_behind what sheets law none =
+    omega (arith, few_fields what law, ap (λ (s : List (List ℕ)). length (flat_map sheet_bytes s)) none)
+
+pub few_bytes : (piece : Record) → IsInGrammar piece → length (payload piece) ≤ longest_payload
 few_bytes piece g =
     let e = piece.edit in
     let a = length-append (short_text e.by) (short_text e.reference) in
     let b = length-append (short_text e.by ++ short_text e.reference) (site_number e.site) in
     let c = length-append (short_text e.by ++ short_text e.reference ++ site_number e.site) (fields e.what) in
-    omega (arith, a, b, c, few_fields e.what e.lawful, g.initials.longest, g.code.longest)
+    let d = length-append (edit_bytes e) (flat_map sheet_bytes piece.sheets) in
+    omega (arith, a, b, c, d, few_behind e.what piece.sheets e.lawful g.sheets, g.initials.longest, g.code.longest)
 
 -- ---- bytes
 
@@ -201,6 +216,19 @@ fields_are_bytes (PutEstimate estimate) law =
 fields_are_bytes (DropEstimate day) law = bytes_32 (cast_unsigned w32 day)
 fields_are_bytes (PutMeasurement m) law = measurement_is_bytes m
 fields_are_bytes (DropMeasurement number) law = bytes_32 number
+fields_are_bytes (Review from to) law =
+    All-append is_byte (day_number from) (day_number to) (bytes_32 (cast_unsigned w32 from)) (bytes_32 (cast_unsigned w32 to))
+fields_are_bytes (Decide from to decision) law =
+    All-append is_byte (day_number from) (day_number to ++ decision_number decision ∷ []) (bytes_32 (cast_unsigned w32 from))
+    (All-append is_byte (day_number to) (decision_number decision ∷ []) (bytes_32 (cast_unsigned w32 to)) (All-cons is_byte (decision_number decision) [] (decision_byte decision) (All-nil is_byte)))
+
+sheets_are_bytes : (sheets : List (List ℕ)) → All (All is_byte) sheets → All is_byte (flat_map sheet_bytes sheets)
+sheets_are_bytes [] each = All-nil is_byte
+sheets_are_bytes (sheet ∷ sheets) each =
+    subst (λ (t : List ℕ). All is_byte t) (sym (flat_map-cons sheet_bytes sheet sheets))
+    (All-append is_byte (sheet_bytes sheet) (flat_map sheet_bytes sheets)
+    (All-append is_byte (to_le_bytes w32 (length sheet)) sheet (bytes_32 (length sheet)) (All-head (All is_byte) sheet sheets each))
+    (sheets_are_bytes sheets (All-tail (All is_byte) sheet sheets each)))
 
 kind_byte : (what : What) → kind what < 256
 kind_byte (AddStation name zone gap stages discharges) = omega arith
@@ -219,18 +247,21 @@ kind_byte (PutEstimate estimate) = omega arith
 kind_byte (DropEstimate day) = omega arith
 kind_byte (PutMeasurement measurement) = omega arith
 kind_byte (DropMeasurement number) = omega arith
+kind_byte (Review from to) = omega arith
+kind_byte (Decide from to decision) = omega arith
 
-payload_bytes : (piece : Record) → IsInGrammar piece.edit → All is_byte (payload piece)
-payload_bytes piece g =
+payload_bytes : (piece : Record) → IsInGrammar piece → All (All is_byte) piece.sheets → All is_byte (payload piece)
+payload_bytes piece g texts =
     let e = piece.edit in
     let first = All-cons is_byte (kind e.what) (short_text e.by) (kind_byte e.what) (by_bytes e.by g.initials) in
     let a = All-append is_byte (kind e.what ∷ short_text e.by) (short_text e.reference) first (reference_bytes e.reference g.code) in
     let b = All-append is_byte (kind e.what ∷ short_text e.by ++ short_text e.reference) (site_number e.site) a (site_bytes e.site g.station) in
-    All-append is_byte (kind e.what ∷ short_text e.by ++ short_text e.reference ++ site_number e.site) (fields e.what) b (fields_are_bytes e.what e.lawful)
+    let c = All-append is_byte (kind e.what ∷ short_text e.by ++ short_text e.reference ++ site_number e.site) (fields e.what) b (fields_are_bytes e.what e.lawful) in
+    All-append is_byte (edit_bytes e) (flat_map sheet_bytes piece.sheets) c (sheets_are_bytes piece.sheets texts)
 
-pub encoded_bytes : (piece : Record) → IsInGrammar piece.edit → All is_byte (encoded piece)
-encoded_bytes piece g =
-    All-append is_byte (to_le_bytes w32 (length (payload piece))) (payload piece) (bytes_32 (length (payload piece))) (payload_bytes piece g)
+pub encoded_bytes : (piece : Record) → IsInGrammar piece → All (All is_byte) piece.sheets → All is_byte (encoded piece)
+encoded_bytes piece g texts =
+    All-append is_byte (to_le_bytes w32 (length (payload piece))) (payload piece) (bytes_32 (length (payload piece))) (payload_bytes piece g texts)
 
 -- ---- none begins another
 
@@ -253,7 +284,7 @@ prefix_free p q x y short-p short-q e =
       sym (drop_at p x (length p) refl) ∙ rests ∙ drop_at q y (length p) (sym same.0),
     )
 
-pub no_prefix : (a b : Record) (x y : List ℕ) → IsInGrammar a.edit → IsInGrammar b.edit → encoded a ++ x ≡ encoded b ++ y → (a ≡ b) × (x ≡ y)
+pub no_prefix : (a b : Record) (x y : List ℕ) → IsInGrammar a → IsInGrammar b → encoded a ++ x ≡ encoded b ++ y → (a ≡ b) × (x ≡ y)
 no_prefix a b x y g h e =
     let fits-a : length (payload a) < 2 ^ 32 = omega (arith, few_bytes a g) in
     let fits-b : length (payload b) < 2 ^ 32 = omega (arith, few_bytes b h) in

@@ -8,4 +8,6 @@ pub mod PieceLemmas
 pub mod PutLemmas
 pub mod RatingLemmas
 pub mod Records
+pub mod ReviewLemmas
 pub mod RowLemmas
+pub mod SheetLemmas

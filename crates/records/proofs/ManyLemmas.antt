@@ -4,7 +4,7 @@ use Rattle.std.specs.Prelude.{All, flat_map}
 use Rattle.std.specs.Int.{w32, to_le_bytes}
 use Rattle.std.proofs.lemmas.List.Concat.{flat_map-cons}
 use Rattle.std.proofs.lemmas.List.Elements.{All-head, All-tail}
-use Rattle.records.specs.Reading.{◌>>=◌, number_at, many_at}
+use Rattle.records.specs.Parsing.{◌>>=◌, number_at, many_at}
 use Rattle.records.proofs.Fields.{IsBytes, bind_some, some_is, Takes, Takes-then, Reads, wide32, number_takes, number_again}
 
 pub none_many : {A : Type 0} (read : List ℕ → Option (A × List ℕ)) (bytes : List ℕ) → many_at read 0 bytes ≡ Some ([], bytes)

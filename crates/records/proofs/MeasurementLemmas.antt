@@ -8,7 +8,7 @@ use Rattle.edits.specs.declared.measurements.Measurement.{Measurement}
 use Rattle.edits.specs.declared.measurements.Grade.{Grade}
 use Rattle.edits.specs.declared.measurements.Grade.TheVariants.{Excellent, Good, Fair, Poor}
 use Rattle.records.specs.Payloads.{signed_number, day_number, measurement_bytes}
-use Rattle.records.specs.Reading.{◌>>=◌, both_at, byte_at, number_at, signed_number_at, day_at, grade_at}
+use Rattle.records.specs.Parsing.{◌>>=◌, both_at, byte_at, number_at, signed_number_at, day_at, grade_at}
 use Rattle.records.proofs.Fields.{IsBytes, bind_some, some_is, Takes, Reads, IsAny, both_reads, wide32, byte_takes, byte_again, number_reads, signed_reads, day_reads}
 use Rattle.records.proofs.CurveLemmas.{which}
 

@@ -6,7 +6,7 @@ use Rattle.std.proofs.lemmas.List.Elements.{All-map}
 use Rattle.rising.specs.Lists.{IsRising}
 use Rattle.edits.specs.Lawful.{ArePutReadings, IsPutReading, most_readings}
 use Rattle.edits.proofs.ReadingLemmas.{follows, follows_told}
-use Rattle.records.specs.Reading.{reading_in, readings_in}
+use Rattle.records.specs.Parsing.{reading_in, readings_in}
 
 abbrev pub instant_in : List ℕ → ℤ
 instant_in piece = (reading_in piece).at

@@ -14,7 +14,7 @@ use Rattle.fixed_units.specs.declared.readings.Flag.{Flag}
 use Rattle.fixed_units.specs.declared.readings.Flag.TheVariants.{Usable, Erroneous, Affected}
 use Rattle.fixed_units.specs.declared.readings.Reading.{Reading}
 use Rattle.records.specs.Payloads.{signed_number, flag_number, reading_bytes}
-use Rattle.records.specs.Reading.{◌>>=◌, both_at, byte_at, signed_number_at, many_at, flag_of, flag_at, reading, reading_at, readings_at, number_in, reading_in, readings_in}
+use Rattle.records.specs.Parsing.{◌>>=◌, both_at, byte_at, signed_number_at, many_at, flag_of, flag_at, reading, reading_at, readings_at, number_in, reading_in, readings_in}
 use Rattle.records.proofs.Fields.{IsBytes, bind_some, some_is, Takes, Reads, IsAny, both_reads, made_takes, made_again, byte_takes, byte_again, signed_reads}
 use Rattle.records.proofs.CurveLemmas.{which}
 use Rattle.records.proofs.ManyLemmas.{none_many, next_many, behind, many_take, counted_bytes, FitsCounted, counted_reads}

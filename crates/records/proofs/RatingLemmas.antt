@@ -10,7 +10,7 @@ use Rattle.fixed_units.specs.Quantities.{IsStamp}
 use Rattle.rating_tables.specs.Table.{Row, IsRating}
 use Rattle.ratings.specs.Spans.{Span}
 use Rattle.records.specs.Payloads.{signed_number, point_bytes, table_bytes, mark_number, end_bytes, period_bytes}
-use Rattle.records.specs.Reading.{both_at, number_at, signed_number_at, made_at, point_at, points_at, table_at, row_in, rows_in, mark_at, end_at}
+use Rattle.records.specs.Parsing.{both_at, number_at, signed_number_at, made_at, point_at, points_at, table_at, row_in, rows_in, mark_at, end_at}
 use Rattle.records.proofs.Fields.{IsBytes, bind_some, some_is, Takes, Takes-then, Reads, both_reads, made_takes, made_again, wide32, number_reads, signed_reads}
 use Rattle.records.proofs.CurveLemmas.{FitsPoint, point_reads, points_take, no_points, next_points, length-curve, mark_reads, mark_again}
 use Rattle.records.proofs.ManyLemmas.{FitsCounted, counted_reads}

@@ -11,7 +11,7 @@ use Rattle.rising.proofs.Parting.{lt_yes, le_yes, yes_lt, yes_le}
 use Rattle.rating_tables.specs.declared.table.TheConstants.{LEAST_ROWS, MOST_ROWS}
 use Rattle.rating_tables.specs.Table.{Row, IsInOrder, IsRating, IsRatingRow, IsTable, is_off_count, order_fault, table_fault}
 use Rattle.rating_tables.proofs.TableLemmas.{IsBehind, in_order_step}
-use Rattle.records.specs.Reading.{row_in, rows_in}
+use Rattle.records.specs.Parsing.{row_in, rows_in}
 
 -- ---- order
 

@@ -1,22 +1,24 @@
 -- The parts of a payload that is a record's.
-use Rattle.std.specs.Prelude.{◌≡◌}
+use Rattle.std.specs.Prelude.{◌≡◌, ℕ, List, length, flat_map, All}
 use Rattle.edits.specs.Lawful.{IsLawful}
 use Rattle.edits.specs.Texts.{AreInitials, IsReference}
 use Rattle.edits.specs.declared.content.What.{What}
-use Rattle.edits.specs.declared.content.What.TheVariants.{AddStation, SetStation, PutReadings, DropReadings, FlagReadings, PutCorrection, DropCorrection, PutShift, DropShift, AddRating, PutPeriod, DropPeriod, PutEstimate, DropEstimate, PutMeasurement, DropMeasurement}
+use Rattle.edits.specs.declared.content.What.TheVariants.{AddStation, SetStation, PutReadings, DropReadings, FlagReadings, PutCorrection, DropCorrection, PutShift, DropShift, AddRating, PutPeriod, DropPeriod, PutEstimate, DropEstimate, PutMeasurement, DropMeasurement, Review, Decide}
 use Rattle.edits.specs.declared.estimates.Estimate.{Estimate}
 use Rattle.edits.specs.declared.measurements.Measurement.{Measurement}
 use Rattle.fixed_units.specs.Quantities.{IsSite}
 use Rattle.ratings.specs.Spans.{Span}
-use Rattle.records.specs.Reading.{Parts, readings_in, rows_in}
+use Rattle.records.specs.Parsing.{Parts, readings_in, rows_in}
 use Rattle.records.specs.declared.drafts.Draft.{Draft}
 use Rattle.records.specs.declared.drafts.Fields.{Fields}
-use Rattle.records.specs.declared.drafts.Fields.TheVariants.{Addition, Setting, Put, DroppedSpan, FlaggedSpan, Correction, DroppedCorrection, Shift, DroppedShift, Rating, Period, DroppedPeriod, DroppedEstimate, DroppedMeasurement}
+use Rattle.records.specs.declared.drafts.Fields.TheVariants.{Addition, Setting, Put, DroppedSpan, FlaggedSpan, Correction, DroppedCorrection, Shift, DroppedShift, Rating, Period, DroppedPeriod, DroppedEstimate, DroppedMeasurement, Decided}
 use Rattle.records.specs.declared.drafts.Fields.TheVariants as fields
 use Rattle.records.specs.declared.estimate_drafts.EstimateDraft.{EstimateDraft}
 use Rattle.records.specs.declared.measurement_drafts.MeasurementDraft.{MeasurementDraft}
 use Rattle.records.specs.declared.period_drafts.PeriodDraft.{PeriodDraft}
-use Rattle.records.specs.declared.payloads.Record.{Record}
+use Rattle.records.specs.Payloads.{sheet_bytes}
+use Rattle.records.specs.Sheets.{IsSheet, AreSheetsOf}
+use Rattle.records.specs.Sheets.{Record}
 
 -- the period that a draft is
 abbrev pub span_of : PeriodDraft → Span
@@ -49,18 +51,34 @@ what_of (fields.Estimate draft) = PutEstimate (estimated draft)
 what_of (DroppedEstimate day) = DropEstimate day
 what_of (fields.Measurement draft) = PutMeasurement (measured draft)
 what_of (DroppedMeasurement number) = DropMeasurement number
+what_of (fields.Review from to) = Review from to
+what_of (Decided from to decision) = Decide from to decision
 
 -- the parts that a draft lends
 abbrev pub parts : Draft → Parts
 parts d =
-    record { by = d.by.now; reference = d.reference.now; site = record { digits = d.digits; value = d.value }; what = what_of d.fields }
+    record { by = d.by.now; reference = d.reference.now; site = record { digits = d.digits; value = d.value }; what = what_of d.fields; behind = d.behind.now }
 
--- each part keeps to its range
+-- the bytes are so many sheets
+pub record AreSheets (count : ℕ) (bytes : List ℕ) : Type 0 where
+  pub sheets : List (List ℕ)
+  pub bytes_are : bytes ≡ flat_map sheet_bytes sheets
+  pub so_many : length sheets ≡ count
+  pub each : All IsSheet sheets
+
+-- the bytes are the sheets of this edit
+pub record HasSheets (what : What) (bytes : List ℕ) : Type 0 where
+  pub sheets : List (List ℕ)
+  pub bytes_are : bytes ≡ flat_map sheet_bytes sheets
+  pub are : AreSheetsOf what sheets
+
+-- each part keeps to its range, and its sheets stand behind it
 pub record AreLawful (p : Parts) : Type 0 where
   pub by_range : AreInitials p.by
   pub reference_range : IsReference p.reference
   pub site_range : IsSite p.site
   pub what_range : IsLawful p.what
+  pub sheets_behind : HasSheets p.what p.behind
 
 -- the record has these parts
 pub record HasParts (piece : Record) (p : Parts) : Type 0 where
@@ -68,3 +86,5 @@ pub record HasParts (piece : Record) (p : Parts) : Type 0 where
   pub reference_is : piece.edit.reference ≡ p.reference
   pub site_is : piece.edit.site ≡ p.site
   pub what_is : piece.edit.what ≡ p.what
+  pub sheets_are : p.behind ≡ flat_map sheet_bytes piece.sheets
+  pub sheets_kept : AreSheetsOf piece.edit.what piece.sheets

@@ -1,3 +1,4 @@
+pub mod Sheets
 pub mod Payloads
-pub mod Reading
+pub mod Parsing
 pub mod Drafts

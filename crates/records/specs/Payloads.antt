@@ -1,11 +1,12 @@
 -- The bytes of a record, one spelling for each. Numbers stand with their lowest byte first.
 use Rattle.std.specs.Prelude.{ℕ, Bool, true, false, List, [], ◌∷◌, ◌++◌, length, flat_map, Option, Some, None, ℤ}
 use Rattle.std.specs.Int.{w32, w64, to_le_bytes, cast_unsigned}
+use Rattle.edits.specs.Decisions.{decision_number}
 use Rattle.edits.specs.Grades.{grade_number}
 use Rattle.edits.specs.Texts.{AreInitials, IsReference}
 use Rattle.edits.specs.declared.content.Edit.{Edit}
 use Rattle.edits.specs.declared.content.What.{What}
-use Rattle.edits.specs.declared.content.What.TheVariants.{AddStation, SetStation, PutReadings, DropReadings, FlagReadings, PutCorrection, DropCorrection, PutShift, DropShift, AddRating, PutPeriod, DropPeriod, PutEstimate, DropEstimate, PutMeasurement, DropMeasurement}
+use Rattle.edits.specs.declared.content.What.TheVariants.{AddStation, SetStation, PutReadings, DropReadings, FlagReadings, PutCorrection, DropCorrection, PutShift, DropShift, AddRating, PutPeriod, DropPeriod, PutEstimate, DropEstimate, PutMeasurement, DropMeasurement, Review, Decide}
 use Rattle.edits.specs.declared.estimates.Estimate.{Estimate}
 use Rattle.edits.specs.declared.measurements.Measurement.{Measurement}
 use Rattle.fixed_units.specs.Quantities.{SiteNumber, IsSite}
@@ -14,7 +15,7 @@ use Rattle.fixed_units.specs.declared.readings.Flag.TheVariants.{Usable, Erroneo
 use Rattle.fixed_units.specs.declared.readings.Reading.{Reading}
 use Rattle.rating_tables.specs.Table.{Row}
 use Rattle.ratings.specs.Spans.{Span}
-use Rattle.records.specs.declared.payloads.Record.{Record}
+use Rattle.records.specs.Sheets.{AreSheetsOf, Record}
 
 -- a byte of length, and that many bytes
 abbrev pub short_text : List ℕ → List ℕ
@@ -94,6 +95,8 @@ kind (PutEstimate estimate) = 13
 kind (DropEstimate day) = 14
 kind (PutMeasurement measurement) = 15
 kind (DropMeasurement number) = 16
+kind (Review from to) = 17
+kind (Decide from to decision) = 18
 
 -- the fields of each kind
 abbrev pub fields : What → List ℕ
@@ -115,13 +118,20 @@ fields (PutEstimate estimate) = estimate_bytes estimate
 fields (DropEstimate day) = day_number day
 fields (PutMeasurement measurement) = measurement_bytes measurement
 fields (DropMeasurement number) = to_le_bytes w32 number
+fields (Review from to) = day_number from ++ day_number to
+fields (Decide from to decision) = day_number from ++ (day_number to ++ decision_number decision ∷ [])
 
 -- an edit: its kind, who makes it, under which reference, of which station, and the fields of its kind
 abbrev pub edit_bytes : Edit → List ℕ
 edit_bytes edit = kind edit.what ∷ short_text edit.by ++ short_text edit.reference ++ site_number edit.site ++ fields edit.what
 
+-- a sheet: its length in four bytes, and its bytes
+abbrev pub sheet_bytes : List ℕ → List ℕ
+sheet_bytes sheet = to_le_bytes w32 (length sheet) ++ sheet
+
+-- a payload: the edit, and behind it the sheets of an approval
 abbrev pub payload : Record → List ℕ
-payload piece = edit_bytes piece.edit
+payload piece = edit_bytes piece.edit ++ flat_map sheet_bytes piece.sheets
 
 -- a payload has at most so many bytes
 abbrev pub most_payload : ℕ
@@ -145,8 +155,10 @@ closed_gate = 0
 abbrev pub encoded_and_closed : Record → List ℕ
 encoded_and_closed piece = encoded piece ++ closed_gate ∷ []
 
--- an edit in the grammar: each of its parts keeps to its range; what it changes is lawful, as with every edit
-pub record IsInGrammar (edit : Edit) : Type 0 where
-  pub initials : AreInitials edit.by
-  pub code : IsReference edit.reference
-  pub station : IsSite edit.site
+-- a record in the grammar: each part of its edit keeps to its range, what that changes is lawful, as with every edit, and the record has
+-- the sheets that it has to have
+pub record IsInGrammar (piece : Record) : Type 0 where
+  pub initials : AreInitials piece.edit.by
+  pub code : IsReference piece.edit.reference
+  pub station : IsSite piece.edit.site
+  pub sheets : AreSheetsOf piece.edit.what piece.sheets

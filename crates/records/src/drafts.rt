@@ -17,10 +17,14 @@ use crate::estimate_drafts::{
 use crate::measurement_drafts::{MeasurementDraft, is_measurement, put_measurement_from};
 use crate::payloads::Record;
 use crate::period_drafts::{PeriodDraft, dropped_period_from, is_period, put_period_from};
-use crate::put_drafts::{are_put_pieces, dropped_span_from, flagged_span_from, is_span, put_from};
 use crate::rating_drafts::{are_rating_rows, rating_from};
+use crate::reading_drafts::{
+    are_put_pieces, dropped_span_from, flagged_span_from, is_span, put_from,
+};
+use crate::review_drafts::{decided_from, is_review, review_from};
+use crate::sheet_drafts::{has_sheets, sheets_from};
 use edits::{
-    By, Edit, Name, Ref, What, are_settings, is_measurement_number, is_rating_number,
+    By, Decision, Edit, Name, Ref, What, are_settings, is_measurement_number, is_rating_number,
     is_set_number, is_zone,
 };
 use fixed_units::{Day, Flag, NoMemory, RoundingArray, Site, Text, is_stamp};
@@ -34,6 +38,8 @@ pub(crate) struct Draft<'a> {
     pub(crate) digits: u8,
     pub(crate) value: u64,
     pub(crate) fields: Fields<'a>,
+    /// The bytes behind the fields: the sheets of an approval, and else none.
+    pub(crate) behind: &'a [u8],
 }
 
 /// The fields of each kind of edit.
@@ -106,14 +112,25 @@ pub(crate) enum Fields<'a> {
     DroppedMeasurement {
         number: u32,
     },
+    /// A review of the days from one to another.
+    Review {
+        from: i32,
+        to: i32,
+    },
+    /// A decision on the days from one to another.
+    Decided {
+        from: i32,
+        to: i32,
+        decision: Decision,
+    },
 }
 
-/// Whether each part keeps to its range. `NoMemory` comes only where each does.
+/// Whether each part keeps to its range, with the sheets that belong to them behind. `NoMemory` comes only where it is so.
 pub(crate) fn is_lawful(alloc: Global, draft: &Draft<'_>) -> Result<bool, NoMemory>
     ensures told { IfOk result (λ lawful. lawful ≡ true ↔ AreLawful (parts draft.now)) }
     ensures memory { OnErr result (AreLawful (parts draft.now)) }
 {
-    if !is_sender(draft) {
+    if !is_sender(draft) || !has_sheets(&draft.fields, draft.behind) {
         return Ok(false);
     }
     are_lawful(alloc, &draft.fields)
@@ -161,6 +178,8 @@ fn are_lawful(alloc: Global, fields: &Fields<'_>) -> Result<bool, NoMemory>
         Fields::DroppedEstimate { day } => Ok(Day::new(*day).is_some()),
         Fields::Measurement(measurement) => Ok(is_measurement(measurement)),
         Fields::DroppedMeasurement { number } => Ok(is_measurement_number(*number)),
+        Fields::Review { from, to } => Ok(is_review(*from, *to)),
+        Fields::Decided { from, to, .. } => Ok(is_review(*from, *to)),
     }
 }
 
@@ -188,14 +207,14 @@ pub(crate) fn record_from(alloc: Global, draft: &Draft<'_>) -> Result<Record, No
     ensures { IfOk result (λ piece. HasParts piece (parts draft.now)) }
 {
     let what = what_from(alloc, &draft.fields)?;
-    Ok(Record {
-        edit: Edit {
-            by: By::new(draft.by).unwrap(),
-            reference: Ref::new(draft.reference).unwrap(),
-            site: Site::new(draft.digits, draft.value).unwrap(),
-            what,
-        },
-    })
+    let sheets = sheets_from(alloc, &draft.fields, draft.behind)?;
+    let edit = Edit {
+        by: By::new(draft.by).unwrap(),
+        reference: Ref::new(draft.reference).unwrap(),
+        site: Site::new(draft.digits, draft.value).unwrap(),
+        what,
+    };
+    Ok(Record::of(edit, sheets))
 }
 
 /// What an edit of these fields changes.
@@ -231,6 +250,8 @@ fn what_from(alloc: Global, fields: &Fields<'_>) -> Result<What, NoMemory>
         Fields::DroppedEstimate { day } => Ok(dropped_estimate_from(*day)),
         Fields::Measurement(measurement) => Ok(put_measurement_from(measurement)),
         Fields::DroppedMeasurement { number } => Ok(What::DropMeasurement { number: *number }),
+        Fields::Review { from, to } => Ok(review_from(*from, *to)),
+        Fields::Decided { from, to, decision } => Ok(decided_from(*from, *to, *decision)),
     }
 }
 
@@ -279,9 +300,16 @@ fn name_from(alloc: Global, bytes: &[u8]) -> Result<Name, NoMemory>
     requires { IsName bytes.now }
     ensures { IfOk result (λ name. name ≡ bytes.now) }
 {
+    Ok(Name::new(text_from(alloc, bytes)?).unwrap())
+}
+
+/// The text of these bytes.
+pub(crate) fn text_from(alloc: Global, bytes: &[u8]) -> Result<Text, NoMemory>
+    ensures { IfOk result (λ text. text ≡ bytes.now) }
+{
     let mut text = Text::new(alloc);
     text.push_slice(bytes)?;
-    Ok(Name::new(text).unwrap())
+    Ok(text)
 }
 
 fn array_from(bytes: &[u8]) -> RoundingArray

@@ -1,20 +1,29 @@
-//! The bytes of accepted edits in the journal.
+//! The bytes of accepted edits in the journal, and of the sheets of approvals.
 #![tactic(auto)]
 
+pub mod codec;
 mod drafts;
 mod entry_drafts;
 mod estimate_drafts;
 pub mod laws;
+pub mod lengths;
 mod measurement_drafts;
-mod measurement_reading;
+mod measurement_parsing;
+mod number_writing;
+mod parsing;
 pub mod payloads;
 mod period_drafts;
-mod put_drafts;
-mod put_reading;
 mod rating_drafts;
-mod rating_reading;
-mod reading;
-pub mod writing;
+mod rating_parsing;
+mod reading_drafts;
+mod reading_parsing;
+mod review_drafts;
+mod review_parsing;
+mod sheet_drafts;
+pub mod sheets;
+mod writing;
 
-pub use payloads::{DecodeFault, Record, decode, encode, encode_and_close};
-pub use writing::edit_len;
+pub use codec::{decode, encode, encode_and_close};
+pub use lengths::{edit_len, record_len};
+pub use payloads::{DecodeFault, Record};
+pub use sheets::{SheetList, are_sheets_of};

@@ -1,26 +1,76 @@
-//! The bytes of a record in the journal, both ways.
+//! What the journal keeps of an accepted edit, and why bytes are no record.
 
-ghost use Rattle.std.specs.Prelude.{◌≡◌, ◌≢◌, IfOk, IfSome, IfNone, Err};
-ghost use Rattle.records.specs.Drafts.{parts, AreLawful};
-ghost use Rattle.records.specs.Payloads.{IsInGrammar, payload, encoded, encoded_and_closed};
-ghost use Rattle.records.specs.declared.payloads.Record.{Record};
+ghost use Rattle.std.specs.Prelude.{◌≡◌, ◌↔◌, IfSome, IsSome};
+ghost use Rattle.records.specs.Sheets.{AreSheetsOf};
 
-use crate::drafts::{is_lawful, record_from};
-use crate::reading::draft_of;
-use crate::writing::{edit_len, put_edit};
+use crate::sheets::{SheetList, are_sheets_of};
 use edits::Edit;
-use fixed_units::{NoMemory, Text};
-use std::alloc::Global;
+use std::marker::Model;
 use thiserror::Error;
-
-/// The gate behind the last record of a journal.
-const CLOSED_GATE: u8 = 0;
 
 /// What the journal keeps of an accepted edit.
 #[derive(Debug, Drop)]
 pub struct Record {
+    edit: Edit,
+    sheets: SheetList,
+}
+
+impl Model for Record {
+    ghost use Rattle.edits.specs.contracts.content.Edit as one_edit;
+    ghost use Rattle.records.specs.Sheets.{AreSheetsOf, Record};
+    ghost use Rattle.std.specs.Coded.{codes};
+
+    ghost Value = { Record };
+
+    ghost coded = { Prim.hlevel (codes, one_edit.the_row.coded) };
+
+    ghost view = { λ r. record { edit = r.edit; sheets = r.sheets } };
+
+    ghost invariant = { λ r. AreSheetsOf r.edit.what r.sheets };
+}
+
+impl Record {
+    /// The record of an edit and its sheets, or `None` exactly where they are not those that it has to have.
+    pub fn new(edit: Edit, sheets: SheetList) -> Option<Record>
+        ensures parts { IfSome result (λ piece. (piece.edit ≡ edit) × (piece.sheets ≡ sheets)) }
+        ensures told { IsSome result ↔ AreSheetsOf edit.what sheets }
+    {
+        if are_sheets_of(&edit.what, &sheets) {
+            Some(Record { edit, sheets })
+        } else {
+            None
+        }
+    }
+
+    /// The record of an edit and its sheets.
+    pub(crate) fn of(edit: Edit, sheets: SheetList) -> Record
+        requires { AreSheetsOf edit.what sheets }
+        ensures { result ≡ record { edit = edit; sheets = sheets } }
+    {
+        Record { edit, sheets }
+    }
+
     /// The edit.
-    pub edit: Edit,
+    pub fn edit(&self) -> &Edit
+        ensures { result.now ≡ self.now.edit }
+    {
+        &self.edit
+    }
+
+    /// The edit, without its sheets.
+    pub fn into_edit(self) -> Edit
+        ensures { result ≡ self.edit }
+    {
+        self.edit
+    }
+
+    /// The sheets of an approval, one of 1 to 2,400 bytes for each day in order. Another edit has none.
+    pub fn sheets(&self) -> &SheetList
+        ensures sheets { result.now ≡ self.now.sheets }
+        ensures lawful { AreSheetsOf self.now.edit.what self.now.sheets }
+    {
+        &self.sheets
+    }
 }
 
 /// Why bytes are no record.
@@ -32,50 +82,4 @@ pub enum DecodeFault {
     /// There was no memory for the record.
     #[error("there was no memory for the record")]
     NoMemory,
-}
-
-/// The length and the payload of a record.
-pub fn encode(alloc: Global, piece: &Record) -> Result<Text, NoMemory>
-    ensures { IfOk result (λ text. text ≡ encoded piece.now) }
-{
-    let len = edit_len(&piece.edit);
-    let mut out = Vec::with_capacity(alloc, 5 + len)?;
-    out.extend_from_slice(&(len as u32).to_le_bytes())?;
-    put_edit(&mut out, &piece.edit)?;
-    Ok(Text::from_vec(out))
-}
-
-/// The length and the payload of a record, and the closed gate behind it: what is added to a journal.
-pub fn encode_and_close(alloc: Global, piece: &Record) -> Result<Text, NoMemory>
-    ensures { IfOk result (λ text. text ≡ encoded_and_closed piece.now) }
-{
-    let mut bytes = encode(alloc, piece)?;
-    bytes.push(CLOSED_GATE)?;
-    Ok(bytes)
-}
-
-/// The record whose payload this is.
-///
-/// # Errors
-///
-/// [`DecodeFault::NotARecord`] exactly where it is the payload of no record, and
-/// [`DecodeFault::NoMemory`] where there was no memory for the record.
-pub fn decode(alloc: Global, bytes: &[u8]) -> Result<Record, DecodeFault>
-    ensures found { IfOk result (λ piece. (bytes.now ≡ payload piece) × IsInGrammar piece.edit) }
-    ensures again { (piece : Record) → IsInGrammar piece.edit → bytes.now ≡ payload piece → IfOk result (λ found. found ≡ piece) }
-    ensures refused { result ≡ Err DecodeFault.NotARecord → (piece : Record) → IsInGrammar piece.edit → bytes.now ≢ payload piece }
-    ensures memory { result ≡ Err DecodeFault.NoMemory → (piece : Record) × IsInGrammar piece.edit × (bytes.now ≡ payload piece) }
-{
-    let Some(draft) = draft_of(bytes) else {
-        return Err(DecodeFault::NotARecord);
-    };
-    match is_lawful(alloc, &draft) {
-        Ok(true) => {}
-        Ok(false) => return Err(DecodeFault::NotARecord),
-        Err(NoMemory) => return Err(DecodeFault::NoMemory),
-    }
-    match record_from(alloc, &draft) {
-        Ok(piece) => Ok(piece),
-        Err(NoMemory) => Err(DecodeFault::NoMemory),
-    }
 }

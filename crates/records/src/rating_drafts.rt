@@ -5,7 +5,7 @@ ghost use Rattle.std.specs.Prelude.{◌≡◌, ◌↔◌, true, ◌&&◌, int_lt
 ghost use Rattle.edits.specs.declared.content.What.TheVariants.{AddRating};
 ghost use Rattle.rating_tables.specs.declared.table.TheConstants.{LEAST_ROWS, MOST_ROWS};
 ghost use Rattle.rating_tables.specs.Table.{IsInOrder, IsRating, IsRatingRow};
-ghost use Rattle.records.specs.Reading.{row_in, rows_in};
+ghost use Rattle.records.specs.Parsing.{row_in, rows_in};
 
 use edits::What;
 use fixed_units::{Micro, NoMemory, is_discharge, is_stage};
@@ -58,7 +58,7 @@ fn is_behind(row: &[u8; 16], next: &[u8; 16]) -> bool
 }
 
 /// The stage and the discharge of a row in millionths, whatever their ranges.
-#[tactic(auto, unfolding(crate::specs::Reading::row_in))]
+#[tactic(auto, unfolding(crate::specs::Parsing::row_in))]
 fn quantities(row: &[u8; 16]) -> (i64, i64)
     ensures { result ≡ row_in row.now }
 {

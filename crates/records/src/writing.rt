@@ -1,72 +1,29 @@
-//! The bytes of an edit's parts, added to a vector.
+//! The bytes of a record's parts, added to a vector.
 
-ghost use Rattle.std.specs.Prelude.{◌≡◌, ◌≤◌, ◌<◌, ◌++◌, ◌∷◌, [], length, flat_map, OnOk, ℤ, Bool};
+ghost use Rattle.std.specs.Prelude.{◌≡◌, ◌<◌, ◌++◌, ◌∷◌, [], length, flat_map, OnOk, All};
 ghost use Rattle.std.specs.Int.{w32, w64, to_le_bytes};
+ghost use Rattle.edits.specs.Decisions.{decision_number};
 ghost use Rattle.edits.specs.Lawful.{IsLawful};
-ghost use Rattle.records.specs.Payloads.{short_text, signed_number, site_number, flag_number, reading_bytes, mark_number, point_bytes, curve_bytes, entry_bytes, table_bytes, end_bytes, period_bytes, day_number, estimate_bytes, measurement_bytes, kind, fields, edit_bytes, longest_fields, longest_payload};
+ghost use Rattle.records.specs.Payloads.{short_text, signed_number, site_number, flag_number, reading_bytes, mark_number, point_bytes, curve_bytes, entry_bytes, table_bytes, end_bytes, period_bytes, day_number, estimate_bytes, measurement_bytes, kind, fields, edit_bytes, sheet_bytes, payload};
+ghost use Rattle.records.specs.Sheets.{IsSheet, Record};
 
+use crate::number_writing::{put_day, put_micro, put_point, put_second, put_u32};
+use crate::payloads::Record;
 use curves::Curve;
-use edits::{Edit, Estimate, Measurement, Name, What};
-use fixed_units::{Day, Flag, Micro, NoMemory, Reading, RoundingArray, Second, Site};
+use edits::{Decision, Edit, Estimate, Measurement, Name, What};
+use fixed_units::{Day, Flag, Micro, NoMemory, Reading, RoundingArray, Second, Site, Text};
 use ratings::{Period, SharedTable};
 
-/// How many bytes the kind, the site and the lengths of the texts take.
-const FRAME: usize = 12;
-
-/// How many bytes an edit takes in a record's payload: at most 1,700,064, which 100,000 readings may take.
-pub fn edit_len(edit: &Edit) -> usize
-    ensures value { result ≡ length (edit_bytes edit.now) }
-    ensures longest { result ≤ longest_payload }
+/// Adds the payload of a record.
+pub(crate) fn put_record(out: &mut Vec<u8>, piece: &Record) -> Result<(), NoMemory>
+    ensures { OnOk result (out.new.items ≡ out.old.items ++ payload piece.now) }
 {
-    FRAME + edit.by.as_slice().len() + edit.reference.as_slice().len() + fields_len(&edit.what)
-}
-
-/// How many bytes the fields of a kind take.
-fn fields_len(what: &What) -> usize
-    requires { IsLawful what.now }
-    ensures value { result ≡ length (fields what.now) }
-    ensures longest { result ≤ longest_fields }
-{
-    match what {
-        What::AddStation { name, zone, .. } => 26 + name.as_slice().len() + zone.as_slice().len(),
-        What::SetStation { name, .. } => 25 + name.as_slice().len(),
-        What::PutReadings { readings } => 4 + 17 * readings.as_slice().len(),
-        What::DropReadings { .. } => 16,
-        What::FlagReadings { .. } => 17,
-        What::PutCorrection { curve, .. } => 1 + entry_len(curve),
-        What::DropCorrection { .. } => 9,
-        What::PutShift { curve, .. } => entry_len(curve),
-        What::DropShift { .. } => 8,
-        What::AddRating { table, .. } => 8 + 16 * table.table().rows().len(),
-        What::PutPeriod { period } => period_len(period),
-        What::DropPeriod { .. } => 8,
-        What::PutEstimate { .. } => 12,
-        What::DropEstimate { .. } => 4,
-        What::PutMeasurement { .. } => 29,
-        What::DropMeasurement { .. } => 4,
-    }
-}
-
-/// How many bytes an entry with this curve takes.
-fn entry_len(curve: &Curve) -> usize
-    ensures value { (at : ℤ) (prorate : Bool) → result ≡ length (entry_bytes at curve.now prorate) }
-    ensures few { result ≤ 58 }
-{
-    10 + 16 * curve.points().len()
-}
-
-/// How many bytes a period takes.
-fn period_len(period: &Period) -> usize
-    ensures { result ≡ length (period_bytes period.now) }
-{
-    match period.until {
-        Some(_) => 21,
-        None => 13,
-    }
+    put_edit(out, piece.edit())?;
+    put_sheets(out, piece.sheets().as_slice())
 }
 
 /// Adds the bytes of an edit.
-pub(crate) fn put_edit(out: &mut Vec<u8>, edit: &Edit) -> Result<(), NoMemory>
+fn put_edit(out: &mut Vec<u8>, edit: &Edit) -> Result<(), NoMemory>
     ensures { OnOk result (out.new.items ≡ out.old.items ++ edit_bytes edit.now) }
 {
     out.push(kind_of(&edit.what))?;
@@ -97,6 +54,8 @@ fn kind_of(what: &What) -> u8
         What::DropEstimate { .. } => 14,
         What::PutMeasurement { .. } => 15,
         What::DropMeasurement { .. } => 16,
+        What::Review { .. } => 17,
+        What::Decide { .. } => 18,
     }
 }
 
@@ -157,6 +116,8 @@ fn put_fields(out: &mut Vec<u8>, what: &What) -> Result<(), NoMemory>
         What::DropEstimate { day } => put_day(out, *day),
         What::PutMeasurement { measurement } => put_measurement(out, measurement),
         What::DropMeasurement { number } => put_u32(out, *number),
+        What::Review { from, to } => put_days(out, *from, *to),
+        What::Decide { from, to, decision } => put_decision(out, *from, *to, *decision),
     }
 }
 
@@ -357,43 +318,41 @@ fn put_measurement(out: &mut Vec<u8>, measurement: &Measurement) -> Result<(), N
     Ok(())
 }
 
-/// Adds the stage of a point, and its amount or discharge.
-fn put_point(out: &mut Vec<u8>, point: (Micro, Micro)) -> Result<(), NoMemory>
-    ensures { OnOk result (out.new.items ≡ out.old.items ++ point_bytes point) }
+/// Adds the first of some days and the last.
+fn put_days(out: &mut Vec<u8>, from: Day, to: Day) -> Result<(), NoMemory>
+    ensures { OnOk result (out.new.items ≡ out.old.items ++ (day_number from ++ day_number to)) }
 {
-    put_micro(out, point.0)?;
-    put_micro(out, point.1)
+    put_day(out, from)?;
+    put_day(out, to)
 }
 
-/// Adds a number of 32 bits.
-fn put_u32(out: &mut Vec<u8>, number: u32) -> Result<(), NoMemory>
-    ensures { OnOk result (out.new.items ≡ out.old.items ++ to_le_bytes w32 number) }
+/// Adds the first of some days, the last, and what is decided on them.
+fn put_decision(out: &mut Vec<u8>, from: Day, to: Day, decision: Decision) -> Result<(), NoMemory>
+    ensures { OnOk result (out.new.items ≡ out.old.items ++ (day_number from ++ (day_number to ++ decision_number decision ∷ []))) }
 {
-    out.extend_from_slice(&number.to_le_bytes())?;
+    put_days(out, from, to)?;
+    out.push(decision.number())?;
     Ok(())
 }
 
-/// Adds an instant.
-fn put_second(out: &mut Vec<u8>, at: Second) -> Result<(), NoMemory>
-    ensures { OnOk result (out.new.items ≡ out.old.items ++ signed_number at) }
+/// Adds the length and the bytes of each sheet.
+fn put_sheets(out: &mut Vec<u8>, sheets: &[Text]) -> Result<(), NoMemory>
+    requires { All IsSheet sheets.now }
+    ensures { OnOk result (out.new.items ≡ out.old.items ++ flat_map sheet_bytes sheets.now) }
 {
-    out.extend_from_slice(&at.get().to_le_bytes())?;
+    for sheet in sheets {
+        put_sheet(out, sheet.as_slice())?;
+    }
     Ok(())
 }
 
-/// Adds a day.
-fn put_day(out: &mut Vec<u8>, day: Day) -> Result<(), NoMemory>
-    ensures { OnOk result (out.new.items ≡ out.old.items ++ day_number day) }
+/// Adds the length and the bytes of a sheet.
+fn put_sheet(out: &mut Vec<u8>, sheet: &[u8]) -> Result<(), NoMemory>
+    requires { IsSheet sheet.now }
+    ensures { OnOk result (out.new.items ≡ out.old.items ++ sheet_bytes sheet.now) }
 {
-    out.extend_from_slice(&day.get().to_le_bytes())?;
-    Ok(())
-}
-
-/// Adds a quantity.
-fn put_micro(out: &mut Vec<u8>, amount: Micro) -> Result<(), NoMemory>
-    ensures { OnOk result (out.new.items ≡ out.old.items ++ signed_number amount) }
-{
-    out.extend_from_slice(&amount.get().to_le_bytes())?;
+    put_u32(out, sheet.len() as u32)?;
+    out.extend_from_slice(sheet)?;
     Ok(())
 }
 

@@ -1,7 +1,7 @@
 -- Neighbour by neighbour.
 use Rattle.std.proofs.Common.{rules, tests}
 use Rattle.std.proofs.lemmas.List.Sorted.{answers_always}
-use Rattle.records.specs.Reading.{row_in}
+use Rattle.records.specs.Parsing.{row_in}
 use Rattle.records.proofs.RowLemmas.{is_behind, order_told}
 use Rattle.records.proofs.rating_drafts.are_in_order.Goals as goal
 

@@ -1,7 +1,7 @@
 use Rattle.std.proofs.Common.{◌≡◌, arith, [], None, ap, ◌∙◌}
 use Rattle.std.proofs.lemmas.List.{take_all}
 use Rattle.rating_tables.specs.Table.{table_fault}
-use Rattle.records.specs.Reading.{rows_in}
+use Rattle.records.specs.Parsing.{rows_in}
 use Rattle.records.proofs.RowLemmas.{row_in_range, table_none}
 use Rattle.records.proofs.rating_drafts.table_from.Goals as goal
 

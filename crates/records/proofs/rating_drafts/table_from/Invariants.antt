@@ -1,5 +1,5 @@
 use Rattle.std.proofs.Common.{◌≡◌, take}
-use Rattle.records.specs.Reading.{rows_in}
+use Rattle.records.specs.Parsing.{rows_in}
 use Rattle.records.proofs.rating_drafts.table_from.Given as goal
 
 abbrev pub invariant-loop-row : goal.invariant-loop-row

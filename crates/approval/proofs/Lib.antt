@@ -1,0 +1,6 @@
+pub mod ChangedLemmas
+pub mod DayLemmas
+pub mod FirstDays
+pub mod LawLemmas
+pub mod SiteLemmas
+pub mod SpanLemmas

@@ -10,7 +10,7 @@ use Rattle.history.specs.Awaited.{awaited_back, awaited, is_day_of}
 use Rattle.history.specs.Events.{Event, Accepted, Published, Faulted}
 use Rattle.office_inputs.specs.Stations.{stations_of, stations_after}
 use Rattle.station_inputs.specs.Stations.{StationRecord}
-use Rattle.records.specs.declared.payloads.Record.{Record}
+use Rattle.records.specs.Sheets.{Record}
 
 pub accepted-append : (xs ys : List Event) → accepted (xs ++ ys) ≡ accepted xs ++ accepted ys
 accepted-append [] ys = refl

@@ -11,7 +11,7 @@ use Rattle.history.proofs.EventLemmas.{accepted-append, stations_accepted, accep
 use Rattle.history.proofs.StationLemmas.{unchanged_day}
 use Rattle.office_inputs.specs.Stations.{stations_of, inputs_of_day}
 use Rattle.station_inputs.specs.Stations.{StationRecord}
-use Rattle.records.specs.declared.payloads.Record.{Record}
+use Rattle.records.specs.Sheets.{Record}
 
 module _ (site : SiteNumber) (day : ℤ) where
   -- an awaited edit is one of those that were accepted

@@ -10,7 +10,7 @@ use Rattle.history.specs.Events.{Event, Accepted, Published, Faulted}
 use Rattle.history.specs.LastChanges.{ChangedLast, NoneChanges}
 use Rattle.history.proofs.EventLemmas.{accepted_published, accepted_faulted, edits_accepted, length-accepted-reverse}
 use Rattle.office_inputs.specs.Stations.{stations_of}
-use Rattle.records.specs.declared.payloads.Record.{Record}
+use Rattle.records.specs.Sheets.{Record}
 
 module _ (site : SiteNumber) (day : ℤ) where
   -- nor does one more

@@ -3,22 +3,26 @@
 use Rattle.std.specs.Prelude.{◌≡◌, true, List, [], ◌∷◌, ◌++◌, length, map, reverse, Option, Some, ◌⊎◌, ℤ}
 use Rattle.std.proofs.Common.{refl, ap, sym, subst, ◌∙◌, inl, inr}
 use Rattle.std.proofs.lemmas.List.{append-nil, append_assoc, map-append, reverse-append, reverse-reverse}
+use Rattle.approval.specs.Statuses.{first_approved, objection_of}
+use Rattle.approval.specs.declared.objections.Objection.{Objection}
 use Rattle.edits.specs.declared.content.Edit.{Edit}
 use Rattle.fixed_units.specs.Quantities.{SiteNumber}
 use Rattle.history.specs.Accepted.{accepted, edit_of, named}
-use Rattle.history.specs.After.{MayLeaveInDoubt, doubt, doubt_back, go_on, left_by, reopen}
+use Rattle.history.specs.After.{MayLeaveInDoubt, after_edit, doubt, doubt_back, go_on, left_by, reopen}
 use Rattle.history.specs.Awaited.{is_pending}
 use Rattle.history.specs.Events.{Event, Accepted, Published, Faulted, History}
-use Rattle.history.specs.Legal.{IsLegal, MayBeKept}
+use Rattle.history.specs.Legal.{IsLegal, IsMade, IsOrderly, MayBeKept}
+use Rattle.history.specs.Statuses.{standing_of}
 use Rattle.history.specs.Verdicts.{Accepts, record_of, verdict}
 use Rattle.history.specs.declared.recorded.NotKept.{NotKept}
 use Rattle.history.specs.declared.recorded.NotKept.TheVariants as not_kept
 use Rattle.history.proofs.EventLemmas.{accepted_all, accepted_published, accepted_faulted}
 use Rattle.history.proofs.VerdictLemmas.{accepted_parts}
 use Rattle.office_inputs.specs.Refusals as inputs
+use Rattle.office_inputs.specs.Changes.{changed_days}
 use Rattle.office_inputs.specs.Stations.{stations_of}
 use Rattle.office_inputs.specs.declared.limits.Limits.{Limits}
-use Rattle.records.specs.declared.payloads.Record.{Record}
+use Rattle.records.specs.Sheets.{Record}
 
 -- an event stands last, or among the others
 abbrev Split : List Event → Event → List Event → Event → List Event → Type 0
@@ -49,18 +53,32 @@ split_last (y ∷ events) e (b ∷ before) x after h =
       | inr q ↦ inr (q.0, ap (λ z. z ∷ events) first ∙ ap (λ l. b ∷ l) q.1)
     ]
 
+-- the objection to an edit, and the approved day that it would change, behind these edits
+abbrev objection_by : List Edit → Edit → Option Objection
+objection_by edits edit = objection_of (λ day. (standing_of edits edit.site day).status) edit.by edit.what
+
+abbrev locked_by : List Edit → Edit → Option ℤ
+locked_by edits edit = first_approved (λ day. (standing_of edits edit.site day).status) (changed_days (stations_of edits) edit)
+
 -- whether a record may be kept hangs on the edits accepted before
 pub may_be_kept_by : (limits : Limits) (a b : List Event) (piece : Record) → accepted a ≡ accepted b → MayBeKept limits a piece → MayBeKept limits b piece
 may_be_kept_by limits a b piece e m = record {
   reference = ap (λ (ps : List Record). named (map edit_of ps) piece.edit.reference) (sym e) ∙ m.reference;
-  edit = ap (λ (ps : List Record). inputs.refusal_of limits (stations_of (map edit_of ps)) piece.edit) (sym e) ∙ m.edit;
+  stations = ap (λ (ps : List Record). inputs.refusal_of limits (stations_of (map edit_of ps)) piece.edit) (sym e) ∙ m.stations;
+  statuses = ap (λ (ps : List Record). objection_by (map edit_of ps) piece.edit) (sym e) ∙ m.statuses;
+  unlocked = ap (λ (ps : List Record). locked_by (map edit_of ps) piece.edit) (sym e) ∙ m.unlocked;
 }
 
--- what the event has to keep to
+-- what the event has to keep to, to be in order
 pub record MayCome (h : History) (e : Event) : Type 0 where
   pub accepted : (piece : Record) → Accepted piece ≡ e → MayBeKept h.limits h.events piece
   pub in_doubt : (piece : Record) → Faulted (Some piece) ≡ e → MayBeKept h.limits h.events piece
   pub publication : (site : SiteNumber) (day : ℤ) → Published site day ≡ e → is_pending h.events site day ≡ true
+
+-- and to come since the opening
+pub record MayComeNow (h : History) (e : Event) : Type 0 where
+  pub orderly : MayCome h e
+  pub made : (piece : Record) → Accepted piece ≡ e → IsMade h.events piece
 
 -- the events that may come: the acceptance of a record, a publication, a fault
 pub may_accept : (h : History) (piece : Record) → MayBeKept h.limits h.events piece → MayCome h (Accepted piece)
@@ -70,8 +88,14 @@ may_accept h piece m = record {
   publication = λ site day e. absurd (cc);
 }
 
-pub may_publish : (h : History) (site : SiteNumber) (day : ℤ) → is_pending h.events site day ≡ true → MayCome h (Published site day)
-may_publish h site day pending = record {
+pub may_accept_now : (h : History) (piece : Record) → MayBeKept h.limits h.events piece → IsMade h.events piece → MayComeNow h (Accepted piece)
+may_accept_now h piece m k = record {
+  orderly = may_accept h piece m;
+  made = λ other e. let same : other ≡ piece = cc in subst (IsMade h.events) (sym same) k;
+}
+
+publication_may_come : (h : History) (site : SiteNumber) (day : ℤ) → is_pending h.events site day ≡ true → MayCome h (Published site day)
+publication_may_come h site day pending = record {
   accepted = λ piece e. absurd (cc);
   in_doubt = λ piece e. absurd (cc);
   publication = λ s d e.
@@ -80,12 +104,18 @@ may_publish h site day pending = record {
       rw (own, its) pending;
 }
 
-pub may_fault : (h : History) (left : Option Record) → ((piece : Record) → left ≡ Some piece → MayBeKept h.limits h.events piece) → MayCome h (Faulted left)
-may_fault h left m = record {
+pub may_publish : (h : History) (site : SiteNumber) (day : ℤ) → is_pending h.events site day ≡ true → MayComeNow h (Published site day)
+may_publish h site day pending = record { orderly = publication_may_come h site day pending; made = λ piece e. absurd (cc) }
+
+fault_may_come : (h : History) (left : Option Record) → ((piece : Record) → left ≡ Some piece → MayBeKept h.limits h.events piece) → MayCome h (Faulted left)
+fault_may_come h left m = record {
   accepted = λ piece e. absurd (cc);
   in_doubt = λ piece e. let same : left ≡ Some piece = cc in m piece same;
   publication = λ site day e. absurd (cc);
 }
+
+pub may_fault : (h : History) (left : Option Record) → ((piece : Record) → left ≡ Some piece → MayBeKept h.limits h.events piece) → MayComeNow h (Faulted left)
+may_fault h left m = record { orderly = fault_may_come h left m; made = λ piece e. absurd (cc) }
 
 goes_on : (h : History) (first : List Record) (since : List Event) (e : Event) → h ≡ go_on (reopen h.limits first) since
     → go_on h (e ∷ []) ≡ go_on (reopen h.limits first) (since ++ e ∷ [])
@@ -95,11 +125,8 @@ goes_on h first since e k =
     ap (λ n. record { opened = n; limits = h.limits; events = h.events ++ e ∷ [] }) opened
     ∙ ap (λ (l : List Event). record { opened = length first; limits = h.limits; events = l }) (ap (λ l. l ++ e ∷ []) events ∙ append_assoc (map Accepted first) since (e ∷ []))
 
-pub legal_more : (h : History) (e : Event) → IsLegal h → MayCome h e → IsLegal (go_on h (e ∷ []))
-legal_more h e k m = record {
-  first = k.first;
-  since = k.since ++ e ∷ [];
-  opened = goes_on h k.first k.since e k.opened;
+orderly_more : (h : History) (e : Event) → IsOrderly h.limits h.events → MayCome h e → IsOrderly h.limits (h.events ++ e ∷ [])
+orderly_more h e k m = record {
   accepted = λ before after piece s. elim (split_last h.events e before (Accepted piece) after s) [
     | inl p ↦ subst (λ (l : List Event). MayBeKept h.limits l piece) (sym p.0) (m.accepted piece p.1)
     | inr q ↦ k.accepted before q.0 piece q.1
@@ -114,15 +141,36 @@ legal_more h e k m = record {
   ];
 }
 
--- an office that is opened on records whose history is legal
-pub legal_reopened : (h : History) (pieces : List Record) → IsLegal h → h.events ≡ map Accepted pieces → IsLegal (reopen h.limits pieces)
-legal_reopened h pieces k e = record {
+-- the events of a history that was opened
+since_are : (h : History) (first : List Record) (since : List Event) → h ≡ go_on (reopen h.limits first) since → map Accepted first ++ since ≡ h.events
+since_are h first since k = sym (ap (λ (x : History). x.events) k)
+
+pub legal_more : (h : History) (e : Event) → IsLegal h → MayComeNow h e → IsLegal (go_on h (e ∷ []))
+legal_more h e k m = record {
+  first = k.first;
+  since = k.since ++ e ∷ [];
+  opened = goes_on h k.first k.since e k.opened;
+  orderly = orderly_more h e k.orderly m.orderly;
+  made = λ before after piece s. elim (split_last k.since e before (Accepted piece) after s) [
+    | inl p ↦
+        subst (λ (l : List Event). IsMade l piece)
+        (sym (ap (λ (l : List Event). map Accepted k.first ++ l) p.0 ∙ since_are h k.first k.since k.opened)) (m.made piece p.1)
+    | inr q ↦ k.made before q.0 piece q.1
+  ];
+}
+
+-- nothing was accepted since
+none_made : (first : List Record) (before after : List Event) (piece : Record) → [] ≡ before ++ Accepted piece ∷ after → IsMade (map Accepted first ++ before) piece
+none_made first before after piece s = absurd (not_nil before (Accepted piece) after s)
+
+-- an office that is opened on records that are in order
+pub legal_reopened : (limits : Limits) (pieces : List Record) → IsOrderly limits (map Accepted pieces) → IsLegal (reopen limits pieces)
+legal_reopened limits pieces k = record {
   first = pieces;
   since = [];
-  opened = ap (λ (l : List Event). record { opened = length pieces; limits = h.limits; events = l }) (sym (append-nil (map Accepted pieces)));
-  accepted = λ before after piece s. k.accepted before after piece (e ∙ s);
-  doubts = λ before after piece s. k.doubts before after piece (e ∙ s);
-  publications = λ before after site day s. k.publications before after site day (e ∙ s);
+  opened = ap (λ (l : List Event). record { opened = length pieces; limits = limits; events = l }) (sym (append-nil (map Accepted pieces)));
+  orderly = k;
+  made = λ before after piece s. none_made pieces before after piece s;
 }
 
 -- where a record was accepted that is accepted again
@@ -177,20 +225,21 @@ no_publication [] before after site day s = not_nil before (Published site day) 
 no_publication (own ∷ pieces) [] after site day s = let same : Accepted own ≡ Published site day = ap (head_of (Accepted own)) s in cc
 no_publication (own ∷ pieces) (x ∷ before) after site day s = no_publication pieces before after site day (ap tail_of s)
 
--- an office that is opened on the edits that were accepted up to some point
-pub legal_front : (h : History) (events behind : List Event) → IsLegal h → h.events ≡ events ++ behind → IsLegal (reopen h.limits (accepted events))
-legal_front h events behind k e = record {
-  first = accepted events;
-  since = [];
-  opened = ap (λ (l : List Event). record { opened = length (accepted events); limits = h.limits; events = l }) (sym (append-nil (map Accepted (accepted events))));
+-- the edits that were accepted up to some point are in order
+orderly_front : (h : History) (events behind : List Event) → IsLegal h → h.events ≡ events ++ behind → IsOrderly h.limits (map Accepted (accepted events))
+orderly_front h events behind k e = record {
   accepted = λ before after piece s.
       let was = was_accepted events before after piece s in
       may_be_kept_by h.limits was.older before piece was.as_many
-      (k.accepted was.older (was.newer ++ behind) piece
+      (k.orderly.accepted was.older (was.newer ++ behind) piece
       (e ∙ ap (λ (l : List Event). l ++ behind) was.events_are ∙ append_assoc was.older (Accepted piece ∷ was.newer) behind));
   doubts = λ before after piece s. absurd (no_fault (accepted events) before after (Some piece) s);
   publications = λ before after site day s. absurd (no_publication (accepted events) before after site day s);
 }
+
+-- an office that is opened on them
+pub legal_front : (h : History) (events behind : List Event) → IsLegal h → h.events ≡ events ++ behind → IsLegal (reopen h.limits (accepted events))
+legal_front h events behind k e = legal_reopened h.limits (accepted events) (orderly_front h events behind k e)
 
 -- on these and one record more
 pub legal_with : (h : History) (events behind : List Event) (piece : Record) → IsLegal h → h.events ≡ events ++ behind → MayBeKept h.limits events piece
@@ -198,8 +247,9 @@ pub legal_with : (h : History) (events behind : List Event) (piece : Record) →
 legal_with h events behind piece k e m =
     let again = reopen h.limits (accepted events) in
     let kept : MayBeKept h.limits again.events piece = may_be_kept_by h.limits events again.events piece (sym (accepted_all (accepted events))) m in
-    legal_reopened (go_on again (Accepted piece ∷ [])) (accepted events ++ piece ∷ [])
-    (legal_more again (Accepted piece) (legal_front h events behind k e) (may_accept again piece kept)) (sym (map-append Accepted (accepted events) (piece ∷ [])))
+    legal_reopened h.limits (accepted events ++ piece ∷ [])
+    (subst (IsOrderly h.limits) (sym (map-append Accepted (accepted events) (piece ∷ [])))
+    (orderly_more again (Accepted piece) (orderly_front h events behind k e) (may_accept again piece kept)))
 
 -- where the fault came that left the record in doubt: no edit was accepted since
 record WasLeft (back : List Event) (piece : Record) : Type 0 where
@@ -239,7 +289,7 @@ front_may_be_kept h events behind k e piece d =
     let was = was_left (reverse events) piece d in
     let same : reverse (reverse events) ≡ events = reverse-reverse events in
     may_be_kept_by h.limits was.older events piece (was.as_many ∙ ap accepted same)
-    (k.doubts was.older (was.newer ++ behind) piece
+    (k.orderly.doubts was.older (was.newer ++ behind) piece
     (e ∙ ap (λ (l : List Event). l ++ behind) (sym same ∙ was.events_are) ∙ append_assoc was.older (Faulted (Some piece) ∷ was.newer) behind))
 
 pub doubt_may_be_kept : (h : History) (piece : Record) → doubt h ≡ Some piece → IsLegal h → MayBeKept h.limits h.events piece
@@ -249,7 +299,15 @@ doubt_may_be_kept h piece d k = front_may_be_kept h h.events [] k (sym (append-n
 pub accepted_may_be_kept : (h : History) (edit : Edit) → verdict h edit ≡ Accepts → MayBeKept h.limits h.events (record_of h edit)
 accepted_may_be_kept h edit v =
     let parts = accepted_parts h edit v in
-    record { reference = parts.new; edit = parts.stations }
+    record { reference = parts.new; stations = parts.stations; statuses = parts.statuses; unlocked = parts.unlocked }
+
+-- and it is made there
+pub accepted_is_made : (h : History) (edit : Edit) → verdict h edit ≡ Accepts → IsMade h.events (record_of h edit)
+accepted_is_made h edit v = record { awaits_none = (accepted_parts h edit v).awaits_none; sheets = refl }
+
+pub legal_accepted : (h : History) (edit : Edit) → IsLegal h → verdict h edit ≡ Accepts → IsLegal (after_edit h edit)
+legal_accepted h edit k v =
+    legal_more h (Accepted (record_of h edit)) k (may_accept_now h (record_of h edit) (accepted_may_be_kept h edit v) (accepted_is_made h edit v))
 
 -- what a fault leaves the journal in doubt of
 left_step : (h : History) (edit : Edit) (failed : NotKept) → verdict h edit ≡ Accepts → IsLegal h

@@ -1,12 +1,15 @@
+pub mod ApprovedLemmas
 pub mod CountLemmas
 pub mod EventLemmas
 pub mod JobLemmas
 pub mod LastChangeLemmas
 pub mod LegalLemmas
+pub mod LockedLemmas
 pub mod MergeLemmas
 pub mod NamedLemmas
 pub mod PendingLemmas
 pub mod RepeatLemmas
 pub mod SpanLemmas
+pub mod StandingLemmas
 pub mod StationLemmas
 pub mod VerdictLemmas

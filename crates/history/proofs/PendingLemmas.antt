@@ -25,7 +25,7 @@ use Rattle.history.proofs.StationLemmas.{places_equal, places_apart, found_passe
 use Rattle.office_inputs.specs.Changes.{keeps_day, changed_days}
 use Rattle.office_inputs.specs.Stations.{added, place_of, station_of, stations_of, stations_after, with_added, with_changed}
 use Rattle.station_inputs.specs.Stations.{StationRecord, station_after}
-use Rattle.records.specs.declared.payloads.Record.{Record}
+use Rattle.records.specs.Sheets.{Record}
 use Rattle.rising.specs.Lists.{IsRising, at, put}
 use Rattle.rising.proofs.Placing.{put_rises}
 
@@ -57,7 +57,7 @@ pub stations_rise_after : (stations : List StationRecord) (edit : Edit) → IsRi
 stations_rise_after stations edit h = added_rises edit.site edit.what (added edit.site edit.what) stations h
 
 -- what is awaited hangs on where the site stands
-same_site_by : (own a b : SiteNumber) → site_place a ≡ site_place b → same_site own a ≡ same_site own b
+pub same_site_by : (own a b : SiteNumber) → site_place a ≡ site_place b → same_site own a ≡ same_site own b
 same_site_by own a b e = ap (λ n. int_eq (site_place own) n) e
 
 pub awaited_back_by : (back : List Event) (a b : SiteNumber) (day : ℤ) → site_place a ≡ site_place b → awaited_back back a day ≡ awaited_back back b day

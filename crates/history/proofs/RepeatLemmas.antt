@@ -9,11 +9,12 @@ use Rattle.std.proofs.lemmas.Option.{same_Some}
 use Rattle.curves.proofs.EqualityLemmas.{entries_decide}
 use Rattle.curves.specs.Equality.{same_entry}
 use Rattle.curves.specs.declared.entries.Entry.{Entry}
+use Rattle.edits.specs.Decisions.{decision_number}
 use Rattle.edits.specs.Grades.{grade_number}
 use Rattle.edits.specs.Same.{is_same, is_same_what, same_end}
 use Rattle.edits.specs.declared.content.Edit.{Edit}
 use Rattle.edits.specs.declared.content.What.{What}
-use Rattle.edits.specs.declared.content.What.TheVariants.{AddStation, SetStation, PutReadings, DropReadings, FlagReadings, PutCorrection, DropCorrection, PutShift, DropShift, AddRating, PutPeriod, DropPeriod, PutEstimate, DropEstimate, PutMeasurement, DropMeasurement}
+use Rattle.edits.specs.declared.content.What.TheVariants.{AddStation, SetStation, PutReadings, DropReadings, FlagReadings, PutCorrection, DropCorrection, PutShift, DropShift, AddRating, PutPeriod, DropPeriod, PutEstimate, DropEstimate, PutMeasurement, DropMeasurement, Review, Decide}
 use Rattle.fixed_units.specs.declared.readings.Flag.{Flag}
 use Rattle.fixed_units.specs.declared.readings.Flag.TheVariants.{Usable, Erroneous, Affected}
 use Rattle.history.specs.Accepted.{Numbered, accepted, edit_of, edits_of, named}
@@ -30,7 +31,7 @@ use Rattle.readings.proofs.EqualityLemmas.{told_same}
 use Rattle.readings.specs.Equality.{same_flag}
 use Rattle.office_inputs.specs.declared.refusals.Refusal.{Refusal}
 use Rattle.office_inputs.specs.declared.refusals.Refusal.TheVariants.{RefReused}
-use Rattle.records.specs.declared.payloads.Record.{Record}
+use Rattle.records.specs.Sheets.{Record}
 
 same_bytes : (bytes : List ℕ) → bytes_eq bytes bytes ≡ true
 same_bytes bytes = (bytes_decides bytes bytes).1 refl
@@ -76,6 +77,8 @@ same_what (DropEstimate day) = same_instant day
 same_what (PutMeasurement m) =
     rw (same_number m.number, same_instant m.at, same_instant m.gage, same_instant m.discharge, same_number (grade_number m.grade)) refl
 same_what (DropMeasurement number) = same_number number
+same_what (Review from to) = rw (same_instant from, same_instant to) refl
+same_what (Decide from to decision) = rw (same_instant from, same_instant to, same_number (decision_number decision)) refl
 
 -- an edit is the same as itself
 same_as_itself : (edit : Edit) → is_same edit edit ≡ true
@@ -150,7 +153,7 @@ is_repeated h place edit k s =
     let all : edits_of h.events ≡ before ++ piece.edit ∷ edits_of was.newer =
     ap edits_of was.events_are ∙ ap (map edit_of) (accepted-append was.older (Accepted piece ∷ was.newer))
     ∙ map-append edit_of (accepted was.older) (piece ∷ accepted was.newer) in
-    let unnamed = (k.accepted was.older was.newer piece was.events_are).reference in
+    let unnamed = (k.orderly.accepted was.older was.newer piece was.events_are).reference in
     let here : named (edits_of h.events) piece.edit.reference ≡ Some (record { number = 1 + length before; edit = piece.edit }) =
     ap (λ (l : List Edit). named l piece.edit.reference) all ∙ first_named before (edits_of was.newer) piece.edit unnamed in
     let told : verdict h piece.edit ≡ Repeats (1 + length before) =

@@ -9,7 +9,7 @@ use Rattle.day_inputs.specs.declared.day_inputs.DayInputs.{DayInputs}
 use Rattle.day_inputs.proofs.EqualityLemmas.{Decides-same_inputs}
 use Rattle.edits.specs.declared.content.Edit.{Edit}
 use Rattle.edits.specs.declared.content.What.{What}
-use Rattle.edits.specs.declared.content.What.TheVariants.{AddStation, SetStation, PutReadings, DropReadings, FlagReadings, PutCorrection, DropCorrection, PutShift, DropShift, AddRating, PutPeriod, DropPeriod, PutEstimate, DropEstimate, PutMeasurement, DropMeasurement}
+use Rattle.edits.specs.declared.content.What.TheVariants.{AddStation, SetStation, PutReadings, DropReadings, FlagReadings, PutCorrection, DropCorrection, PutShift, DropShift, AddRating, PutPeriod, DropPeriod, PutEstimate, DropEstimate, PutMeasurement, DropMeasurement, Review, Decide}
 use Rattle.fixed_units.specs.Quantities.{SiteNumber, site_place, same_site}
 use Rattle.history.specs.Accepted.{changes}
 use Rattle.office_inputs.specs.Changes.{keeps_day}
@@ -64,6 +64,8 @@ changed_place (PutEstimate estimate) s = refl
 changed_place (DropEstimate day) s = refl
 changed_place (PutMeasurement measurement) s = refl
 changed_place (DropMeasurement number) s = refl
+changed_place (Review from to) s = refl
+changed_place (Decide from to decision) s = refl
 
 pub added_place : (site : SiteNumber) (what : What) (s : StationRecord) → added site what ≡ Some s → place_of s ≡ site_place site
 added_place site (AddStation name zone gap stages discharges) s e =
@@ -84,6 +86,8 @@ added_place site (PutEstimate estimate) s e = absurd (cc)
 added_place site (DropEstimate day) s e = absurd (cc)
 added_place site (PutMeasurement measurement) s e = absurd (cc)
 added_place site (DropMeasurement number) s e = absurd (cc)
+added_place site (Review from to) s e = absurd (cc)
+added_place site (Decide from to decision) s e = absurd (cc)
 
 module _ (own : SiteNumber) (stations : List StationRecord) where
   -- a change of a station keeps it

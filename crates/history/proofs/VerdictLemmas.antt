@@ -1,5 +1,5 @@
 -- What it says that an edit is accepted.
-use Rattle.std.specs.Prelude.{◌≡◌, ℕ, ◌+◌, ◌≤◌, nat_lt, Bool, true, false, cond, length, Option, Some, None}
+use Rattle.std.specs.Prelude.{◌≡◌, ℕ, ◌+◌, ◌≤◌, nat_lt, Bool, true, false, cond, length, Option, Some, None, option_map}
 use Rattle.std.proofs.Common.{arith, refl, ap, sym, ◌∙◌}
 use Rattle.std.proofs.lemmas.Bool.{ltb-false}
 use Rattle.edits.specs.Same.{is_same}
@@ -7,15 +7,21 @@ use Rattle.edits.specs.declared.content.Edit.{Edit}
 use Rattle.history.specs.Accepted.{Numbered, accepted, edits_of, named, cell_count, journal_size}
 use Rattle.history.specs.Awaited.{pending_days}
 use Rattle.history.specs.Events.{History}
-use Rattle.history.specs.Verdicts.{Verdict, Repeats, Refuses, Accepts, with_edit, or_else, refused_by_stations, is_full_of_events, is_full_of_cells, is_journal_full, refused_where, refusal_of, verdict_of_refusal, verdict_by, verdict}
+use Rattle.history.specs.Statuses.{locked_at, objection_at}
+use Rattle.history.specs.Verdicts.{Verdict, Repeats, Refuses, Accepts, with_edit, or_else, refused_by_stations, refused_by_statuses, refused_as_awaiting, refused_as_locked, is_full_of_events, is_full_of_cells, is_journal_full, refused_where, refusal_of, verdict_of_refusal, verdict_by, verdict}
+use Rattle.office_inputs.specs.Refusals as inputs
 use Rattle.office_inputs.specs.declared.refusals.Refusal.{Refusal}
-use Rattle.office_inputs.specs.declared.refusals.Refusal.TheVariants.{RefReused, HistoryFull, JournalFull}
+use Rattle.office_inputs.specs.declared.refusals.Refusal.TheVariants.{RefReused, Locked, HistoryFull, JournalFull}
 use Rattle.office_inputs.specs.declared.refusals.Full.TheVariants as fulls
 
--- its reference names no accepted edit, the stations in force do not refuse it, and there is room
+-- its reference names no accepted edit, neither the stations in force nor the statuses of its days refuse it, it approves no day that
+-- awaits an edit and changes no approved one, and there is room
 pub record IsAccepted (h : History) (edit : Edit) : Type 0 where
   pub new : named (edits_of h.events) edit.reference ≡ None
   pub stations : refused_by_stations h edit ≡ None
+  pub statuses : objection_at h.events edit ≡ None
+  pub awaits_none : refused_as_awaiting h edit ≡ None
+  pub unlocked : locked_at h.events edit ≡ None
   pub events : length h.events + 1 + length (pending_days (with_edit h edit)) ≤ h.limits.events
   pub cells : cell_count (edits_of (with_edit h edit)) ≤ h.limits.cells
   pub journal : journal_size (accepted (with_edit h edit)) ≤ h.limits.journal_bytes
@@ -40,6 +46,10 @@ later_none : (a b : Option Refusal) → or_else a b ≡ None → b ≡ None
 later_none None b h = h
 later_none (Some refusal) b h = absurd (cc)
 
+pub none_mapped : {A B : Type 0} (f : A → B) (o : Option A) → option_map f o ≡ None → o ≡ None
+none_mapped f None h = refl
+none_mapped f (Some a) h = absurd (cc)
+
 test_false : (b : Bool) (refusal : Refusal) → refused_where b refusal ≡ None → b ≡ false
 test_false true refusal h = absurd (cc)
 test_false false refusal h = refl
@@ -52,11 +62,20 @@ accepted_parts h edit v =
     let events = refused_where (is_full_of_events h edit) (HistoryFull fulls.Events) in
     let cells = refused_where (is_full_of_cells h edit) (HistoryFull fulls.Cells) in
     let journal = refused_where (is_journal_full h edit) JournalFull in
-    let room = later_none (refused_by_stations h edit) (or_else events (or_else cells journal)) whole in
+    let full = or_else events (or_else cells journal) in
+    let locked = refused_as_locked h edit in
+    let awaited = refused_as_awaiting h edit in
+    let behind = later_none (refused_by_stations h edit) (or_else (refused_by_statuses h edit) (or_else awaited (or_else locked full))) whole in
+    let later = later_none (refused_by_statuses h edit) (or_else awaited (or_else locked full)) behind in
+    let last = later_none awaited (or_else locked full) later in
+    let room = later_none locked full last in
     let small = later_none events (or_else cells journal) room in
     record {
       new = new;
-      stations = first_none (refused_by_stations h edit) (or_else events (or_else cells journal)) whole;
+      stations = first_none (refused_by_stations h edit) (or_else (refused_by_statuses h edit) (or_else awaited (or_else locked full))) whole;
+      statuses = none_mapped inputs.refusal_for_objection (objection_at h.events edit) (first_none (refused_by_statuses h edit) (or_else awaited (or_else locked full)) behind);
+      awaits_none = first_none awaited (or_else locked full) later;
+      unlocked = none_mapped Locked (locked_at h.events edit) (first_none locked full last);
       events = ltb-false h.limits.events _ (test_false (is_full_of_events h edit) (HistoryFull fulls.Events) (first_none events (or_else cells journal) room));
       cells = ltb-false h.limits.cells _ (test_false (is_full_of_cells h edit) (HistoryFull fulls.Cells) (first_none cells journal small));
       journal = ltb-false h.limits.journal_bytes _ (test_false (is_journal_full h edit) JournalFull (later_none cells journal small));

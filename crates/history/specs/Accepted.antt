@@ -1,5 +1,5 @@
 -- The edits that were accepted, and what they make of the record.
-use Rattle.std.specs.Prelude.{ℕ, ◌+◌, Bool, false, not, ◌&&◌, ◌||◌, List, [], ◌∷◌, ◌++◌, length, reverse, map, filter, find, sum_by, bytes_eq, Option, None, ℤ}
+use Rattle.std.specs.Prelude.{ℕ, ◌+◌, Bool, false, not, ◌&&◌, ◌||◌, List, [], ◌∷◌, ◌++◌, length, reverse, map, filter, find, slice_get, sum_by, bytes_eq, Option, None, ℤ, ◌-◌, ◌==◌, if◌then◌else◌}
 use Rattle.day_cells.specs.Spans.{with_days, days_of}
 use Rattle.edits.specs.declared.content.Edit.{Edit}
 use Rattle.fixed_units.specs.Calendar.{calendar}
@@ -9,7 +9,7 @@ use Rattle.office_inputs.specs.Changes.{keeps_day}
 use Rattle.office_inputs.specs.Stations.{stations_of}
 use Rattle.station_inputs.specs.Stations.{StationRecord}
 use Rattle.records.specs.Payloads.{payload}
-use Rattle.records.specs.declared.payloads.Record.{Record}
+use Rattle.records.specs.Sheets.{Record}
 
 -- the records of the accepted edits
 abbrev pub accepted : List Event → List Record
@@ -24,6 +24,10 @@ edit_of piece = piece.edit
 -- the accepted edits, which are numbered from 1 in this order
 abbrev pub edits_of : List Event → List Edit
 edits_of events = map edit_of (accepted events)
+
+-- the accepted record of a number, from 1 on
+abbrev pub record_numbered : List Event → ℕ → Option Record
+record_numbered events number = if number == 0 then None else slice_get (accepted events) (number - 1)
 
 -- the stations in force
 abbrev pub stations_at : List Event → List StationRecord

@@ -2,12 +2,12 @@
 use Rattle.std.specs.Prelude.{◌≡◌, ℕ, zero, suc, Bool, true, false, List, [], ◌∷◌, ◌++◌, length, map, reverse, slice_get, Option, Some, None}
 use Rattle.history.specs.Awaited.{SiteDay, pending_days}
 use Rattle.history.specs.Events.{Event, Accepted, Published, Faulted, History}
-use Rattle.history.specs.Verdicts.{record_of, with_edit}
+use Rattle.history.specs.Verdicts.{record_of, with_record}
 use Rattle.history.specs.declared.recorded.NotKept.{NotKept}
 use Rattle.history.specs.declared.recorded.NotKept.TheVariants as not_kept
 use Rattle.edits.specs.declared.content.Edit.{Edit}
 use Rattle.office_inputs.specs.declared.limits.Limits.{Limits}
-use Rattle.records.specs.declared.payloads.Record.{Record}
+use Rattle.records.specs.Sheets.{Record}
 
 -- an office that is opened on these records
 abbrev pub reopen : Limits → List Record → History
@@ -17,9 +17,13 @@ reopen limits pieces = record { opened = length pieces; limits = limits; events 
 abbrev pub go_on : History → List Event → History
 go_on h since = record { opened = h.opened; limits = h.limits; events = h.events ++ since }
 
+-- a record was accepted in an office that was opened with so many
+abbrev pub after_record : ℕ → History → Record → History
+after_record opened h piece = record { opened = opened; limits = h.limits; events = with_record h piece }
+
 -- an edit was accepted
 abbrev pub after_edit : History → Edit → History
-after_edit h edit = record { opened = h.opened; limits = h.limits; events = with_edit h edit }
+after_edit h edit = after_record h.opened h (record_of h edit)
 
 -- a fault of the journal refused an edit, and left the journal in doubt of this record, if of any
 abbrev pub after_fault : History → Option Record → History

@@ -2,7 +2,7 @@
 use Rattle.std.specs.Prelude.{ℕ, List, Option, ℤ}
 use Rattle.fixed_units.specs.Quantities.{SiteNumber}
 use Rattle.office_inputs.specs.declared.limits.Limits.{Limits}
-use Rattle.records.specs.declared.payloads.Record.{Record}
+use Rattle.records.specs.Sheets.{Record}
 
 -- an edit was accepted, with its record; the value of a day was published; or a fault of the journal refused an edit, which left
 -- the journal in doubt of a record or of none

@@ -1,27 +1,42 @@
 -- Which histories can be.
-use Rattle.std.specs.Prelude.{◌≡◌, true, List, ◌∷◌, ◌++◌, Some, None, ℤ}
+use Rattle.std.specs.Prelude.{◌≡◌, true, List, ◌∷◌, ◌++◌, map, Some, None, ℤ}
 use Rattle.fixed_units.specs.Quantities.{SiteNumber}
 use Rattle.history.specs.Accepted.{edits_of, stations_at, named}
 use Rattle.history.specs.After.{reopen, go_on}
 use Rattle.history.specs.Awaited.{is_pending}
 use Rattle.history.specs.Events.{Event, Accepted, Published, Faulted, History}
+use Rattle.history.specs.Statuses.{locked_at, objection_at}
+use Rattle.history.specs.Verdicts.{awaiting, sheets_at}
 use Rattle.office_inputs.specs.Refusals as inputs
 use Rattle.office_inputs.specs.declared.limits.Limits.{Limits}
-use Rattle.records.specs.declared.payloads.Record.{Record}
+use Rattle.records.specs.Sheets.{Record}
 
--- A record may be kept behind these events: its reference is that of no edit accepted before, and the stations in force do not refuse
--- it.
+-- A record may be kept behind these events: its reference is that of no edit accepted before, neither the stations in force nor the
+-- statuses of its days refuse it, and it changes no approved day.
 pub record MayBeKept (limits : Limits) (before : List Event) (piece : Record) : Type 0 where
   pub reference : named (edits_of before) piece.edit.reference ≡ None
-  pub edit : inputs.refusal_of limits (stations_at before) piece.edit ≡ None
+  pub stations : inputs.refusal_of limits (stations_at before) piece.edit ≡ None
+  pub statuses : objection_at before piece.edit ≡ None
+  pub unlocked : locked_at before piece.edit ≡ None
 
--- The office was opened with accepted edits; each record that was accepted, and each that a fault left the journal in doubt of, may be
--- kept where that happened; and each publication is of a day that is pending before it.
+-- A record is made behind these events: no day that it approves awaits an edit, and its sheets are of the values from scratch, of the
+-- inputs in force.
+pub record IsMade (before : List Event) (piece : Record) : Type 0 where
+  pub awaits_none : awaiting before piece.edit.site piece.edit.what ≡ None
+  pub sheets : piece.sheets ≡ sheets_at before piece.edit
+
+-- Each record that was accepted, and each that a fault left the journal in doubt of, may be kept where that happened; and each
+-- publication is of a day that is pending before it.
+pub record IsOrderly (limits : Limits) (events : List Event) : Type 0 where
+  pub accepted : (before after : List Event) (piece : Record) → events ≡ before ++ Accepted piece ∷ after → MayBeKept limits before piece
+  pub doubts : (before after : List Event) (piece : Record) → events ≡ before ++ Faulted (Some piece) ∷ after → MayBeKept limits before piece
+  pub publications : (before after : List Event) (site : SiteNumber) (day : ℤ) → events ≡ before ++ Published site day ∷ after
+      → is_pending before site day ≡ true
+
+-- The office was opened with accepted edits, all is in order, and each record that was accepted since is made where that happened.
 pub record IsLegal (h : History) : Type 0 where
   pub first : List Record
   pub since : List Event
   pub opened : h ≡ go_on (reopen h.limits first) since
-  pub accepted : (before after : List Event) (piece : Record) → h.events ≡ before ++ Accepted piece ∷ after → MayBeKept h.limits before piece
-  pub doubts : (before after : List Event) (piece : Record) → h.events ≡ before ++ Faulted (Some piece) ∷ after → MayBeKept h.limits before piece
-  pub publications : (before after : List Event) (site : SiteNumber) (day : ℤ) → h.events ≡ before ++ Published site day ∷ after
-      → is_pending before site day ≡ true
+  pub orderly : IsOrderly h.limits h.events
+  pub made : (before after : List Event) (piece : Record) → since ≡ before ++ Accepted piece ∷ after → IsMade (map Accepted first ++ before) piece

@@ -5,5 +5,7 @@ pub mod Events
 pub mod LastChanges
 pub mod Legal
 pub mod Recording
+pub mod Rescissions
+pub mod Sheets
 pub mod Statuses
 pub mod Verdicts

@@ -1,24 +1,44 @@
 -- What is said to an edit: that it comes again, why it is refused, or that it is accepted.
-use Rattle.std.specs.Prelude.{ℕ, ◌+◌, nat_lt, Bool, if◌then◌else◌, List, [], ◌∷◌, ◌++◌, length, Option, Some, None}
+use Rattle.std.specs.Prelude.{ℕ, ◌+◌, nat_lt, Bool, true, if◌then◌else◌, List, [], ◌∷◌, ◌++◌, length, map, filter, Option, Some, None, option_map, ℤ}
+use Rattle.approval.specs.Statuses.{first_day_of, spans}
 use Rattle.edits.specs.Same.{is_same}
 use Rattle.edits.specs.declared.content.Edit.{Edit}
+use Rattle.edits.specs.declared.content.What.{What}
+use Rattle.edits.specs.declared.content.What.TheVariants.{Decide}
+use Rattle.edits.specs.declared.decisions.Decision.TheVariants.{Approve}
+use Rattle.fixed_units.specs.Calendar.{calendar}
+use Rattle.fixed_units.specs.Quantities.{SiteNumber}
 use Rattle.history.specs.Accepted.{Numbered, accepted, edits_of, stations_at, named, cell_count, journal_size}
-use Rattle.history.specs.Awaited.{pending_days}
+use Rattle.history.specs.Awaited.{awaited, is_pending, pending_days, value_at}
 use Rattle.history.specs.Events.{Event, Accepted, History}
+use Rattle.history.specs.Statuses.{locked_at, objection_at}
 use Rattle.office_inputs.specs.Refusals as inputs
 use Rattle.office_inputs.specs.declared.refusals.Refusal.{Refusal}
-use Rattle.office_inputs.specs.declared.refusals.Refusal.TheVariants.{RefReused, HistoryFull, JournalFull}
+use Rattle.office_inputs.specs.declared.refusals.Refusal.TheVariants.{RefReused, Awaits, Locked, HistoryFull, JournalFull}
 use Rattle.office_inputs.specs.declared.refusals.Full.TheVariants as fulls
 use Rattle.office_inputs.specs.declared.limits.Limits.{Limits}
-use Rattle.records.specs.declared.payloads.Record.{Record}
+use Rattle.records.specs.Sheets.{Record}
+use Rattle.sheets.specs.Sheets.{sheet}
+
+-- the computation sheets that an approval keeps: one of each of its days, of the value from scratch of the inputs in force
+abbrev pub sheets_of : List Event → SiteNumber → What → List (List ℕ)
+sheets_of events site (Decide from to Approve) = map (λ day. sheet site day (value_at events site day) true) (filter (spans from to) calendar)
+sheets_of events site _ = []
+
+abbrev pub sheets_at : List Event → Edit → List (List ℕ)
+sheets_at events edit = sheets_of events edit.site edit.what
 
 -- the record of an edit, as it is accepted now
 abbrev pub record_of : History → Edit → Record
-record_of h edit = record { edit = edit }
+record_of h edit = record { edit = edit; sheets = sheets_at h.events edit }
 
--- the events with that edit accepted
+-- the events with a record accepted
+abbrev pub with_record : History → Record → List Event
+with_record h piece = h.events ++ Accepted piece ∷ []
+
+-- the events with an edit accepted
 abbrev pub with_edit : History → Edit → List Event
-with_edit h edit = h.events ++ Accepted (record_of h edit) ∷ []
+with_edit h edit = with_record h (record_of h edit)
 
 -- the first of two refusals, asked in this order
 abbrev pub or_else : Option Refusal → Option Refusal → Option Refusal
@@ -28,6 +48,27 @@ or_else (Some refusal) later = Some refusal
 -- by the stations in force
 abbrev pub refused_by_stations : History → Edit → Option Refusal
 refused_by_stations h edit = inputs.refusal_of h.limits (stations_at h.events) edit
+
+-- by the statuses of its days
+abbrev pub refused_by_statuses : History → Edit → Option Refusal
+refused_by_statuses h edit = option_map inputs.refusal_for_objection (objection_at h.events edit)
+
+-- the edit that a day awaits, as a refusal
+abbrev pub awaits_by : List Event → SiteNumber → Option ℤ → Option Refusal
+awaits_by events site None = None
+awaits_by events site (Some day) = option_map (λ number. Awaits day number) (awaited events site day)
+
+-- an approval of days of which one awaits an edit: the first one
+abbrev pub awaiting : List Event → SiteNumber → What → Option Refusal
+awaiting events site (Decide from to Approve) = awaits_by events site (first_day_of (is_pending events site) from to)
+awaiting events site _ = None
+
+abbrev pub refused_as_awaiting : History → Edit → Option Refusal
+refused_as_awaiting h edit = awaiting h.events edit.site edit.what
+
+-- an edit that would change an approved day: the first one
+abbrev pub refused_as_locked : History → Edit → Option Refusal
+refused_as_locked h edit = option_map Locked (locked_at h.events edit)
 
 -- the history has no room for the edit and a publication of each day that would be pending
 abbrev pub is_full_of_events : History → Edit → Bool
@@ -48,9 +89,12 @@ refused_where test refusal = if test then Some refusal else None
 abbrev pub refusal_of : History → Edit → Option Refusal
 refusal_of h edit =
     or_else (refused_by_stations h edit)
+    (or_else (refused_by_statuses h edit)
+    (or_else (refused_as_awaiting h edit)
+    (or_else (refused_as_locked h edit)
     (or_else (refused_where (is_full_of_events h edit) (HistoryFull fulls.Events))
     (or_else (refused_where (is_full_of_cells h edit) (HistoryFull fulls.Cells))
-    (refused_where (is_journal_full h edit) JournalFull)))
+    (refused_where (is_journal_full h edit) JournalFull))))))
 
 pub data Verdict : Type 0 where
   -- it is the accepted edit of this number

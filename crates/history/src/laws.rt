@@ -1,16 +1,21 @@
 //! What holds of every history.
 
-ghost use Rattle.std.specs.Prelude.{◌≡◌, ℕ, ◌+◌, List, [], ◌∷◌, ℤ, ◌++◌, slice_get, Some};
+ghost use Rattle.std.specs.Prelude.{◌≡◌, ℕ, ◌+◌, List, [], ◌∷◌, ℤ, ◌++◌, slice_get, Some, true, false};
+ghost use Rattle.approval.specs.Statuses.{is_approved};
 ghost use Rattle.edits.specs.declared.content.Edit.{Edit};
-ghost use Rattle.fixed_units.specs.Quantities.{SiteNumber};
-ghost use Rattle.history.specs.Accepted.{accepted, edits_of};
+ghost use Rattle.fixed_units.specs.Quantities.{IsDay, SiteNumber};
+ghost use Rattle.history.specs.Accepted.{accepted, edits_of, stations_at};
 ghost use Rattle.history.specs.After.{doubt, reopen};
 ghost use Rattle.history.specs.Awaited.{awaited, inputs_at};
 ghost use Rattle.history.specs.Events.{Event, History};
 ghost use Rattle.history.specs.LastChanges.{ChangedLast};
 ghost use Rattle.history.specs.Legal.{IsLegal};
-ghost use Rattle.history.specs.Verdicts.{Repeats, verdict};
-ghost use Rattle.records.specs.declared.payloads.Record.{Record};
+ghost use Rattle.history.specs.Rescissions.{NoneRescinds};
+ghost use Rattle.history.specs.Statuses.{locked_at, standing_at, status_at, stored_sheet};
+ghost use Rattle.history.specs.Verdicts.{Accepts, Refuses, Repeats, verdict};
+ghost use Rattle.office_inputs.specs.Changes.{keeps_day};
+ghost use Rattle.office_inputs.specs.declared.refusals.Refusal.TheVariants.{Locked};
+ghost use Rattle.records.specs.Sheets.{Record};
 
 /// As long as a day awaits an edit its inputs stay as they are, whatever comes between.
 pub fn inputs_stay_while_awaited()
@@ -36,4 +41,20 @@ pub fn an_accepted_edit_is_repeated()
 pub fn what_was_kept_is_accepted_again()
     ensures accepted { (h : History) (events behind : List Event) → IsLegal h → h.events ≡ events ++ behind → IsLegal (reopen h.limits (accepted events)) }
     ensures in_doubt { (h : History) (piece : Record) → IsLegal h → doubt h ≡ Some piece → IsLegal (reopen h.limits (accepted h.events ++ piece ∷ [])) }
+{}
+
+/// In a legal history an approved day stands as it is approved, its inputs stay as they are and the sheet that is kept of it stays the
+/// same bytes, until a rescission of that day is accepted.
+pub fn an_approved_day_does_not_move()
+    ensures standing { (h : History) (events since : List Event) (site : SiteNumber) (day : ℤ) → IsLegal h → IsDay day → h.events ≡ events ++ since → is_approved (status_at events site day) ≡ true → NoneRescinds site day (edits_of since) → standing_at h.events site day ≡ standing_at events site day }
+    ensures inputs { (h : History) (events since : List Event) (site : SiteNumber) (day : ℤ) → IsLegal h → IsDay day → h.events ≡ events ++ since → is_approved (status_at events site day) ≡ true → NoneRescinds site day (edits_of since) → inputs_at h.events site day ≡ inputs_at events site day }
+    ensures sheet { (h : History) (events since : List Event) (site : SiteNumber) (day : ℤ) → IsLegal h → IsDay day → h.events ≡ events ++ since → is_approved (status_at events site day) ≡ true → NoneRescinds site day (edits_of since) → stored_sheet h.events site day ≡ stored_sheet events site day }
+{}
+
+/// An edit is refused as locked only where it would change the inputs of the approved day that is named, the first such day; and no edit
+/// that would change an approved day's inputs is accepted.
+pub fn an_edit_is_locked_where_it_would_change_an_approved_day()
+    ensures first { (h : History) (edit : Edit) (day : ℤ) → verdict h edit ≡ Refuses (Locked day) → locked_at h.events edit ≡ Some day }
+    ensures changes { (h : History) (edit : Edit) (day : ℤ) → verdict h edit ≡ Refuses (Locked day) → (is_approved (status_at h.events edit.site day) ≡ true) × (keeps_day (stations_at h.events) edit day ≡ false) }
+    ensures accepted { (h : History) (edit : Edit) (day : ℤ) → verdict h edit ≡ Accepts → IsDay day → is_approved (status_at h.events edit.site day) ≡ true → keeps_day (stations_at h.events) edit day ≡ true }
 {}

@@ -57,7 +57,7 @@ pub struct Doubt {
 
 impl Model for Doubt {
     ghost use Rattle.edits.specs.contracts.content.Edit as edit;
-    ghost use Rattle.records.specs.declared.payloads.Record.{Record};
+    ghost use Rattle.records.specs.Sheets.{Record};
     ghost use Rattle.std.specs.Prelude.{Option, option_map};
     ghost use Rattle.std.specs.Coded.{codes};
 

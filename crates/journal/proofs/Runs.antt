@@ -2,7 +2,7 @@
 use Rattle.std.proofs.Common.{◌≡◌, inl, ℕ, ◌+◌, List, length, Some, IfSome, IsSome, subst}
 use Rattle.devices.specs.declared.disks.Disk.{Ghosts}
 use Rattle.records.specs.Payloads.{encoded_and_closed}
-use Rattle.records.specs.declared.payloads.Record.{Record}
+use Rattle.records.specs.Sheets.{Record}
 use Rattle.journal.specs.JournalBytes.{IsJournalOf, IsUndecided, StandsFor, front}
 use Rattle.journal.specs.Keeping.{IsNext}
 use Rattle.journal.specs.Moments.{LeavesOnly}

@@ -4,7 +4,7 @@ use crate::fixtures::{ADDED, PUT};
 use edits::{By, Edit, Name, Ref, What};
 use fixed_units::{Flag, Micro, Reading, RoundingArray, Second, Site, Text};
 use readings::ReadingList;
-use records::{Record, encode_and_close};
+use records::{Record, SheetList, encode_and_close};
 use std::alloc::Global;
 
 fn name(alloc: Global, text: &[u8]) -> Option<Name> {
@@ -55,7 +55,7 @@ fn record(alloc: Global, reference: &[u8], change: Change) -> Option<Record> {
     let reference = Ref::new(reference)?;
     let site = Site::new(8, 1_646_500)?;
     match Edit::new(alloc, by, reference, site, what(alloc, change)?) {
-        Ok(edit) => Some(Record { edit }),
+        Ok(edit) => Record::new(edit, SheetList::new(alloc)),
         Err(_) => None,
     }
 }

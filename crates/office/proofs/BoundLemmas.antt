@@ -16,7 +16,7 @@ use Rattle.office.proofs.EditLemmas.{doubt_accepted, doubt_faulted}
 use Rattle.office.proofs.ReplayLemmas.{doubt_reopened}
 use Rattle.office.proofs.StepLemmas.{Course, Still, Taken, Failed, Shown, step_course}
 use Rattle.office_inputs.specs.declared.limits.Limits.{Limits}
-use Rattle.records.specs.declared.payloads.Record.{Record}
+use Rattle.records.specs.Sheets.{Record}
 use Rattle.register.specs.Keeping.{KeepsToTheLimit}
 use Rattle.register.specs.Registered.{Registered}
 use Rattle.register.proofs.AgainLemmas.{IsNoLonger, no_longer_accepted, no_longer_faulted, no_longer_opened, no_longer_published, opened_keeps_to, opened_with_keeps_to}

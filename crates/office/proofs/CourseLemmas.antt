@@ -27,7 +27,7 @@ use Rattle.office_inputs.specs.Stations.{station_of, stations_of, inputs_of_day}
 use Rattle.recompute.specs.Jobs.{DayJob}
 use Rattle.recompute.specs.declared.jobs.Publish.{Publish}
 use Rattle.recompute.specs.declared.jobs.Publish.TheVariants.{Foreign, Published}
-use Rattle.records.specs.declared.payloads.Record.{Record}
+use Rattle.records.specs.Sheets.{Record}
 use Rattle.register.specs.Asked.{comes_after, job_at, next_after, outcome_at}
 use Rattle.register.specs.Keeping.{KeepsToTheLimit}
 use Rattle.register.specs.Registered.{Registered, first_unclaimed}

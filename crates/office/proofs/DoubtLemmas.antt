@@ -15,7 +15,7 @@ use Rattle.office.specs.Standing.{Stands}
 use Rattle.office.specs.Stops.{IsLeft}
 use Rattle.recompute.specs.declared.jobs.Publish.{Publish}
 use Rattle.recompute.specs.declared.jobs.Publish.TheVariants.{Settled, Superseded, Foreign, Published}
-use Rattle.records.specs.declared.payloads.Record.{Record}
+use Rattle.records.specs.Sheets.{Record}
 use Rattle.register.specs.Registered.{Registered, IsSettledTo}
 
 -- publications are no edits

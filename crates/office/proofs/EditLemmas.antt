@@ -24,7 +24,7 @@ use Rattle.office.specs.Keeping.{IsLeftKeeping}
 use Rattle.office.specs.Standing.{Stands}
 use Rattle.office.specs.Stops.{IsLeft, IsLeftBetween, in_flight}
 use Rattle.records.specs.Payloads.{payload, encoded, encoded_and_closed}
-use Rattle.records.specs.declared.payloads.Record.{Record}
+use Rattle.records.specs.Sheets.{Record}
 use Rattle.register.proofs.KeepsLemmas.{journal_more}
 
 -- which record the journal is in doubt of, as the history goes on

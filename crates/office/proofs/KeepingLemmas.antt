@@ -13,7 +13,7 @@ use Rattle.journal.specs.declared.keeping.Journal.{Journal}
 use Rattle.journal.proofs.Moments.{joined}
 use Rattle.office.specs.Edits.{FailsToAppend, mended}
 use Rattle.office.specs.Keeping.{IsLeftKeeping, Settles, SettleCalls}
-use Rattle.records.specs.declared.payloads.Record.{Record}
+use Rattle.records.specs.Sheets.{Record}
 
 -- the mend was done, or none was due
 pub settled_holds : {D T : Type 0} {g : Ghosts D} (pieces : List Record) (left : Option Record) (journal : Journal D g) (result : Result T DiskFailed)

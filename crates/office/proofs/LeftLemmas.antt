@@ -1,15 +1,16 @@
 -- An office opens on what a stop leaves, and tells the edits that were accepted their numbers.
-use Rattle.std.specs.Prelude.{◌≡◌, ℕ, ◌+◌, List, [], ◌∷◌, ◌++◌, map, flat_map, reverse, slice_get, Option, Some, None, IsSome}
+use Rattle.std.specs.Prelude.{◌≡◌, ℕ, ◌+◌, List, [], ◌∷◌, ◌++◌, map, flat_map, reverse, slice_get, Option, Some, None, option_map, IsSome, ℤ}
 use Rattle.std.proofs.Common.{arith, refl, ap, sym, subst, inl, inr, ◌∙◌, append_assoc, length-append}
 use Rattle.std.proofs.lemmas.List.{append-nil, get_or_append_left, map-append}
 use Rattle.std.proofs.lemmas.List.Elements.{All-cons, All-nil}
 use Rattle.std.proofs.lemmas.Option.{get_or_from_slice_get, slice_get-get_or, slice_get_within}
+use Rattle.approval.specs.declared.objections.Objection.{Objection}
 use Rattle.edits.specs.declared.content.Edit.{Edit}
 use Rattle.history.specs.Accepted.{Numbered, accepted, edit_of, edits_of}
 use Rattle.history.specs.After.{doubt, doubt_back, go_on, reopen}
 use Rattle.history.specs.Events.{Event, Accepted, Published, Faulted, History}
 use Rattle.history.specs.Legal.{IsLegal, MayBeKept}
-use Rattle.history.specs.Verdicts.{Repeats, or_else, refused_by_stations, verdict}
+use Rattle.history.specs.Verdicts.{Repeats, or_else, refused_by_stations, refused_by_statuses, refused_as_locked, verdict}
 use Rattle.history.proofs.EventLemmas.{accepted_all}
 use Rattle.history.proofs.LegalLemmas.{doubt_may_be_kept, front_may_be_kept, legal_front, legal_with}
 use Rattle.history.proofs.RepeatLemmas.{is_repeated}
@@ -19,8 +20,10 @@ use Rattle.journal.proofs.Walks.{goes_past, not_damaged, one_list}
 use Rattle.office.specs.Openings.{IsDamagedFor, IsRefusedAt, MayOpen}
 use Rattle.office.specs.Stops.{IsLeft, IsLeftBefore, IsLeftBetween, MayFollow, in_flight}
 use Rattle.office_inputs.specs.declared.limits.Limits.{Limits}
+use Rattle.office_inputs.specs.Refusals as inputs
 use Rattle.office_inputs.specs.declared.refusals.Refusal.{Refusal}
-use Rattle.records.specs.declared.payloads.Record.{Record}
+use Rattle.office_inputs.specs.declared.refusals.Refusal.TheVariants.{Locked}
+use Rattle.records.specs.Sheets.{Record}
 use Rattle.register.specs.Asked.{readmission_refusal, reused}
 
 module _ (h : History) (events behind : List Event) (image : List ℕ) (legal : IsLegal h) (are : h.events ≡ events ++ behind)
@@ -66,10 +69,10 @@ flight_may_be_kept : (h : History) (events behind : List Event) (event : Event) 
     → (piece : Record) → in_flight event ≡ Some piece → MayBeKept h.limits events piece
 flight_may_be_kept h events behind (Accepted own) k e piece i =
     let same : own ≡ piece = cc in
-    subst (MayBeKept h.limits events) same (k.accepted events behind own e)
+    subst (MayBeKept h.limits events) same (k.orderly.accepted events behind own e)
 flight_may_be_kept h events behind (Published site day) k e piece i = absurd (cc)
 flight_may_be_kept h events behind (Faulted left) k e piece i =
-    k.doubts events behind piece (e ∙ ap (λ (o : Option Record). events ++ Faulted o ∷ behind) i)
+    k.orderly.doubts events behind piece (e ∙ ap (λ (o : Option Record). events ++ Faulted o ∷ behind) i)
 
 opens_before : (h : History) (events behind : List Event) (image : List ℕ) → IsLegal h → h.events ≡ events ++ behind
     → (opened : ℕ) (limits : Limits) → h.limits ≡ limits → IsLeftBefore (record { opened = opened; limits = limits; events = events }) behind image
@@ -100,7 +103,13 @@ has_header h behind image o =
 not_refused : (limits : Limits) (pieces : List Record) (piece : Record) → MayBeKept limits (map Accepted pieces) piece
     → readmission_refusal (reopen limits pieces) piece.edit ≡ None
 not_refused limits pieces piece m =
-    ap (λ (o : Option Numbered). or_else (reused o) (refused_by_stations (reopen limits pieces) piece.edit)) m.reference ∙ m.edit
+    let h = reopen limits pieces in
+    let edit = piece.edit in
+    let locked = refused_as_locked h edit in
+    ap (λ (o : Option Numbered). or_else (reused o) (or_else (refused_by_stations h edit) (or_else (refused_by_statuses h edit) locked))) m.reference
+    ∙ ap (λ (o : Option Refusal). or_else o (or_else (refused_by_statuses h edit) locked)) m.stations
+    ∙ ap (λ (o : Option Objection). or_else (option_map inputs.refusal_for_objection o) locked) m.statuses
+    ∙ ap (λ (o : Option ℤ). option_map Locked o) m.unlocked
 
 none_and_some : (o : Option Refusal) → o ≡ None → IsSome o → ⊥
 none_and_some None e some = absurd (cc)
@@ -111,7 +120,7 @@ refused_not limits all at image found legal r =
     let past = goes_past all r.pieces r.piece r.rest image found r.grammar (r.bytes_are ∙ sym (front-push r.pieces r.piece r.rest)) in
     let events : map Accepted all ≡ map Accepted r.pieces ++ Accepted r.piece ∷ map Accepted past.more =
     ap (map Accepted) past.all_are ∙ map-append Accepted r.pieces (r.piece ∷ past.more) in
-    let none = not_refused limits r.pieces r.piece (legal.accepted (map Accepted r.pieces) (map Accepted past.more) r.piece events) in
+    let none = not_refused limits r.pieces r.piece (legal.orderly.accepted (map Accepted r.pieces) (map Accepted past.more) r.piece events) in
     none_and_some (readmission_refusal (reopen limits r.pieces) r.piece.edit) none r.refused
 
 pub undamaged : (h : History) (behind : List Event) (image : List ℕ) (at : ℕ) → MayOpen h behind image → IsDamagedFor h.limits at image → ⊥

@@ -1,11 +1,21 @@
 -- A history refuses no edit for a fault of the journal.
-use Rattle.std.specs.Prelude.{◌≡◌, ℕ, Bool, true, false, not, ◌&&◌, cond, List, [], Option, Some, None, IfSome, option_map}
+use Rattle.std.specs.Prelude.{◌≡◌, ℕ, Bool, true, false, not, ◌&&◌, cond, List, [], Option, Some, None, IfSome, option_map, ℤ}
 use Rattle.std.proofs.Common.{refl, ap, sym, subst, inl, append-nil}
+use Rattle.approval.specs.Statuses.{first_day_of}
+use Rattle.approval.specs.declared.objections.Objection.{Objection}
+use Rattle.approval.specs.declared.objections.Objection.TheVariants as objections
 use Rattle.edits.specs.Same.{is_same}
+use Rattle.edits.specs.declared.content.What.{What}
+use Rattle.edits.specs.declared.content.What.TheVariants.{AddStation, SetStation, PutReadings, DropReadings, FlagReadings, PutCorrection, DropCorrection, PutShift, DropShift, AddRating, PutPeriod, DropPeriod, PutEstimate, DropEstimate, PutMeasurement, DropMeasurement, Review, Decide}
+use Rattle.edits.specs.declared.decisions.Decision.{Decision}
+use Rattle.edits.specs.declared.decisions.Decision.TheVariants.{Approve, Rescind}
+use Rattle.fixed_units.specs.Quantities.{SiteNumber}
 use Rattle.edits.specs.declared.content.Edit.{Edit}
 use Rattle.history.specs.Accepted.{Numbered, edits_of, named, stations_at}
-use Rattle.history.specs.Events.{History}
-use Rattle.history.specs.Verdicts.{Repeats, Refuses, or_else, refused_by_stations, is_full_of_events, is_full_of_cells, is_journal_full, refused_where, refusal_of, verdict_of_refusal, verdict_by, verdict}
+use Rattle.history.specs.Awaited.{awaited, is_pending}
+use Rattle.history.specs.Events.{Event, History}
+use Rattle.history.specs.Statuses.{locked_at, objection_at}
+use Rattle.history.specs.Verdicts.{Repeats, Refuses, or_else, refused_by_stations, refused_by_statuses, refused_as_awaiting, refused_as_locked, awaiting, awaits_by, is_full_of_events, is_full_of_cells, is_journal_full, refused_where, refusal_of, verdict_of_refusal, verdict_by, verdict}
 use Rattle.journal.specs.Writing.{Lists}
 use Rattle.office.specs.Edits.{IsRefusedBy, RefusalCalls, is_fault}
 use Rattle.office_inputs.specs.Refusals as inputs
@@ -14,7 +24,7 @@ use Rattle.station_inputs.specs.declared.obstacles.Obstacle.{Obstacle}
 use Rattle.station_inputs.specs.declared.obstacles.Obstacle.TheVariants as obstacles
 use Rattle.office_inputs.specs.declared.refusals.Full.TheVariants as fulls
 use Rattle.office_inputs.specs.declared.refusals.Refusal.{Refusal}
-use Rattle.office_inputs.specs.declared.refusals.Refusal.TheVariants.{RefReused, NoStation, StationExists, Limit, NoRating, RatingExists, PeriodOverlap, NoEntry, HistoryFull, JournalFull, NoMemory, JournalFault}
+use Rattle.office_inputs.specs.declared.refusals.Refusal.TheVariants.{RefReused, NoStation, StationExists, Limit, NoRating, RatingExists, PeriodOverlap, NoEntry, NotInReview, SamePerson, Awaits, NotApproved, AlreadyApproved, Locked, HistoryFull, JournalFull, NoMemory, JournalFault}
 use Rattle.office_inputs.specs.declared.refusals.Which.{Which}
 
 abbrev NoFault : Option Refusal → Type 0
@@ -57,13 +67,65 @@ by_stations h edit =
     (option_map inputs.refusal_for (inputs.obstacle_of (station_of stations edit.site) edit.what))
     (of_obstacle (inputs.obstacle_of (station_of stations edit.site) edit.what))
 
+-- why the statuses of its days do not allow an edit
+of_objection : (o : Option Objection) → NoFault (option_map inputs.refusal_for_objection o)
+of_objection None = tt
+of_objection (Some (objections.NotInReview day)) = refl
+of_objection (Some (objections.SamePerson day)) = refl
+of_objection (Some (objections.NotApproved day)) = refl
+of_objection (Some (objections.AlreadyApproved day)) = refl
+
+-- a day that awaits an edit
+of_number : (day : ℤ) (o : Option ℕ) → NoFault (option_map (λ number. Awaits day number) o)
+of_number day None = tt
+of_number day (Some number) = refl
+
+of_day : (events : List Event) (site : SiteNumber) (o : Option ℤ) → NoFault (awaits_by events site o)
+of_day events site None = tt
+of_day events site (Some day) = of_number day (awaited events site day)
+
+of_decision : (events : List Event) (site : SiteNumber) (from to : ℤ) (decision : Decision) → NoFault (awaiting events site (Decide from to decision))
+of_decision events site from to Approve = of_day events site (first_day_of (is_pending events site) from to)
+of_decision events site from to Rescind = tt
+
+of_awaiting : (events : List Event) (site : SiteNumber) (what : What) → NoFault (awaiting events site what)
+of_awaiting events site (Decide from to decision) = of_decision events site from to decision
+of_awaiting events site (AddStation name zone gap stages discharges) = tt
+of_awaiting events site (SetStation name gap stages discharges) = tt
+of_awaiting events site (PutReadings readings) = tt
+of_awaiting events site (DropReadings from to) = tt
+of_awaiting events site (FlagReadings from to flag) = tt
+of_awaiting events site (PutCorrection set at curve prorate) = tt
+of_awaiting events site (DropCorrection set at) = tt
+of_awaiting events site (PutShift at curve prorate) = tt
+of_awaiting events site (DropShift at) = tt
+of_awaiting events site (AddRating rating table) = tt
+of_awaiting events site (PutPeriod period) = tt
+of_awaiting events site (DropPeriod from) = tt
+of_awaiting events site (PutEstimate estimate) = tt
+of_awaiting events site (DropEstimate day) = tt
+of_awaiting events site (PutMeasurement measurement) = tt
+of_awaiting events site (DropMeasurement number) = tt
+of_awaiting events site (Review from to) = tt
+
+-- an approved day that would change
+of_locked : (o : Option ℤ) → NoFault (option_map Locked o)
+of_locked None = tt
+of_locked (Some day) = refl
+
 by_history : (h : History) (edit : Edit) → NoFault (refusal_of h edit)
 by_history h edit =
     let events = refused_where (is_full_of_events h edit) (HistoryFull fulls.Events) in
     let cells = refused_where (is_full_of_cells h edit) (HistoryFull fulls.Cells) in
     let journal = refused_where (is_journal_full h edit) JournalFull in
-    first_or (refused_by_stations h edit) (or_else events (or_else cells journal)) (by_stations h edit)
-    (of_room (is_full_of_events h edit) (is_full_of_cells h edit) (is_journal_full h edit))
+    let full = or_else events (or_else cells journal) in
+    let locked = refused_as_locked h edit in
+    let awaited = refused_as_awaiting h edit in
+    first_or (refused_by_stations h edit) (or_else (refused_by_statuses h edit) (or_else awaited (or_else locked full))) (by_stations h edit)
+    (first_or (refused_by_statuses h edit) (or_else awaited (or_else locked full)) (of_objection (objection_at h.events edit))
+    (first_or awaited (or_else locked full) (of_awaiting h.events edit.site edit.what)
+    (first_or locked full (of_locked (locked_at h.events edit))
+    (of_room (is_full_of_events h edit) (is_full_of_cells h edit) (is_journal_full h edit)))))
 
 of_refusal : (o : Option Refusal) (refusal : Refusal) → NoFault o → verdict_of_refusal o ≡ Refuses refusal → is_fault refusal ≡ false
 of_refusal None refusal p v = absurd (cc)
@@ -90,6 +152,12 @@ refused_by h edit NoRating v f = (v, refl)
 refused_by h edit RatingExists v f = (v, refl)
 refused_by h edit (PeriodOverlap from) v f = (v, refl)
 refused_by h edit NoEntry v f = (v, refl)
+refused_by h edit (NotInReview day) v f = (v, refl)
+refused_by h edit (SamePerson day) v f = (v, refl)
+refused_by h edit (Awaits day number) v f = (v, refl)
+refused_by h edit (NotApproved day) v f = (v, refl)
+refused_by h edit (AlreadyApproved day) v f = (v, refl)
+refused_by h edit (Locked day) v f = (v, refl)
 refused_by h edit (HistoryFull full) v f = (v, refl)
 refused_by h edit JournalFull v f = (v, refl)
 refused_by h edit NoMemory v f = refl
@@ -108,6 +176,12 @@ no_calls old edit new NoRating f = refl
 no_calls old edit new RatingExists f = refl
 no_calls old edit new (PeriodOverlap from) f = refl
 no_calls old edit new NoEntry f = refl
+no_calls old edit new (NotInReview day) f = refl
+no_calls old edit new (SamePerson day) f = refl
+no_calls old edit new (Awaits day number) f = refl
+no_calls old edit new (NotApproved day) f = refl
+no_calls old edit new (AlreadyApproved day) f = refl
+no_calls old edit new (Locked day) f = refl
 no_calls old edit new (HistoryFull full) f = refl
 no_calls old edit new JournalFull f = refl
 no_calls old edit new NoMemory f = refl

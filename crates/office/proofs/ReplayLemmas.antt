@@ -25,7 +25,7 @@ use Rattle.office.specs.Replaying.{HasReadmitted, HasReadmittedAll}
 use Rattle.office.specs.Standing.{Stands}
 use Rattle.office_inputs.specs.declared.limits.Limits.{Limits}
 use Rattle.records.specs.Payloads.{payload, encoded}
-use Rattle.records.specs.declared.payloads.Record.{Record}
+use Rattle.records.specs.Sheets.{Record}
 use Rattle.register.specs.Asked.{readmission_refusal}
 use Rattle.register.specs.Registered.{Registered, NoneOut}
 

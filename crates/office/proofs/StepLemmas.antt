@@ -11,17 +11,17 @@ use Rattle.history.specs.Events.{Accepted, Faulted, History}
 use Rattle.history.specs.Legal.{IsLegal, MayBeKept}
 use Rattle.history.specs.Verdicts.{Accepts, record_of, verdict}
 use Rattle.history.proofs.EventLemmas.{accepted_all, accepted_accepted, accepted_faulted}
-use Rattle.history.proofs.LegalLemmas.{accepted_may_be_kept, doubt_may_be_kept, left_may_be_kept, legal_front, legal_more, legal_with, may_accept, may_fault}
+use Rattle.history.proofs.LegalLemmas.{accepted_may_be_kept, doubt_may_be_kept, left_may_be_kept, legal_front, legal_accepted, legal_more, legal_with, may_fault}
 use Rattle.office.specs.Edits.{IsRefusedBy, IsTaken}
 use Rattle.office.specs.Steps.{Step, AnEdit, AClaim, ALook, APublication, ATurn, ASettlement, AnAnswer, AStop, IsReopened, IsStep, MayBeFound, Publishes, added_by, cut_off}
 use Rattle.office.proofs.DoubtLemmas.{accepted_publications}
 use Rattle.office_inputs.specs.declared.limits.Limits.{Limits}
 use Rattle.office_inputs.specs.declared.refusals.Refusal.{Refusal}
-use Rattle.office_inputs.specs.declared.refusals.Refusal.TheVariants.{RefReused, NoStation, StationExists, Limit, NoRating, RatingExists, PeriodOverlap, NoEntry, HistoryFull, JournalFull, NoMemory, JournalFault}
+use Rattle.office_inputs.specs.declared.refusals.Refusal.TheVariants.{RefReused, NoStation, StationExists, Limit, NoRating, RatingExists, PeriodOverlap, NoEntry, NotInReview, SamePerson, Awaits, NotApproved, AlreadyApproved, Locked, HistoryFull, JournalFull, NoMemory, JournalFault}
 use Rattle.recompute.specs.Jobs.{DayJob}
 use Rattle.recompute.specs.declared.jobs.Publish.{Publish}
 use Rattle.recompute.specs.declared.jobs.Publish.TheVariants.{Settled, Superseded, Foreign, Published}
-use Rattle.records.specs.declared.payloads.Record.{Record}
+use Rattle.records.specs.Sheets.{Record}
 use Rattle.register.specs.Asked.{day_of, outcome_at}
 use Rattle.register.specs.Keeping.{KeepsToTheLimit}
 use Rattle.register.specs.Registered.{Registered, IsSettledTo, first_unclaimed}
@@ -51,6 +51,12 @@ of_refused h edit new NoRating is = Still refl is.1
 of_refused h edit new RatingExists is = Still refl is.1
 of_refused h edit new (PeriodOverlap from) is = Still refl is.1
 of_refused h edit new NoEntry is = Still refl is.1
+of_refused h edit new (NotInReview day) is = Still refl is.1
+of_refused h edit new (SamePerson day) is = Still refl is.1
+of_refused h edit new (Awaits day number) is = Still refl is.1
+of_refused h edit new (NotApproved day) is = Still refl is.1
+of_refused h edit new (AlreadyApproved day) is = Still refl is.1
+of_refused h edit new (Locked day) is = Still refl is.1
 of_refused h edit new (HistoryFull full) is = Still refl is.1
 of_refused h edit new JournalFull is = Still refl is.1
 of_refused h edit new NoMemory is = Still refl is
@@ -92,7 +98,7 @@ step_course old (AStop cut found) new is = inr (cut, found, refl, is)
 legal_course : (h : History) (asked : Option Edit) (edits : List Edit) (new : History) → Course h asked edits new → IsLegal h → IsLegal new
 legal_course h asked edits new (Still e is) k = subst IsLegal (sym is) k
 legal_course h asked edits new (Taken edit its e v is) k =
-    subst IsLegal (sym is) (legal_more h (Accepted (record_of h edit)) k (may_accept h (record_of h edit) (accepted_may_be_kept h edit v)))
+    subst IsLegal (sym is) (legal_accepted h edit k v)
 legal_course h asked edits new (Failed edit left its e v may is) k =
     subst IsLegal (sym is) (legal_more h (Faulted left) k (may_fault h left (left_may_be_kept h edit left v k may)))
 legal_course h asked edits new (Shown days e p is) k = subst IsLegal (sym is) (legal_published h days p k)

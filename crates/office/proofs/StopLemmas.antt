@@ -22,7 +22,7 @@ use Rattle.office.proofs.CourseLemmas.{call_course, edits_after}
 use Rattle.office.proofs.DoubtLemmas.{accepted_publications, doubt_publications}
 use Rattle.office.proofs.EditLemmas.{doubt_accepted, doubt_faulted}
 use Rattle.office.proofs.StepLemmas.{Course, Still, Taken, Failed, Shown}
-use Rattle.records.specs.declared.payloads.Record.{Record}
+use Rattle.records.specs.Sheets.{Record}
 use Rattle.register.specs.Registered.{Registered, NoneOut}
 
 -- these records are those of the accepted edits, or these and one that may be found where this call was cut off

@@ -11,8 +11,8 @@ use Rattle.journal.specs.Keeping.{AppendCalls}
 use Rattle.journal.specs.declared.keeping.AppendFault.TheVariants as append
 use Rattle.office.specs.declared.offices.Accepted.{Accepted}
 use Rattle.office_inputs.specs.declared.refusals.Refusal.{Refusal}
-use Rattle.office_inputs.specs.declared.refusals.Refusal.TheVariants.{RefReused, NoStation, StationExists, Limit, NoRating, RatingExists, PeriodOverlap, NoEntry, HistoryFull, JournalFull, NoMemory, JournalFault}
-use Rattle.records.specs.declared.payloads.Record.{Record}
+use Rattle.office_inputs.specs.declared.refusals.Refusal.TheVariants.{RefReused, NoStation, StationExists, Limit, NoRating, RatingExists, PeriodOverlap, NoEntry, NotInReview, SamePerson, Awaits, NotApproved, AlreadyApproved, Locked, HistoryFull, JournalFull, NoMemory, JournalFault}
+use Rattle.records.specs.Sheets.{Record}
 use Rattle.register.specs.Registered.{Registered, KeepsClaims, MarksClaims}
 
 -- it comes again and nothing happens, or it is accepted with the next number
@@ -46,6 +46,12 @@ IsRefusedBy old edit new NoRating = IsRefused old edit new NoRating
 IsRefusedBy old edit new RatingExists = IsRefused old edit new RatingExists
 IsRefusedBy old edit new (PeriodOverlap from) = IsRefused old edit new (PeriodOverlap from)
 IsRefusedBy old edit new NoEntry = IsRefused old edit new NoEntry
+IsRefusedBy old edit new (NotInReview day) = IsRefused old edit new (NotInReview day)
+IsRefusedBy old edit new (SamePerson day) = IsRefused old edit new (SamePerson day)
+IsRefusedBy old edit new (Awaits day number) = IsRefused old edit new (Awaits day number)
+IsRefusedBy old edit new (NotApproved day) = IsRefused old edit new (NotApproved day)
+IsRefusedBy old edit new (AlreadyApproved day) = IsRefused old edit new (AlreadyApproved day)
+IsRefusedBy old edit new (Locked day) = IsRefused old edit new (Locked day)
 IsRefusedBy old edit new (HistoryFull full) = IsRefused old edit new (HistoryFull full)
 IsRefusedBy old edit new JournalFull = IsRefused old edit new JournalFull
 IsRefusedBy old edit new NoMemory = new ≡ old
@@ -66,6 +72,12 @@ is_fault NoRating = false
 is_fault RatingExists = false
 is_fault (PeriodOverlap from) = false
 is_fault NoEntry = false
+is_fault (NotInReview day) = false
+is_fault (SamePerson day) = false
+is_fault (Awaits day number) = false
+is_fault (NotApproved day) = false
+is_fault (AlreadyApproved day) = false
+is_fault (Locked day) = false
 is_fault (HistoryFull full) = false
 is_fault JournalFull = false
 is_fault NoMemory = false
@@ -119,6 +131,12 @@ RefusalCalls old edit new NoRating calls = calls ≡ []
 RefusalCalls old edit new RatingExists calls = calls ≡ []
 RefusalCalls old edit new (PeriodOverlap from) calls = calls ≡ []
 RefusalCalls old edit new NoEntry calls = calls ≡ []
+RefusalCalls old edit new (NotInReview day) calls = calls ≡ []
+RefusalCalls old edit new (SamePerson day) calls = calls ≡ []
+RefusalCalls old edit new (Awaits day number) calls = calls ≡ []
+RefusalCalls old edit new (NotApproved day) calls = calls ≡ []
+RefusalCalls old edit new (AlreadyApproved day) calls = calls ≡ []
+RefusalCalls old edit new (Locked day) calls = calls ≡ []
 RefusalCalls old edit new (HistoryFull full) calls = calls ≡ []
 RefusalCalls old edit new JournalFull calls = calls ≡ []
 RefusalCalls old edit new NoMemory calls = calls ≡ []

@@ -8,7 +8,7 @@ use Rattle.journal.specs.JournalBytes.{StandsFor}
 use Rattle.journal.specs.Keeping.{Holds}
 use Rattle.journal.specs.declared.keeping.Journal.{Journal}
 use Rattle.office.specs.Edits.{FailedCalls, FailsToMend, TakenCalls, mended}
-use Rattle.records.specs.declared.payloads.Record.{Record}
+use Rattle.records.specs.Sheets.{Record}
 
 -- the journal holds one record more and is in no doubt; or after a fault the same records
 abbrev pub Keeps : {D T : Type 0} {g : Ghosts D} → List Record → Record → Option Record → Journal D g → Result T NotKept → Type 0

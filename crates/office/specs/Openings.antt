@@ -10,7 +10,7 @@ use Rattle.journal.specs.declared.opening.OpenFault.{OpenFault}
 use Rattle.journal.specs.declared.opening.OpenFault.TheVariants.{Fault, NotAJournal, Damaged, NoMemory}
 use Rattle.office.specs.Stops.{MayFollow}
 use Rattle.office_inputs.specs.declared.limits.Limits.{Limits}
-use Rattle.records.specs.declared.payloads.Record.{Record}
+use Rattle.records.specs.Sheets.{Record}
 use Rattle.register.specs.Asked.{readmission_refusal}
 use Rattle.register.specs.Registered.{Registered, NoneOut}
 

@@ -9,7 +9,7 @@ use Rattle.journal.specs.declared.opening.OpenFault.{OpenFault}
 use Rattle.journal.specs.declared.opening.OpenFault.TheVariants.{Fault, NotAJournal, Damaged, NoMemory}
 use Rattle.office.specs.Openings.{IsDamagedFor}
 use Rattle.office_inputs.specs.declared.limits.Limits.{Limits}
-use Rattle.records.specs.declared.payloads.Record.{Record}
+use Rattle.records.specs.Sheets.{Record}
 use Rattle.register.specs.Registered.{Registered, NoneOut}
 
 -- these records were read, and each was accepted in its turn

@@ -6,7 +6,7 @@ use Rattle.history.specs.After.{doubt}
 use Rattle.history.specs.Events.{History}
 use Rattle.journal.specs.Keeping.{Holds}
 use Rattle.journal.specs.declared.keeping.Journal.{Journal}
-use Rattle.records.specs.declared.payloads.Record.{Record}
+use Rattle.records.specs.Sheets.{Record}
 
 -- The journal ends where that of the accepted edits does, and keeps to the history's limit; the record in doubt is the one that the
 -- last fault left. Where the disk tells what it has, the journal there holds the accepted edits, and perhaps the one in doubt.

@@ -14,7 +14,7 @@ use Rattle.office_inputs.specs.declared.refusals.Refusal.{Refusal}
 use Rattle.recompute.specs.Jobs.{DayJob}
 use Rattle.recompute.specs.declared.jobs.Publish.{Publish}
 use Rattle.recompute.specs.declared.jobs.Publish.TheVariants.{Settled, Superseded, Foreign, Published}
-use Rattle.records.specs.declared.payloads.Record.{Record}
+use Rattle.records.specs.Sheets.{Record}
 use Rattle.register.specs.Asked.{as_pair, day_of, job_at, next_after, outcome_at}
 use Rattle.register.specs.Registered.{Registered, IsSettledTo, KeepsClaims, TakesClaim, EndsClaim, NoneOut, first_unclaimed}
 

@@ -4,7 +4,7 @@ use Rattle.history.specs.Accepted.{accepted}
 use Rattle.history.specs.After.{doubt, go_on}
 use Rattle.history.specs.Events.{Event, Accepted, Published, Faulted, History}
 use Rattle.journal.specs.JournalBytes.{StandsFor}
-use Rattle.records.specs.declared.payloads.Record.{Record}
+use Rattle.records.specs.Sheets.{Record}
 
 -- between two calls: the journal of the accepted edits, or of these and the one in doubt
 abbrev pub IsLeft : History → List ℕ → Type 0

@@ -3,7 +3,7 @@
 ghost use Rattle.std.specs.Prelude.{◌≡◌, ◌≤◌, ◌+◌, Bool, true, false, length, is_some, IsSome, IfOk, IfErr, OnErr, Err};
 ghost use Rattle.devices.specs.Faults.{Rose};
 ghost use Rattle.history.specs.Accepted.{stations_at};
-ghost use Rattle.history.specs.Verdicts.{Accepts, verdict};
+ghost use Rattle.history.specs.Verdicts.{Accepts, record_of, verdict};
 ghost use Rattle.journal.specs.Keeping.{IsNext};
 ghost use Rattle.journal.specs.Moments.{LeavesOnly};
 ghost use Rattle.journal.specs.Writing.{Lists};
@@ -51,7 +51,7 @@ impl<D: Disk> Office<D> {
         ensures steps { steps.new ≤ steps.old + length (interval (stations_at self.old.register.history.events) edit) + 9 }
         ensures no_step { needs_days self.old.register.history edit ≡ false → steps.new ≡ steps.old }
     {
-        let (days, place) = match self.register.judge(&edit, steps) {
+        let (piece, place, days) = match self.register.judge(edit, steps) {
             Ok(Judged::Repeated(number)) => {
                 return Ok(Accepted {
                     number,
@@ -59,33 +59,38 @@ impl<D: Disk> Office<D> {
                 });
             }
             Ok(Judged::Refused(refusal)) => return Err(refusal),
-            Ok(Judged::Accepted(days, place)) => (days, place),
+            Ok(Judged::Accepted { piece, place, days }) => (piece, place, days),
             Err(NoMemory) => return Err(Refusal::NoMemory),
         };
-        self.keep_judged(edit, place, days.as_slice())
+        self.keep_judged(piece, place, days.as_slice())
     }
 
-    /// Keeps an edit that nothing refuses in the journal, and accepts it. All memory is taken before the journal is written.
-    fn keep_judged(&mut self, edit: Edit, place: Place, days: &[Day]) -> Result<Accepted, Refusal>
-        requires verdict { verdict self.old.register.history edit ≡ Accepts }
-        requires place { IsPlaceOf (stations_at self.old.register.history.events) edit.site place }
-        requires days { days.now ≡ changed_days (stations_at self.old.register.history.events) edit }
-        ensures edited { Edits self.old.register.history edit self.new.register.history result }
-        ensures claims { EditsClaims self.old.register edit self.new.register result }
+    /// Keeps the record of an edit that nothing refuses in the journal, and accepts it. All memory is taken before the journal is written.
+    fn keep_judged(
+        &mut self,
+        piece: Record,
+        place: Place,
+        days: &[Day],
+    ) -> Result<Accepted, Refusal>
+        requires verdict { verdict self.old.register.history piece.edit ≡ Accepts }
+        requires made { piece ≡ record_of self.old.register.history piece.edit }
+        requires place { IsPlaceOf (stations_at self.old.register.history.events) piece.edit.site place }
+        requires days { days.now ≡ changed_days (stations_at self.old.register.history.events) piece.edit }
+        ensures edited { Edits self.old.register.history piece.edit self.new.register.history result }
+        ensures claims { EditsClaims self.old.register piece.edit self.new.register result }
         ensures disk { asks_disk result ≡ false → self.new.disk ≡ self.old.disk }
         ensures any_moment { IsSome (D.content self.old.disk) → LeavesOnly D.Disk self.old.disk self.new.disk (IsLeftBetween self.old.register.history self.new.register.history) }
-        ensures calls { Lists (D.content self.old.disk) (D.calls self.old.disk) (D.calls self.new.disk) (D.faults self.new.disk) (EditCalls self.old.register.history edit self.new.register.history result) }
+        ensures calls { Lists (D.content self.old.disk) (D.calls self.old.disk) (D.calls self.new.disk) (D.faults self.new.disk) (EditCalls self.old.register.history piece.edit self.new.register.history result) }
         ensures counted { D.faults self.old.disk ≤ D.faults self.new.disk }
         ensures cause { (in_doubt : Bool) → result ≡ Err (Refusal.JournalFault in_doubt) → Rose (D.faults self.old.disk) (D.faults self.new.disk) }
         ensures told { is_some (D.content self.new.disk) ≡ is_some (D.content self.old.disk) }
     {
-        let piece = Record { edit };
         // this runs nothing: it tells the proof that each record of the code is in the grammar
         keeps_grammar(&piece);
         let Ok(bytes) = encode_and_close(self.alloc, &piece) else {
             return Err(Refusal::NoMemory);
         };
-        if self.register.prepare(&piece.edit, place, days).is_err() {
+        if self.register.prepare(piece.edit(), place, days).is_err() {
             return Err(Refusal::NoMemory);
         }
         self.keep_and_accept(piece, bytes.as_slice(), place, days)
@@ -100,6 +105,7 @@ impl<D: Disk> Office<D> {
         days: &[Day],
     ) -> Result<Accepted, Refusal>
         requires verdict { verdict self.old.register.history piece.edit ≡ Accepts }
+        requires made { piece ≡ record_of self.old.register.history piece.edit }
         requires place { IsPlaceOf (stations_at self.old.register.history.events) piece.edit.site place }
         requires days { days.now ≡ changed_days (stations_at self.old.register.history.events) piece.edit }
         requires room { IsReady self.old.register piece.edit }
@@ -115,7 +121,7 @@ impl<D: Disk> Office<D> {
         ensures told { is_some (D.content self.new.disk) ≡ is_some (D.content self.old.disk) }
     {
         if let Err(failed) = keep(&mut self.journal, &mut self.doubt, &piece, bytes) {
-            self.register.fault(&piece.edit, &self.doubt);
+            self.register.fault(piece.edit(), &self.doubt);
             return Err(Refusal::JournalFault(failed.in_doubt()));
         }
         self.register.accept(piece, place, days);

@@ -7,7 +7,7 @@ ghost use Rattle.journal.specs.Keeping.{Holds, IsNext};
 ghost use Rattle.journal.specs.Moments.{LeavesOnly};
 ghost use Rattle.journal.specs.Writing.{Lists};
 ghost use Rattle.office.specs.Keeping.{Keeps, Leaves, IsLeftKeeping, KeepCalls, Settles, SettleCalls, flown, gate_of};
-ghost use Rattle.records.specs.declared.payloads.Record.{Record};
+ghost use Rattle.records.specs.Sheets.{Record};
 
 use devices::{Disk, DiskFailed};
 use history::{Doubt, NotKept};

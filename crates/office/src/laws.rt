@@ -22,7 +22,7 @@ ghost use Rattle.office_inputs.specs.Stations.{inputs_of_day, station_of, statio
 ghost use Rattle.recompute.specs.Jobs.{DayJob};
 ghost use Rattle.recompute.specs.declared.jobs.Publish.{Publish};
 ghost use Rattle.recompute.specs.declared.jobs.Publish.TheVariants.{Foreign, Published};
-ghost use Rattle.records.specs.declared.payloads.Record.{Record};
+ghost use Rattle.records.specs.Sheets.{Record};
 ghost use Rattle.register.specs.Keeping.{KeepsToTheLimit};
 ghost use Rattle.register.specs.Registered.{Registered};
 

@@ -10,4 +10,4 @@ pub mod offices;
 pub mod opening;
 
 pub use offices::{Accepted, Office};
-pub use register::Answer;
+pub use register::{Answer, Sheet};

@@ -1,23 +1,24 @@
 //! The office of one thread: what it keeps in memory, and the journal on a disk.
 
-ghost use Rattle.std.specs.Prelude.{◌≡◌, ℕ, List, length, option_map, IsSome, IfSome};
-ghost use Rattle.history.specs.Accepted.{accepted, stations_at};
+ghost use Rattle.std.specs.Prelude.{◌≡◌, ℕ, List, length, option_map, IsSome, IfOk, IfSome};
+ghost use Rattle.history.specs.Accepted.{accepted, record_numbered, stations_at};
 ghost use Rattle.history.specs.Awaited.{answer_at, pending_days};
+ghost use Rattle.history.specs.Sheets.{shown_at};
 ghost use Rattle.history.specs.Statuses.{status_at};
 ghost use Rattle.office.specs.Steps.{AnAnswer, IsStep};
 ghost use Rattle.office.specs.Stops.{IsLeft};
 ghost use Rattle.office_inputs.specs.Kept.{in_force};
 ghost use Rattle.office_inputs.specs.Stations.{station_of};
-ghost use Rattle.register.specs.Asked.{answer_told, numbered};
+ghost use Rattle.register.specs.Asked.{answer_told, sheet_told};
 
 use approval::Status;
 use devices::Disk;
-use fixed_units::{Day, Site};
+use fixed_units::{Day, NoMemory, Site};
 use history::Doubt;
 use journal::Journal;
 use office_inputs::{Inputs, Limits, Station};
 use records::Record;
-use register::{Answer, Register};
+use register::{Answer, Register, Sheet};
 use std::alloc::Global;
 use std::marker::Model;
 
@@ -79,7 +80,7 @@ impl<D: Disk> Office<D> {
 
     /// The record of an accepted edit by its number, from 1 on.
     pub fn accepted(&self, number: u64) -> Option<&Record>
-        ensures { option_map (λ piece. piece.now) result ≡ numbered self.now.register.history.events number }
+        ensures { option_map (λ piece. piece.now) result ≡ record_numbered self.now.register.history.events number }
     {
         self.register.edit(number)
     }
@@ -118,6 +119,14 @@ impl<D: Disk> Office<D> {
         ensures { result ≡ status_at self.now.register.history.events site day }
     {
         self.register.status(site, day)
+    }
+
+    /// The primary computation sheet of a day: that which is kept of it where it is approved, also while it awaits an edit, and else that
+    /// of its value, where it awaits none.
+    pub fn sheet(&self, site: Site, day: Day) -> Result<Sheet<'_>, NoMemory>
+        ensures { IfOk result (λ sheet. sheet_told sheet ≡ shown_at self.now.register.history.events site day) }
+    {
+        self.register.sheet(site, day)
     }
 
     /// The disk. Where it tells what it has, that is the journal of the accepted edits, or of these and the one that is in doubt, and

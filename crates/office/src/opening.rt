@@ -6,7 +6,7 @@ ghost use Rattle.journal.specs.Moments.{IsContent, LeavesOnly, OnlyReads, SyncsF
 ghost use Rattle.office.specs.Openings.{IsNotOpened, IsOpened};
 ghost use Rattle.office.specs.Replaying.{HasReadmitted, HasReadmittedAll, IsReadFault, ReadsNext};
 ghost use Rattle.office_inputs.specs.declared.limits.Limits.{Limits};
-ghost use Rattle.records.specs.declared.payloads.Record.{Record};
+ghost use Rattle.records.specs.Sheets.{Record};
 
 use crate::offices::Office;
 use devices::Disk;
@@ -24,7 +24,8 @@ impl<D: Disk> Office<D> {
     /// # Errors
     ///
     /// A refusal gives the disk back. [`OpenFault::Damaged`] tells the offset of the first gate that is missing, or is open with no
-    /// record behind it, or with one whose reference is that of a record before it or that the stations in force refuse.
+    /// record behind it, or with one whose reference is that of a record before it, that the stations in force or the statuses of its days refuse, or that
+    /// would change an approved day.
     pub fn open(alloc: Global, disk: D, limits: Limits) -> Result<Office<D>, OpenRefused<D>>
         ensures opened { IfOk result (λ office. IsOpened (D.content disk) limits office.register) }
         ensures same { IfOk result (λ office. IsUnchanged (D.content disk) (D.content office.disk)) }

@@ -28,7 +28,7 @@ pub const MIDDLE: &[u8] =
 /// The edit of a record's payload.
 pub fn edit(alloc: Global, payload: &[u8]) -> Result<Edit, Wrong> {
     match decode(alloc, payload) {
-        Ok(piece) => Ok(piece.edit),
+        Ok(piece) => Ok(piece.into_edit()),
         Err(_) => Err(Wrong::Record),
     }
 }

@@ -16,7 +16,7 @@ use Rattle.history.proofs.PendingLemmas.{pending_more}
 use Rattle.office_inputs.specs.Changes.{changed_days}
 use Rattle.office_inputs.specs.Stations.{stations_of}
 use Rattle.station_inputs.specs.Stations.{StationRecord}
-use Rattle.records.specs.declared.payloads.Record.{Record}
+use Rattle.records.specs.Sheets.{Record}
 use Rattle.register.specs.Keeping.{KeepsToTheLimit}
 use Rattle.register.proofs.CourseLemmas.{ArePublished}
 use Rattle.register.proofs.FaultLemmas.{pending_faulted}

@@ -20,7 +20,7 @@ use Rattle.office_inputs.specs.Stations.{place_of, inputs_of_day}
 use Rattle.station_inputs.specs.Stations.{StationRecord}
 use Rattle.recompute.specs.Cells.{waiting, is_behind}
 use Rattle.recompute.specs.Jobs.{DayJob, job_of}
-use Rattle.records.specs.declared.payloads.Record.{Record}
+use Rattle.records.specs.Sheets.{Record}
 use Rattle.register.specs.Asked.{job_at, comes_after, next_after}
 use Rattle.register.specs.Keeping.{Keeps, Tells}
 use Rattle.register.specs.Registered.{Registered, first_unclaimed}

@@ -1,7 +1,9 @@
+pub mod AdmittedLemmas
 pub mod AgainLemmas
 pub mod CourseLemmas
 pub mod FaultLemmas
 pub mod FoundLemmas
+pub mod JudgedLemmas
 pub mod KeepsLemmas
 pub mod LimitLemmas
 pub mod NamedPlaceLemmas
@@ -9,9 +11,13 @@ pub mod OpenedLemmas
 pub mod PlaceLemmas
 pub mod PublishLemmas
 pub mod ReadyLemmas
+pub mod ReviewLemmas
 pub mod RiseLemmas
 pub mod RoomLemmas
+pub mod SameStatusLemmas
 pub mod SettleLemmas
+pub mod StandsLemmas
+pub mod StoredLemmas
 pub mod TakenLemmas
 pub mod TellsLemmas
 pub mod TurnLemmas

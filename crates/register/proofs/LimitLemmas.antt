@@ -24,7 +24,7 @@ use Rattle.history.proofs.StationLemmas.{found_place, places_equal}
 use Rattle.history.proofs.VerdictLemmas.{accepted_parts}
 use Rattle.office_inputs.specs.Stations.{place_of, station_of, stations_of, stations_after}
 use Rattle.station_inputs.specs.Stations.{StationRecord}
-use Rattle.records.specs.declared.payloads.Record.{Record}
+use Rattle.records.specs.Sheets.{Record}
 use Rattle.register.specs.Keeping.{KeepsToTheLimit}
 use Rattle.register.proofs.FaultLemmas.{fault_keeps_to}
 use Rattle.register.proofs.SettleLemmas.{rest_left, still_pending}

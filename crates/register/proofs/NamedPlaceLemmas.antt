@@ -10,7 +10,7 @@ use Rattle.history.specs.Events.{Event, History}
 use Rattle.history.specs.Legal.{IsLegal}
 use Rattle.history.proofs.NamedLemmas.{StandsAt, named_stands, none_named}
 use Rattle.history.proofs.RepeatLemmas.{same_place}
-use Rattle.records.specs.declared.payloads.Record.{Record}
+use Rattle.records.specs.Sheets.{Record}
 use Rattle.register.specs.Keeping.{PlacesAll}
 use Rattle.register.specs.References.{Placed, IsPlacedFor, has_reference, is_its}
 use Rattle.register.proofs.KeepsLemmas.{IsPlaced}

@@ -3,7 +3,7 @@ use Rattle.std.specs.Prelude.{◌≡◌, ℕ, ◌<◌, ◌==◌, Bool, true, fal
 use Rattle.std.proofs.Common.{arith, refl, ap, sym, subst, ◌∙◌, inl, inr}
 use Rattle.std.proofs.lemmas.Bool.{false≢true, cases_lt}
 use Rattle.std_collections.specs.Map.{lookup}
-use Rattle.records.specs.declared.payloads.Record.{Record}
+use Rattle.records.specs.Sheets.{Record}
 use Rattle.register.specs.References.{Placed, IsPlacedFor, key_of, place_at, has_reference}
 
 abbrev pub entry_of : ℕ × ℕ → Placed

@@ -3,6 +3,7 @@ use Rattle.std.specs.Prelude.{◌≡◌, ℕ, ◌+◌, ◌<◌, ◌^◌, Bool, t
 use Rattle.std.proofs.Common.{arith, refl, ap, sym, subst, ◌∙◌, length-append}
 use Rattle.daily_values.specs.DayValue.{day_value}
 use Rattle.daily_values.specs.declared.day_values.DayValue.{DayValue}
+use Rattle.approval.specs.Kept.{KeptSite}
 use Rattle.day_cells.specs.KeptDays.{KeptDays}
 use Rattle.day_cells.specs.Sites.{station_rank}
 use Rattle.fixed_units.specs.Quantities.{IsDay}
@@ -16,7 +17,7 @@ use Rattle.station_inputs.specs.Stations.{StationRecord}
 use Rattle.recompute.specs.Cells.{Publishes, waiting}
 use Rattle.recompute.specs.Jobs.{DayJob, outcome_by, outcome_of}
 use Rattle.recompute.specs.declared.jobs.Publish.TheVariants as publish
-use Rattle.records.specs.declared.payloads.Record.{Record}
+use Rattle.records.specs.Sheets.{Record}
 use Rattle.register.specs.Keeping.{Keeps, Tells}
 use Rattle.register.specs.References.{Placed}
 use Rattle.register.specs.Registered.{registered}
@@ -31,8 +32,8 @@ pub published_awaits : (o : Option ℕ) (awaits : ℕ) (same : Bool) → outcome
 published_awaits None awaits same h = absurd (cc)
 published_awaits (Some edit) awaits same h = refl
 
-module _ (opened : ℕ) (inputs : InForce) (cells : List KeptDays) (places : List Placed) (spare : ℕ) (events : List Event)
-    (pieces : List Record) (count bytes : ℕ) (kept : Keeps (registered opened inputs cells places spare events) pieces count bytes)
+module _ (opened : ℕ) (inputs : InForce) (cells : List KeptDays) (places : List Placed) (statuses : List KeptSite) (spare : ℕ) (events : List Event)
+    (pieces : List Record) (count bytes : ℕ) (kept : Keeps (registered opened inputs cells places statuses spare events) pieces count bytes)
     (stations : AreStations inputs.kept) (rising : IsRising station_rank cells) (new : List KeptDays) (new_rising : IsRising station_rank new)
     (job : DayJob) (value : DayValue) (day : IsDay job.day) (told : outcome_of cells (in_force inputs) job ≡ publish.Published)
     (publishes : Publishes cells new job.site job.day value) (computed : value ≡ day_value (inputs_of_day (in_force inputs) job.site job.day)) where
@@ -72,10 +73,10 @@ module _ (opened : ℕ) (inputs : InForce) (cells : List KeptDays) (places : Lis
       let less = one_less in
       omega (arith, counted, fits, less)
 
-  pub kept_published : Keeps (registered opened inputs new places spare more) pieces (count + 1) bytes
+  pub kept_published : Keeps (registered opened inputs new places statuses spare more) pieces (count + 1) bytes
   kept_published =
       let whole : length more ≡ length events + 1 = length-append events (Published job.site job.day ∷ []) in
       let fits = kept.fits in
       let less = one_less in
-      keeps_published opened inputs cells places spare events pieces count bytes kept job.site job.day value new (count + 1) was_pending is_value publishes refl
+      keeps_published opened inputs cells places statuses spare events pieces count bytes kept job.site job.day value new (count + 1) was_pending is_value publishes refl
       (omega (arith, whole, fits, less))

@@ -12,7 +12,7 @@ use Rattle.fixed_units.specs.Quantities.{IsDay}
 use Rattle.history.specs.Accepted.{accepted, edits_of, stations_at, days_ever_changed, cells_of, cell_count, journal_size}
 use Rattle.history.specs.Awaited.{awaited, pending_days}
 use Rattle.history.specs.Events.{Event, Accepted}
-use Rattle.history.specs.Verdicts.{with_edit}
+use Rattle.history.specs.Verdicts.{record_of, with_edit, with_record}
 use Rattle.history.proofs.CountLemmas.{sums_same}
 use Rattle.history.proofs.EventLemmas.{accepted_accepted, edits_accepted}
 use Rattle.history.proofs.PendingLemmas.{calendar_days, pending_more, cells_more}
@@ -21,7 +21,7 @@ use Rattle.office_inputs.specs.Kept.{AreStations}
 use Rattle.office_inputs.specs.Stations.{place_of}
 use Rattle.recompute.specs.Cells.{awaited_in, span_in, waiting, cell_count_after}
 use Rattle.records.specs.Payloads.{payload}
-use Rattle.records.specs.declared.payloads.Record.{Record}
+use Rattle.records.specs.Sheets.{Record}
 use Rattle.register.specs.Keeping.{Keeps, Tells}
 use Rattle.register.specs.Registered.{Registered}
 use Rattle.register.proofs.KeepsLemmas.{journal_more}
@@ -98,19 +98,19 @@ module _ (r : Registered) (pieces : List Record) (count bytes : ℕ) (s : Stands
       let most = s.kept.fits in
       omega (arith, waits, counted, most, p)
 
-  pub events_with : (edit : Edit) (days : List ℤ) (pending newly : ℕ) → days ≡ changed_days (stations_at r.history.events) edit → pending ≡ length (waiting r.cells)
-      → newly ≡ count_by (λ d. is_none (awaited_in r.cells edit.site d)) days
-      → count + pending + (1 + newly) ≡ length r.history.events + 1 + length (pending_days (with_edit r.history edit))
-  events_with edit days pending newly d p n =
-      let more = pending_with r.history.events r.cells s.kept.cells_tell s.rising s.stations_rise (record { edit = edit }) in
-      let new = n ∙ ap (count_by (λ d. is_none (awaited_in r.cells edit.site d))) d in
+  pub events_with : (piece : Record) (days : List ℤ) (pending newly : ℕ) → days ≡ changed_days (stations_at r.history.events) piece.edit
+      → pending ≡ length (waiting r.cells) → newly ≡ count_by (λ d. is_none (awaited_in r.cells piece.edit.site d)) days
+      → count + pending + (1 + newly) ≡ length r.history.events + 1 + length (pending_days (with_record r.history piece))
+  events_with piece days pending newly d p n =
+      let more = pending_with r.history.events r.cells s.kept.cells_tell s.rising s.stations_rise piece in
+      let new = n ∙ ap (count_by (λ d. is_none (awaited_in r.cells piece.edit.site d))) d in
       let counted = s.kept.events_are in
       omega (arith, more, new, counted, p)
 
   pub cells_count : (edit : Edit) (days : List ℤ) → days ≡ changed_days (stations_at r.history.events) edit
       → cell_count_after r.cells edit.site days ≡ cell_count (edits_of (with_edit r.history edit))
   cells_count edit days d =
-      ap (cell_count_after r.cells edit.site) d ∙ cells_with r.history.events r.cells s.kept.cells_tell s.rising s.stations_rise (record { edit = edit })
+      ap (cell_count_after r.cells edit.site) d ∙ cells_with r.history.events r.cells s.kept.cells_tell s.rising s.stations_rise (record_of r.history edit)
 
   pub pending_counted : (pending : ℕ) → pending ≡ length (waiting r.cells) → pending ≡ length (pending_days r.history.events)
   pending_counted pending p = p ∙ waiting_count r.history.events r.cells s.kept.cells_tell s.rising s.stations_rise

@@ -17,7 +17,7 @@ use Rattle.history.specs.Events.{Event, Published, History}
 use Rattle.history.proofs.EventLemmas.{accepted_published, awaited_published}
 use Rattle.office_inputs.specs.Stations.{stations_of}
 use Rattle.station_inputs.specs.Stations.{StationRecord}
-use Rattle.records.specs.declared.payloads.Record.{Record}
+use Rattle.records.specs.Sheets.{Record}
 use Rattle.register.specs.Registered.{Registered, IsSettledTo, is_out}
 
 -- another day than this one of the site

@@ -7,16 +7,20 @@ use Rattle.history.specs.Accepted.{Numbered, accepted, edits_of, stations_at, na
 use Rattle.history.specs.Awaited.{SiteDay, DayAnswer, awaited, inputs_at, answer_by}
 use Rattle.history.specs.Awaited as days
 use Rattle.history.specs.Events.{Event, History}
-use Rattle.history.specs.Verdicts.{Verdict, Repeats, Refuses, Accepts, or_else, refused_by_stations}
+use Rattle.history.specs.Sheets.{Shown}
+use Rattle.history.specs.Sheets as shown
+use Rattle.history.specs.Verdicts.{Verdict, Repeats, Refuses, Accepts, or_else, refused_by_stations, refused_by_statuses, refused_as_locked, record_of}
 use Rattle.office_inputs.specs.Changes.{changed_days}
 use Rattle.office_inputs.specs.Places.{IsPlaceOf}
 use Rattle.office_inputs.specs.declared.refusals.Refusal.{Refusal}
 use Rattle.office_inputs.specs.declared.refusals.Refusal.TheVariants.{RefReused}
 use Rattle.recompute.specs.Jobs.{DayJob, outcome_by}
 use Rattle.recompute.specs.declared.jobs.Publish.{Publish}
-use Rattle.records.specs.declared.payloads.Record.{Record}
+use Rattle.records.specs.Sheets.{Record}
 use Rattle.register.specs.declared.answers.Answer.{Answer}
 use Rattle.register.specs.declared.answers.Answer.TheVariants as answers
+use Rattle.register.specs.declared.answers.Sheet.{Sheet}
+use Rattle.register.specs.declared.answers.Sheet.TheVariants as sheets
 use Rattle.register.specs.declared.judged.Judged.{Judged}
 use Rattle.register.specs.declared.judged.Judged.TheVariants as judged
 use Rattle.register.specs.declared.judged.NotReadmitted.{NotReadmitted}
@@ -26,19 +30,25 @@ use Rattle.register.specs.declared.judged.NotReadmitted.TheVariants as opening
 abbrev pub verdict_told : Judged → Verdict
 verdict_told (judged.Repeated number) = Repeats number
 verdict_told (judged.Refused refusal) = Refuses refusal
-verdict_told (judged.Accepted days place) = Accepts
+verdict_told (judged.Accepted piece place days) = Accepts
 
 -- with an acceptance come the days that the edit changes
 abbrev pub TellsChanged : History → Edit → Judged → Type 0
 TellsChanged h edit (judged.Repeated number) = Unit {0}
 TellsChanged h edit (judged.Refused refusal) = Unit {0}
-TellsChanged h edit (judged.Accepted days place) = days ≡ changed_days (stations_at h.events) edit
+TellsChanged h edit (judged.Accepted piece place days) = days ≡ changed_days (stations_at h.events) edit
 
 -- and where the station of its site stands
 abbrev pub TellsPlace : History → Edit → Judged → Type 0
 TellsPlace h edit (judged.Repeated number) = Unit {0}
 TellsPlace h edit (judged.Refused refusal) = Unit {0}
-TellsPlace h edit (judged.Accepted days place) = IsPlaceOf (stations_at h.events) edit.site place
+TellsPlace h edit (judged.Accepted piece place days) = IsPlaceOf (stations_at h.events) edit.site place
+
+-- and its record
+abbrev pub TellsRecord : History → Edit → Judged → Type 0
+TellsRecord h edit (judged.Repeated number) = Unit {0}
+TellsRecord h edit (judged.Refused refusal) = Unit {0}
+TellsRecord h edit (judged.Accepted piece place days) = piece ≡ record_of h edit
 
 -- the edit's days have to be looked for: its reference names no accepted edit, and the stations in force do not refuse it
 abbrev pub needs_days : History → Edit → Bool
@@ -49,8 +59,15 @@ abbrev pub reused : Option Numbered → Option Refusal
 reused None = None
 reused (Some other) = Some (RefReused other.number)
 
+-- without a look at the days that it changes
+abbrev pub refused_at_once : History → Edit → Option Refusal
+refused_at_once h edit =
+    or_else (reused (named (edits_of h.events) edit.reference)) (or_else (refused_by_stations h edit) (refused_by_statuses h edit))
+
 abbrev pub readmission_refusal : History → Edit → Option Refusal
-readmission_refusal h edit = or_else (reused (named (edits_of h.events) edit.reference)) (refused_by_stations h edit)
+readmission_refusal h edit =
+    or_else (reused (named (edits_of h.events) edit.reference))
+    (or_else (refused_by_stations h edit) (or_else (refused_by_statuses h edit) (refused_as_locked h edit)))
 
 -- the answer that is told
 abbrev pub answer_told : Answer → DayAnswer
@@ -58,9 +75,12 @@ answer_told answers.NoStation = days.NoStation
 answer_told (answers.Pending number) = days.Pending number
 answer_told (answers.Computed value) = days.Computed value.now
 
--- the accepted record of a number, from 1 on
-abbrev pub numbered : List Event → ℕ → Option Record
-numbered events number = if number == 0 then None else slice_get (accepted events) (number - 1)
+-- the sheet that is told
+abbrev pub sheet_told : Sheet → Shown
+sheet_told sheets.NoStation = shown.NoStation
+sheet_told (sheets.Pending number) = shown.Pending number
+sheet_told (sheets.Kept text) = shown.Text text.now
+sheet_told (sheets.Computed text) = shown.Text text
 
 -- the job of a pending day, on the inputs in force
 abbrev pub job_at : List Event → SiteDay → DayJob
@@ -92,7 +112,7 @@ outcome_at events job = outcome_by (awaited events job.site job.day) job.awaits 
 abbrev pub day_of : DayJob → SiteDay
 day_of job = record { site = job.site; day = job.day }
 
--- what is told of a record that is not accepted: its refusal, or that there was no memory where there is none
-abbrev pub IsNotReadmitted : Option Refusal → NotReadmitted → Type 0
-IsNotReadmitted refusal (opening.Refused told) = refusal ≡ Some told
-IsNotReadmitted refusal opening.NoMemory = refusal ≡ None
+-- what is told of a record that is not accepted: its refusal, or that there was no memory where it is not refused at once
+abbrev pub IsNotReadmitted : History → Edit → NotReadmitted → Type 0
+IsNotReadmitted h edit (opening.Refused told) = readmission_refusal h edit ≡ Some told
+IsNotReadmitted h edit opening.NoMemory = refused_at_once h edit ≡ None

@@ -1,5 +1,6 @@
 -- What is kept in memory tells what is read off the history.
 use Rattle.std.specs.Prelude.{◌≡◌, ℕ, ◌+◌, ◌<◌, ◌≤◌, ◌^◌, List, length, None, IfSome, ℤ}
+use Rattle.approval.specs.Kept.{KeptSite, standing_in}
 use Rattle.day_cells.specs.KeptDays.{KeptDays}
 use Rattle.day_cells.specs.Spans.{with_days}
 use Rattle.edits.specs.declared.content.Edit.{Edit}
@@ -8,9 +9,10 @@ use Rattle.history.specs.Accepted.{Numbered, accepted, edits_of, stations_at, na
 use Rattle.history.specs.Awaited.{awaited, value_at, pending_days}
 use Rattle.history.specs.Events.{Event, History}
 use Rattle.history.specs.Legal.{IsLegal}
+use Rattle.history.specs.Statuses.{standing_at}
 use Rattle.office_inputs.specs.Kept.{in_force}
 use Rattle.recompute.specs.Cells.{awaited_in, value_in, span_in}
-use Rattle.records.specs.declared.payloads.Record.{Record}
+use Rattle.records.specs.Sheets.{Record}
 use Rattle.register.specs.References.{Placed, IsPlacedFor}
 use Rattle.register.specs.Registered.{Registered}
 
@@ -26,6 +28,10 @@ abbrev pub PlacesAll : List Edit → List Placed → Type 0
 PlacesAll edits kept = (reference : List ℕ)
     → IfSome (named edits reference) (λ (n : Numbered). (place : ℕ) × IsPlacedFor kept reference place × (n.number ≡ place + 1))
 
+-- the statuses that are kept tell how each day stands
+abbrev pub TellsStatuses : List Event → List KeptSite → Type 0
+TellsStatuses events kept = (site : SiteNumber) (day : ℤ) → IsDay day → standing_in kept site day ≡ standing_at events site day
+
 -- the events, and a publication of each pending day, keep to the limit
 abbrev pub KeepsToTheLimit : History → Type 0
 KeepsToTheLimit h = length h.events + length (pending_days h.events) ≤ h.limits.events
@@ -40,5 +46,6 @@ pub record Keeps (r : Registered) (pieces : List Record) (events journal_bytes :
   pub journal_is : journal_bytes ≡ journal_size (accepted r.history.events)
   pub journal_fits : journal_bytes < 2 ^ 64
   pub cells_tell : Tells r.history.events r.cells
+  pub statuses_tell : TellsStatuses r.history.events r.statuses
   pub places : PlacesAll (edits_of r.history.events) r.references
   pub fits : length r.history.events + length (pending_days r.history.events) < 2 ^ 64

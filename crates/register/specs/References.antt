@@ -1,7 +1,7 @@
 -- Where the accepted edits stand that references name.
 use Rattle.std.specs.Prelude.{◌≡◌, ℕ, ◌+◌, ◌/◌, ◌%◌, ◌^◌, ◌<◌, ◌==◌, Bool, true, false, List, find, slice_get, bytes_eq, Option, Some, None, IsSome, option_map}
 use Rattle.std.specs.Hash.FoldHasher.{initial, write, finish}
-use Rattle.records.specs.declared.payloads.Record.{Record}
+use Rattle.records.specs.Sheets.{Record}
 
 -- a key, and the place among the accepted edits that is kept under it: that of the first edit is 0
 pub record Placed : Type 0 where

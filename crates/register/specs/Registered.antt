@@ -1,6 +1,8 @@
 -- What an office keeps in memory, as contracts see it: what happened, which claims are out, and for what there is room.
 use Rattle.std.specs.Prelude.{◌≡◌, ℕ, ◌≤◌, Bool, true, false, not, ◌&&◌, if◌then◌else◌, List, length, take, find, Option, ℤ}
 use Rattle.std.specs.List.{list_any}
+use Rattle.approval.specs.Kept as kept_statuses
+use Rattle.approval.specs.Kept.{KeptSite}
 use Rattle.day_cells.specs.Days.{contains_day}
 use Rattle.day_cells.specs.KeptDays.{KeptDays}
 use Rattle.edits.specs.declared.content.Edit.{Edit}
@@ -17,21 +19,23 @@ use Rattle.recompute.specs.Cells.{is_out_in}
 use Rattle.recompute.specs.Jobs.{DayJob}
 use Rattle.register.specs.References.{Placed, IsPlacedFor}
 
--- what happened; beside it the inputs, the cells and the places of references as they are kept, and for how many more edits there is
--- room
+-- what happened; beside it the inputs, the cells, the places of references and the statuses as they are kept, and for how many more edits
+-- there is room
 pub record Registered : Type 0 where
   pub history : History
   pub inputs : InForce
   pub cells : List KeptDays
   pub references : List Placed
+  pub statuses : List KeptSite
   pub spare : ℕ
 
-abbrev pub registered : ℕ → InForce → List KeptDays → List Placed → ℕ → List Event → Registered
-registered opened inputs cells references spare events = record {
+abbrev pub registered : ℕ → InForce → List KeptDays → List Placed → List KeptSite → ℕ → List Event → Registered
+registered opened inputs cells references statuses spare events = record {
   history = record { opened = opened; limits = inputs.limits; events = events };
   inputs = inputs;
   cells = cells;
   references = references;
+  statuses = statuses;
   spare = spare;
 }
 
@@ -74,10 +78,11 @@ pub record IsSettledTo (old new : Registered) (count : ℕ) : Type 0 where
   pub claims : (site : SiteNumber) (day : ℤ) → is_out new site day
       ≡ (if list_any (λ (d : SiteDay). is_day_of d.site d.day site day) (take count (pending_days old.history.events)) then false else is_out old site day)
 
--- room is made for all that an accepted edit adds: what it puts in force, a cell of each day that it changes, its reference and its
--- record
+-- room is made for all that an accepted edit adds: what it puts in force, a cell of each day that it changes, its reference, the statuses
+-- that it gives and its record
 pub record IsReady (r : Registered) (edit : Edit) : Type 0 where
   pub inputs : kept_inputs.HasRoom r.inputs edit
   pub cells : kept_cells.HasRoom r.cells edit.site (changed_days (stations_at r.history.events) edit)
   pub reference : IsPlacedFor r.references edit.reference (length (edits_of r.history.events))
+  pub statuses : kept_statuses.HasRoom r.statuses edit
   pub edits : 1 ≤ r.spare

@@ -4,9 +4,11 @@ ghost use Rattle.std.specs.Prelude.{◌≡◌, ◌<◌, ◌+◌, ◌^◌, ◌∷
 ghost use Rattle.day_cells.specs.Days.{contains_day};
 ghost use Rattle.fixed_units.specs.Quantities.{SiteNumber, same_site};
 ghost use Rattle.history.specs.Accepted.{accepted, edits_of, stations_at, named, journal_size};
-ghost use Rattle.history.specs.After.{MayLeaveInDoubt, after_edit, after_fault, reopen};
+ghost use Rattle.history.specs.After.{MayLeaveInDoubt, after_edit, after_fault, after_record, reopen};
 ghost use Rattle.history.specs.Awaited.{pending_days};
-ghost use Rattle.history.specs.Verdicts.{Accepts, refused_by_stations, verdict, with_edit};
+ghost use Rattle.history.specs.Legal.{IsLegal};
+ghost use Rattle.history.specs.Statuses.{objection_at};
+ghost use Rattle.history.specs.Verdicts.{Accepts, record_of, refused_by_stations, verdict, with_record};
 ghost use Rattle.office_inputs.specs.Changes.{changed_days};
 ghost use Rattle.office_inputs.specs.Places.{IsPlaceOf};
 ghost use Rattle.register.specs.Asked.{IsNotReadmitted, readmission_refusal};
@@ -39,6 +41,7 @@ impl Register {
         self.cells.prepare(edit.site, days)?;
         self.pieces.reserve(1)?;
         let number = self.pieces.len() as u64;
+        self.statuses.prepare(edit)?;
         self.references.put(edit.reference.as_slice(), number)
     }
 
@@ -46,6 +49,7 @@ impl Register {
     /// longer out. It takes no memory.
     pub fn accept(&mut self, piece: Record, place: Place, days: &[Day])
         requires verdict { verdict self.old.history piece.edit ≡ Accepts }
+        requires made { piece ≡ record_of self.old.history piece.edit }
         requires place { IsPlaceOf (stations_at self.old.history.events) piece.edit.site place }
         requires days { days.now ≡ changed_days (stations_at self.old.history.events) piece.edit }
         requires room { IsReady self.old piece.edit }
@@ -54,29 +58,39 @@ impl Register {
     {
         // What an accepted edit counts is within the limits, which are numbers of 64 bits.
         let _ = self.inputs.limits();
-        let bytes = self.journal_after(&piece.edit).unwrap_or(u64::MAX);
-        self.take_in(piece, place, days, bytes);
+        let bytes = self.journal_after(&piece).unwrap_or(u64::MAX);
+        let opened = self.opened;
+        self.take_in(piece, place, days, bytes, opened);
     }
 
-    /// Accepts an edit that was not refused and whose reference is new.
-    fn take_in(&mut self, piece: Record, place: Place, days: &[Day], journal_bytes: u64)
-        requires new { named (edits_of self.old.history.events) piece.edit.reference ≡ None }
+    /// Accepts an edit by its record, of an office that was opened with so many.
+    fn take_in(
+        &mut self,
+        piece: Record,
+        place: Place,
+        days: &[Day],
+        journal_bytes: u64,
+        opened: u64,
+    )
+        requires legal { IsLegal (after_record opened self.old.history piece) }
         requires place { IsPlaceOf (stations_at self.old.history.events) piece.edit.site place }
         requires lawful { refused_by_stations self.old.history piece.edit ≡ None }
         requires days { days.now ≡ changed_days (stations_at self.old.history.events) piece.edit }
         requires room { IsReady self.old piece.edit }
-        requires events { length self.old.history.events + 1 + length (pending_days (with_edit self.old.history piece.edit)) < 2 ^ 64 }
-        requires bytes { journal_bytes ≡ journal_size (accepted (with_edit self.old.history piece.edit)) }
-        ensures history { self.new.history ≡ after_edit self.old.history piece.edit }
+        requires events { length self.old.history.events + 1 + length (pending_days (with_record self.old.history piece)) < 2 ^ 64 }
+        requires bytes { journal_bytes ≡ journal_size (accepted (with_record self.old.history piece)) }
+        ensures history { self.new.history ≡ after_record opened self.old.history piece }
         ensures claims { MarksClaims self.old self.new piece.edit }
     {
         let accepted = Recorded::accepted(&piece);
         let number = self.pieces.len() as u64 + 1;
-        let edit = &piece.edit;
+        let edit = piece.edit();
         self.inputs.apply_at(place, edit);
         self.cells.mark(edit.site, days, number);
+        self.statuses.apply(number, edit, days);
         self.events += 1;
         self.journal_bytes = journal_bytes;
+        self.opened = opened;
         self.past.record(&accepted);
         self.pieces.push_reserved(piece);
     }
@@ -101,14 +115,14 @@ impl Register {
     ///
     /// # Errors
     ///
-    /// [`NotReadmitted::Refused`] exactly where its reference is that of an accepted edit or the stations in force refuse it, and
-    /// [`NotReadmitted::NoMemory`] where there was none, or the events or the bytes of the journal could not be counted. What happened
+    /// [`NotReadmitted::Refused`] exactly where its reference is that of an accepted edit, where the stations in force or the statuses of
+    /// its days refuse it, or where it would change an approved day, and [`NotReadmitted::NoMemory`] where there was none, or the events or the bytes of the journal could not be counted. What happened
     /// is then as before.
     pub fn readmit(&mut self, piece: Record) -> Result<(), NotReadmitted>
         requires { self.old.history ≡ reopen self.old.history.limits (accepted self.old.history.events) }
         ensures history { OnOk result (self.new.history ≡ reopen self.old.history.limits (accepted self.old.history.events ++ piece ∷ [])) }
         ensures lawful { OnOk result (readmission_refusal self.old.history piece.edit ≡ None) }
-        ensures refused { IfErr result (IsNotReadmitted (readmission_refusal self.old.history piece.edit)) }
+        ensures refused { IfErr result (IsNotReadmitted self.old.history piece.edit) }
         ensures same { OnErr result (self.new.history ≡ self.old.history) }
         ensures claims { NoneOut self.old → NoneOut self.new }
     {
@@ -127,43 +141,71 @@ impl Register {
         requires opening { self.old.history ≡ reopen self.old.history.limits (accepted self.old.history.events) }
         ensures history { OnOk result (self.new.history ≡ reopen self.old.history.limits (accepted self.old.history.events ++ piece ∷ [])) }
         ensures lawful { OnOk result (readmission_refusal self.old.history piece.edit ≡ None) }
-        ensures refused { IfErr result (IsNotReadmitted (readmission_refusal self.old.history piece.edit)) }
+        ensures refused { IfErr result (IsNotReadmitted self.old.history piece.edit) }
         ensures same { OnErr result (self.new.history ≡ self.old.history) }
         ensures claims { NoneOut self.old → NoneOut self.new }
     {
-        if let Some((number, _)) = self.named(piece.edit.reference.as_slice()) {
+        if let Some((number, _)) = self.named(piece.edit().reference.as_slice()) {
             return Err(NotReadmitted::Refused(Refusal::RefReused(number)));
         }
-        let edit = &piece.edit;
+        let edit = piece.edit();
         let place = self.inputs.place(edit.site);
         if let Some(refusal) = self.inputs.refusal_at(place, edit) {
             return Err(NotReadmitted::Refused(refusal));
+        }
+        if let Some(objection) = self.statuses.objection(edit) {
+            return Err(NotReadmitted::Refused(objection.into()));
         }
         let mut steps = Steps::<L>::new(blank);
         let days = reach_at(self.alloc, &self.inputs, place, edit, &mut steps)?;
         self.readmit_on(piece, place, days.as_slice())
     }
 
-    /// Accepts an edit that is not refused and changes these days, while an office is opened with it.
+    /// Accepts an edit that is not refused at once and changes these days, while an office is opened with it.
     fn readmit_on(&mut self, piece: Record, place: Place, days: &[Day]) -> Result<(), NotReadmitted>
+        requires opening { self.old.history ≡ reopen self.old.history.limits (accepted self.old.history.events) }
+        requires new { named (edits_of self.old.history.events) piece.edit.reference ≡ None }
+        requires stations { refused_by_stations self.old.history piece.edit ≡ None }
+        requires statuses { objection_at self.old.history.events piece.edit ≡ None }
+        requires place { IsPlaceOf (stations_at self.old.history.events) piece.edit.site place }
+        requires days { days.now ≡ changed_days (stations_at self.old.history.events) piece.edit }
+        ensures history { OnOk result (self.new.history ≡ reopen self.old.history.limits (accepted self.old.history.events ++ piece ∷ [])) }
+        ensures lawful { OnOk result (readmission_refusal self.old.history piece.edit ≡ None) }
+        ensures refused { IfErr result (IsNotReadmitted self.old.history piece.edit) }
+        ensures same { OnErr result (self.new.history ≡ self.old.history) }
+        ensures claims { NoneOut self.old → NoneOut self.new }
+    {
+        if let Some(day) = self.statuses.locked(piece.edit().site, days) {
+            return Err(NotReadmitted::Refused(Refusal::Locked(day)));
+        }
+        self.readmit_unlocked(piece, place, days)
+    }
+
+    /// Accepts an edit that is not refused and changes these days, while an office is opened with it.
+    fn readmit_unlocked(
+        &mut self,
+        piece: Record,
+        place: Place,
+        days: &[Day],
+    ) -> Result<(), NotReadmitted>
         requires opening { self.old.history ≡ reopen self.old.history.limits (accepted self.old.history.events) }
         requires lawful { readmission_refusal self.old.history piece.edit ≡ None }
         requires place { IsPlaceOf (stations_at self.old.history.events) piece.edit.site place }
         requires days { days.now ≡ changed_days (stations_at self.old.history.events) piece.edit }
         ensures history { OnOk result (self.new.history ≡ reopen self.old.history.limits (accepted self.old.history.events ++ piece ∷ [])) }
-        ensures refused { IfErr result (IsNotReadmitted (readmission_refusal self.old.history piece.edit)) }
+        ensures refused { IfErr result (IsNotReadmitted self.old.history piece.edit) }
         ensures same { OnErr result (self.new.history ≡ self.old.history) }
         ensures claims { NoneOut self.old → NoneOut self.new }
     {
-        if self.events_after(&piece.edit, days).is_none() {
+        if self.events_after(&piece, days).is_none() {
             return Err(NotReadmitted::NoMemory);
         }
-        let Some(bytes) = self.journal_after(&piece.edit) else {
+        let Some(bytes) = self.journal_after(&piece) else {
             return Err(NotReadmitted::NoMemory);
         };
-        self.prepare(&piece.edit, place, days)?;
-        self.take_in(piece, place, days, bytes);
-        self.opened += 1;
+        self.prepare(piece.edit(), place, days)?;
+        let opened = self.opened + 1;
+        self.take_in(piece, place, days, bytes, opened);
         Ok(())
     }
 }

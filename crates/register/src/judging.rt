@@ -2,26 +2,27 @@
 
 ghost use Rattle.std.specs.Prelude.{◌≡◌, ◌≤◌, ◌+◌, ◌^◌, true, false, if◌then◌else◌, length, count_by, is_none, IfOk, IfSome, None};
 ghost use Rattle.edits.specs.Same.{is_same};
-ghost use Rattle.history.specs.Accepted.{accepted, edits_of, stations_at, cell_count, journal_size};
+ghost use Rattle.history.specs.Accepted.{accepted, edits_of, stations_at, named, cell_count, journal_size};
 ghost use Rattle.history.specs.Awaited.{pending_days};
 ghost use Rattle.history.specs.Events.{History};
-ghost use Rattle.history.specs.Verdicts.{or_else, refused_where, refused_by_stations, is_full_of_events, is_full_of_cells, is_journal_full, verdict, with_edit, Repeats, Refuses};
+ghost use Rattle.history.specs.Verdicts.{or_else, record_of, refused_where, refused_by_stations, refused_by_statuses, refused_as_awaiting, is_full_of_events, is_full_of_cells, is_journal_full, verdict, with_record, Repeats, Refuses};
 ghost use Rattle.office_inputs.specs.Changes.{changed_days};
+ghost use Rattle.office_inputs.specs.Places.{IsPlaceOf};
 ghost use Rattle.office_inputs.specs.Touched.{interval};
 ghost use Rattle.office_inputs.specs.declared.refusals.Full.TheVariants as fulls;
 ghost use Rattle.office_inputs.specs.declared.refusals.Refusal.TheVariants.{RefReused, HistoryFull, JournalFull};
 ghost use Rattle.recompute.specs.Cells.{awaited_in};
-ghost use Rattle.records.specs.Payloads.{edit_bytes};
-ghost use Rattle.register.specs.Asked.{TellsChanged, TellsPlace, verdict_told, needs_days};
+ghost use Rattle.records.specs.Payloads.{payload};
+ghost use Rattle.register.specs.Asked.{TellsChanged, TellsPlace, TellsRecord, verdict_told, needs_days};
 
 use crate::judged::Judged;
 use crate::registers::Register;
-use depend::reach_at;
+use depend::{DayList, reach_at};
 use edits::Edit;
 use fixed_units::{Day, NoMemory, Site};
-use office_inputs::{Full, Refusal, stations_keep_to_their_ranges};
+use office_inputs::{Full, Place, Refusal, stations_keep_to_their_ranges};
 use recompute::pending_days_stand_by_site;
-use records::edit_len;
+use records::{Record, record_len};
 use std::sync::ledger::Ledger;
 use steps::Steps;
 
@@ -31,53 +32,80 @@ impl Register {
     ///
     /// # Errors
     ///
-    /// [`NoMemory`] where there was none for the search.
-    pub fn judge<L: Ledger>(&self, edit: &Edit, steps: &mut Steps<L>) -> Result<Judged, NoMemory>
-        ensures verdict { IfOk result (λ judged. verdict_told judged ≡ verdict self.now.history edit.now) }
-        ensures changed { IfOk result (TellsChanged self.now.history edit.now) }
-        ensures place { IfOk result (TellsPlace self.now.history edit.now) }
-        ensures steps { steps.new ≤ steps.old + length (interval (stations_at self.now.history.events) edit.now) + 9 }
-        ensures no_step { needs_days self.now.history edit.now ≡ false → steps.new ≡ steps.old }
+    /// [`NoMemory`] where there was none for the search or for the sheets of an approval.
+    pub fn judge<L: Ledger>(&self, edit: Edit, steps: &mut Steps<L>) -> Result<Judged, NoMemory>
+        ensures verdict { IfOk result (λ judged. verdict_told judged ≡ verdict self.now.history edit) }
+        ensures changed { IfOk result (TellsChanged self.now.history edit) }
+        ensures place { IfOk result (TellsPlace self.now.history edit) }
+        ensures record { IfOk result (TellsRecord self.now.history edit) }
+        ensures steps { steps.new ≤ steps.old + length (interval (stations_at self.now.history.events) edit) + 9 }
+        ensures no_step { needs_days self.now.history edit ≡ false → steps.new ≡ steps.old }
     {
         if let Some((number, other)) = self.named(edit.reference.as_slice()) {
-            return Ok(judge_again(number, other, edit));
+            return Ok(judge_again(number, other, &edit));
         }
         let place = self.inputs.place(edit.site);
-        if let Some(refusal) = self.inputs.refusal_at(place, edit) {
+        if let Some(refusal) = self.inputs.refusal_at(place, &edit) {
             return Ok(Judged::Refused(refusal));
         }
-        let days = reach_at(self.alloc, &self.inputs, place, edit, steps)?;
-        Ok(match self.lacks_room(edit, days.as_slice()) {
-            Some(refusal) => Judged::Refused(refusal),
-            None => Judged::Accepted(days, place),
-        })
+        if let Some(refusal) = self.review_refusal(&edit) {
+            return Ok(Judged::Refused(refusal));
+        }
+        let days = reach_at(self.alloc, &self.inputs, place, &edit, steps)?;
+        self.judge_changed(edit, place, days)
+    }
+
+    /// The verdict of an edit that changes these days, which the stations in force, the statuses of its days and the edits that they await
+    /// do not refuse.
+    fn judge_changed(&self, edit: Edit, place: Place, days: DayList) -> Result<Judged, NoMemory>
+        requires new { named (edits_of self.now.history.events) edit.reference ≡ None }
+        requires stations { refused_by_stations self.now.history edit ≡ None }
+        requires statuses { refused_by_statuses self.now.history edit ≡ None }
+        requires awaits_none { refused_as_awaiting self.now.history edit ≡ None }
+        requires place { IsPlaceOf (stations_at self.now.history.events) edit.site place }
+        requires days { days ≡ changed_days (stations_at self.now.history.events) edit }
+        ensures verdict { IfOk result (λ judged. verdict_told judged ≡ verdict self.now.history edit) }
+        ensures changed { IfOk result (TellsChanged self.now.history edit) }
+        ensures place { IfOk result (TellsPlace self.now.history edit) }
+        ensures record { IfOk result (TellsRecord self.now.history edit) }
+    {
+        if let Some(day) = self.statuses.locked(edit.site, days.as_slice()) {
+            return Ok(Judged::Refused(Refusal::Locked(day)));
+        }
+        let piece = self.record_of(edit)?;
+        if let Some(refusal) = self.lacks_room(&piece, days.as_slice()) {
+            return Ok(Judged::Refused(refusal));
+        }
+        Ok(Judged::Accepted { piece, place, days })
     }
 
     /// For what there is no room, of an edit that changes these days: its events, its cells or its record.
-    fn lacks_room(&self, edit: &Edit, days: &[Day]) -> Option<Refusal>
-        requires lawful { refused_by_stations self.now.history edit.now ≡ None }
-        requires days { days.now ≡ changed_days (stations_at self.now.history.events) edit.now }
-        ensures { result ≡ or_else (refused_where (is_full_of_events self.now.history edit.now) (HistoryFull fulls.Events)) (or_else (refused_where (is_full_of_cells self.now.history edit.now) (HistoryFull fulls.Cells)) (refused_where (is_journal_full self.now.history edit.now) JournalFull)) }
+    fn lacks_room(&self, piece: &Record, days: &[Day]) -> Option<Refusal>
+        requires lawful { refused_by_stations self.now.history piece.now.edit ≡ None }
+        requires made { piece.now ≡ record_of self.now.history piece.now.edit }
+        requires days { days.now ≡ changed_days (stations_at self.now.history.events) piece.now.edit }
+        ensures { result ≡ or_else (refused_where (is_full_of_events self.now.history piece.now.edit) (HistoryFull fulls.Events)) (or_else (refused_where (is_full_of_cells self.now.history piece.now.edit) (HistoryFull fulls.Cells)) (refused_where (is_journal_full self.now.history piece.now.edit) JournalFull)) }
     {
-        if self.lacks_events(edit, days) {
+        if self.lacks_events(piece, days) {
             return Some(Refusal::HistoryFull(Full::Events));
         }
-        if self.lacks_cells(edit, days) {
+        if self.lacks_cells(piece.edit(), days) {
             return Some(Refusal::HistoryFull(Full::Cells));
         }
-        if self.lacks_bytes(edit) {
+        if self.lacks_bytes(piece) {
             return Some(Refusal::JournalFull);
         }
         None
     }
 
     /// Whether an edit that changes these days and the publications that it brings are too many events.
-    fn lacks_events(&self, edit: &Edit, days: &[Day]) -> bool
-        requires { days.now ≡ changed_days (stations_at self.now.history.events) edit.now }
-        ensures { result ≡ is_full_of_events self.now.history edit.now }
+    fn lacks_events(&self, piece: &Record, days: &[Day]) -> bool
+        requires made { piece.now ≡ record_of self.now.history piece.now.edit }
+        requires days { days.now ≡ changed_days (stations_at self.now.history.events) piece.now.edit }
+        ensures { result ≡ is_full_of_events self.now.history piece.now.edit }
     {
         let limit = self.inputs.limits().events;
-        self.events_after(edit, days)
+        self.events_after(piece, days)
             .is_none_or(|events| events > limit)
     }
 
@@ -91,25 +119,26 @@ impl Register {
         self.cells.cells_after(edit.site, days) > self.inputs.limits().cells
     }
 
-    /// Whether the journal would be too long with the record of an edit.
-    fn lacks_bytes(&self, edit: &Edit) -> bool
-        ensures { result ≡ is_journal_full self.now.history edit.now }
+    /// Whether the journal would be too long with a record.
+    fn lacks_bytes(&self, piece: &Record) -> bool
+        requires { piece.now ≡ record_of self.now.history piece.now.edit }
+        ensures { result ≡ is_journal_full self.now.history piece.now.edit }
     {
         let limit = self.inputs.limits().journal_bytes;
-        self.journal_after(edit).is_none_or(|bytes| bytes > limit)
+        self.journal_after(piece).is_none_or(|bytes| bytes > limit)
     }
 
-    /// How many events there would be with an edit that changes these days and a publication of each day that would be pending, or
-    /// `None` where that cannot be counted.
-    pub(crate) fn events_after(&self, edit: &Edit, days: &[Day]) -> Option<u64>
-        requires { days.now ≡ changed_days (stations_at self.now.history.events) edit.now }
-        ensures counted { IfSome result (λ events. events ≡ length self.now.history.events + 1 + length (pending_days (with_edit self.now.history edit.now))) }
-        ensures most { result ≡ None → 2 ^ 64 ≤ length self.now.history.events + 1 + length (pending_days (with_edit self.now.history edit.now)) }
+    /// How many events there would be with a record whose edit changes these days and a publication of each day that would be pending,
+    /// or `None` where that cannot be counted.
+    pub(crate) fn events_after(&self, piece: &Record, days: &[Day]) -> Option<u64>
+        requires { days.now ≡ changed_days (stations_at self.now.history.events) piece.now.edit }
+        ensures counted { IfSome result (λ events. events ≡ length self.now.history.events + 1 + length (pending_days (with_record self.now.history piece.now))) }
+        ensures most { result ≡ None → 2 ^ 64 ≤ length self.now.history.events + 1 + length (pending_days (with_record self.now.history piece.now)) }
     {
         stations_keep_to_their_ranges(&self.inputs);
         pending_days_stand_by_site(&self.cells);
         let settled = self.events + self.cells.pending();
-        let added = 1 + self.newly_pending(edit.site, days);
+        let added = 1 + self.newly_pending(piece.edit().site, days);
         settled.checked_add(added)
     }
 
@@ -123,29 +152,30 @@ impl Register {
             .count() as u64
     }
 
-    /// How many bytes the journal would have with an edit, or `None` where that cannot be counted.
-    pub(crate) fn journal_after(&self, edit: &Edit) -> Option<u64>
-        ensures counted { IfSome result (λ bytes. bytes ≡ journal_size (accepted (with_edit self.now.history edit.now))) }
-        ensures most { result ≡ None → 2 ^ 64 ≤ journal_size (accepted (with_edit self.now.history edit.now)) }
+    /// How many bytes the journal would have with a record, or `None` where that cannot be counted.
+    pub(crate) fn journal_after(&self, piece: &Record) -> Option<u64>
+        ensures counted { IfSome result (λ bytes. bytes ≡ journal_size (accepted (with_record self.now.history piece.now))) }
+        ensures most { result ≡ None → 2 ^ 64 ≤ journal_size (accepted (with_record self.now.history piece.now)) }
     {
-        self.journal_bytes.checked_add(block_len(edit))
+        self.journal_bytes.checked_add(block_len(piece))
     }
 }
 
-/// How many bytes of a journal an edit takes: a gate, the length of its payload in four bytes, and the payload.
-fn block_len(edit: &Edit) -> u64
-    ensures { result ≡ 5 + length (edit_bytes edit.now) }
+/// How many bytes of a journal a record takes: a gate, the length of its payload in four bytes, and the payload.
+fn block_len(piece: &Record) -> u64
+    ensures { result ≡ 5 + length (payload piece.now) }
 {
-    5 + edit_len(edit) as u64
+    5 + record_len(piece) as u64
 }
 
 /// The verdict of an edit under the reference of an accepted one.
-fn judge_again(number: u64, other: &Edit, edit: &Edit) -> Judged
-    ensures verdict { verdict_told result ≡ (if is_same other.now edit.now then Repeats number else Refuses (RefReused number)) }
+fn judge_again(number: u64, other: &Record, edit: &Edit) -> Judged
+    ensures verdict { verdict_told result ≡ (if is_same other.now.edit edit.now then Repeats number else Refuses (RefReused number)) }
     ensures changed { (h : History) → TellsChanged h edit.now result }
     ensures place { (h : History) → TellsPlace h edit.now result }
+    ensures record { (h : History) → TellsRecord h edit.now result }
 {
-    if other.is_same(edit) {
+    if other.edit().is_same(edit) {
         return Judged::Repeated(number);
     }
     Judged::Refused(Refusal::RefReused(number))

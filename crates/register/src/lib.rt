@@ -10,8 +10,9 @@ pub mod judging;
 pub mod laws;
 pub mod references;
 pub mod registers;
+mod reviewing;
 
-pub use answers::Answer;
+pub use answers::{Answer, Sheet};
 pub use judged::{Judged, NotReadmitted};
 pub use references::References;
 pub use registers::Register;

@@ -116,7 +116,7 @@ fn has_reference(pieces: &[Record], reference: &[u8], place: u64) -> bool
     ensures { result ≡ has_reference pieces.now reference.now place }
 {
     match pieces.get(place as usize) {
-        Some(piece) => piece.edit.reference.as_slice() == reference,
+        Some(piece) => piece.edit().reference.as_slice() == reference,
         None => false,
     }
 }

@@ -1,20 +1,19 @@
 //! What an office keeps in memory: what happened, in order, and beside it all that is read off that.
 
 ghost use Rattle.std.specs.Prelude.{◌≡◌, [], length, map, option_map};
-ghost use Rattle.history.specs.Accepted.{accepted, edits_of, stations_at, named};
+ghost use Rattle.history.specs.Accepted.{accepted, edits_of, stations_at, named, record_numbered};
 ghost use Rattle.history.specs.After.{reopen};
 ghost use Rattle.history.specs.Awaited.{answer_at, pending_days};
 ghost use Rattle.history.specs.Statuses.{status_at};
 ghost use Rattle.office_inputs.specs.Kept.{in_force};
 ghost use Rattle.office_inputs.specs.Stations.{station_of};
-ghost use Rattle.register.specs.Asked.{answer_told, numbered};
+ghost use Rattle.register.specs.Asked.{answer_told};
 ghost use Rattle.register.specs.Registered.{NoneOut};
 
 use crate::answers::Answer;
 use crate::references::References;
-use approval::Status;
+use approval::{Status, Statuses};
 use chronicle::Chronicle;
-use edits::Edit;
 use fixed_units::{Day, Site};
 use history::Recorded;
 use office_inputs::{Inputs, Limits, Station, stations_keep_to_their_ranges};
@@ -36,6 +35,7 @@ pub struct Register {
     pub(crate) inputs: Inputs,
     pub(crate) cells: Cells,
     pub(crate) references: References,
+    pub(crate) statuses: Statuses,
     /// The records of the accepted edits.
     pub(crate) pieces: Vec<Record>,
     /// How many events the history has.
@@ -57,9 +57,9 @@ impl Model for Register {
 
     ghost coded = { Prim.hlevel (codes, edit.the_row.coded) };
 
-    ghost view = { λ r. registered r.opened r.inputs r.cells r.references (vec_capacity r.pieces - vec_len r.pieces) r.past };
+    ghost view = { λ r. registered r.opened r.inputs r.cells r.references r.statuses (vec_capacity r.pieces - vec_len r.pieces) r.past };
 
-    ghost invariant = { λ r. Keeps (registered r.opened r.inputs r.cells r.references (vec_capacity r.pieces - vec_len r.pieces) r.past) r.pieces.items r.events r.journal_bytes };
+    ghost invariant = { λ r. Keeps (registered r.opened r.inputs r.cells r.references r.statuses (vec_capacity r.pieces - vec_len r.pieces) r.past) r.pieces.items r.events r.journal_bytes };
 }
 
 impl Register {
@@ -74,6 +74,7 @@ impl Register {
             inputs: Inputs::new(alloc, limits),
             cells: Cells::new(alloc),
             references: References::new(alloc),
+            statuses: Statuses::new(alloc),
             pieces: Vec::new(alloc),
             events: 0,
             journal_bytes: EMPTY_JOURNAL,
@@ -111,19 +112,19 @@ impl Register {
 
     /// The record of an accepted edit by its number, from 1 on.
     pub fn edit(&self, number: u64) -> Option<&Record>
-        ensures { option_map (λ piece. piece.now) result ≡ numbered self.now.history.events number }
+        ensures { option_map (λ piece. piece.now) result ≡ record_numbered self.now.history.events number }
     {
         let place = number.checked_sub(1)?;
         self.pieces.get(place as usize)
     }
 
-    /// The accepted edit that a reference names, with its number.
-    pub(crate) fn named(&self, reference: &[u8]) -> Option<(u64, &Edit)>
-        ensures { option_map (λ known. record { number = known.0; edit = known.1.now }) result ≡ named (edits_of self.now.history.events) reference.now }
+    /// The record of the accepted edit that a reference names, with its number.
+    pub(crate) fn named(&self, reference: &[u8]) -> Option<(u64, &Record)>
+        ensures { option_map (λ known. record { number = known.0; edit = known.1.now.edit }) result ≡ named (edits_of self.now.history.events) reference.now }
     {
         let place = self.references.place(reference, self.pieces.as_slice())?;
         let piece = self.pieces.get(place as usize)?;
-        Some((place + 1, &piece.edit))
+        Some((place + 1, piece))
     }
 
     /// How many days are pending.
@@ -167,6 +168,6 @@ impl Register {
     pub fn status(&self, site: Site, day: Day) -> Status
         ensures { result ≡ status_at self.now.history.events site day }
     {
-        Status::Working
+        self.statuses.status(site, day)
     }
 }

@@ -1,8 +1,7 @@
 //! What is said to the records that an office is opened with.
 
-use crate::sent::{ADDITION, ANOTHER, FIRST, READING, edit};
+use crate::sent::{ADDITION, ANOTHER, FIRST, READING, record};
 use crate::tables::{Cause, Wrong};
-use edits::Edit;
 use office_inputs::Limits;
 use records::Record;
 use register::{NotReadmitted, Register};
@@ -14,10 +13,10 @@ pub type Said = Result<(), Cause>;
 /// What is said to the records of two edits, and with how many edits the office is opened then.
 pub type Readmitted = (Said, Said, u64);
 
-fn readmitted(alloc: Global, first: Edit, second: Edit) -> Readmitted {
+fn readmitted(alloc: Global, first: Record, second: Record) -> Readmitted {
     let mut register = Register::new(alloc, Limits::usual());
-    let said = said_of(register.readmit(Record { edit: first }));
-    let next = said_of(register.readmit(Record { edit: second }));
+    let said = said_of(register.readmit(first));
+    let next = said_of(register.readmit(second));
     (said, next, register.opened())
 }
 
@@ -45,8 +44,8 @@ static ROWS: [([&[u8]; 2], Readmitted); 5] = [
 
 /// What is said to two records, and how many are accepted.
 fn said(alloc: Global, records: [&[u8]; 2]) -> Result<Readmitted, Wrong> {
-    let first = edit(alloc, records[0])?;
-    let second = edit(alloc, records[1])?;
+    let first = record(alloc, records[0])?;
+    let second = record(alloc, records[1])?;
     Ok(readmitted(alloc, first, second))
 }
 

@@ -2,7 +2,7 @@
 
 use crate::tables::Wrong;
 use edits::Edit;
-use records::decode;
+use records::{Record, decode};
 use std::alloc::Global;
 
 /// `AB` adds the station 01646500, POTOMAC, five hours behind UTC, with readings up to twelve hours apart; the reference is `a1`.
@@ -63,11 +63,19 @@ pub const FIFTH: i32 = 19_727;
 
 pub const SIXTH: i32 = 19_728;
 
-/// The edit of a record.
-pub fn edit(alloc: Global, record: &[u8]) -> Result<Edit, Wrong> {
-    let payload = record.get(4..).ok_or(Wrong::Record)?;
+/// The record of these bytes.
+pub fn record(alloc: Global, bytes: &[u8]) -> Result<Record, Wrong> {
+    let payload = bytes.get(4..).ok_or(Wrong::Record)?;
     match decode(alloc, payload) {
-        Ok(piece) => Ok(piece.edit),
+        Ok(piece) => Ok(piece),
         Err(_) => Err(Wrong::Record),
+    }
+}
+
+/// The edit of a record.
+pub fn edit(alloc: Global, bytes: &[u8]) -> Result<Edit, Wrong> {
+    match record(alloc, bytes) {
+        Ok(piece) => Ok(piece.into_edit()),
+        Err(wrong) => Err(wrong),
     }
 }

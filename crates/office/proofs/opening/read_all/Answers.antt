@@ -2,7 +2,7 @@
 use Rattle.std.specs.Prelude.{◌++◌, ◌∷◌, [], Ok, Bool}
 use Rattle.std.proofs.Common.{arith, ap, sym, ◌∙◌}
 use Rattle.office.specs.Replaying.{HasReadmitted, HasReadmittedAll}
-use Rattle.records.specs.declared.payloads.Record.{Record}
+use Rattle.records.specs.Sheets.{Record}
 use Rattle.office.proofs.ReplayLemmas.{gate_moves, reads_on, of_limits, all_of_limits}
 use Rattle.office.proofs.opening.read_all.Goals as goal
 

@@ -2,7 +2,7 @@
 use Rattle.std.specs.Prelude.{◌≡◌, List, ◌-◌, ◌^◌}
 use Rattle.journal.specs.Moments.{OnlyReads}
 use Rattle.office.specs.Replaying.{HasReadmitted}
-use Rattle.records.specs.declared.payloads.Record.{Record}
+use Rattle.records.specs.Sheets.{Record}
 use Rattle.office.proofs.opening.read_all.Given as goal
 
 abbrev pub invariant-loop : goal.invariant-loop

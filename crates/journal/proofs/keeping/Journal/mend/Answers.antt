@@ -2,7 +2,7 @@ use Rattle.std.proofs.Common.{List, Some, Result, Ok, Err, refl}
 use Rattle.std.specs.Result.{IsErrAnd}
 use Rattle.devices.specs.declared.disks.Disk.{Ghosts}
 use Rattle.devices.specs.declared.disks.DiskFailed.{DiskFailed}
-use Rattle.records.specs.declared.payloads.Record.{Record}
+use Rattle.records.specs.Sheets.{Record}
 use Rattle.journal.specs.JournalBytes.{IsJournalOf, IsUndecided}
 use Rattle.journal.specs.Keeping.{Holds, Mends}
 use Rattle.journal.specs.declared.keeping.Journal.{Journal}

@@ -31,7 +31,7 @@ returns-then-is_err-clause-any_moment g c =
 pub returns-then-is_err-clause-calls : goal.returns-then-is_err-clause-calls
 returns-then-is_err-clause-calls g c =
     subst (λ (o : Officed g.row.D.Denot). Lists (g.D.Disk.content o.disk) (g.D.Disk.calls o.disk) (g.D.Disk.calls c.self.inside.journal.disk)
-    (g.D.Disk.faults c.self.inside.journal.disk) (EditCalls o.register.history c.args.edit c.prepare.new.self.history (Err NoMemory)))
+    (g.D.Disk.faults c.self.inside.journal.disk) (EditCalls o.register.history c.args.piece.edit c.prepare.new.self.history (Err NoMemory)))
     c.self.view_is
     (lists_none (g.D.Disk.content c.self.inside.journal.disk) (g.D.Disk.calls c.self.inside.journal.disk) (g.D.Disk.faults c.self.inside.journal.disk)
     (λ calls. calls ≡ []) refl)
@@ -39,9 +39,9 @@ returns-then-is_err-clause-calls g c =
 -- the claims behind the edit
 pub returns-clause-claims : goal.returns-clause-claims
 returns-clause-claims g c =
-    subst (λ (o : Officed g.row.D.Denot). EditsClaims o.register c.args.edit c.keep_and_accept.new.self.register c.keep_and_accept.result)
+    subst (λ (o : Officed g.row.D.Denot). EditsClaims o.register c.args.piece.edit c.keep_and_accept.new.self.register c.keep_and_accept.result)
     c.self.view_is
-    (claims_behind c.self.inside.register c.prepare.new.self c.keep_and_accept.new.self.register c.args.edit
-    (λ (told : Accepted). IsTaken c.prepare.new.self.history c.args.edit c.keep_and_accept.new.self.register.history told.number false)
+    (claims_behind c.self.inside.register c.prepare.new.self c.keep_and_accept.new.self.register c.args.piece.edit
+    (λ (told : Accepted). IsTaken c.prepare.new.self.history c.args.piece.edit c.keep_and_accept.new.self.register.history told.number false)
     c.keep_and_accept.result c.prepare.ensures.claims c.prepare.ensures.history c.keep_and_accept.ensures.accepted c.keep_and_accept.ensures.claims
     c.keep_and_accept.ensures.fault_claims)

@@ -1,0 +1,79 @@
+-- A record that is not refused among those that an office is opened with may be kept.
+use Rattle.std.specs.Prelude.{◌≡◌, Option, Some, None, option_map, ℤ}
+use Rattle.std.proofs.Common.{refl, ap, sym, ◌∙◌}
+use Rattle.approval.specs.declared.objections.Objection.{Objection}
+use Rattle.edits.specs.declared.content.Edit.{Edit}
+use Rattle.history.specs.Accepted.{Numbered, edits_of, named}
+use Rattle.history.specs.Events.{History}
+use Rattle.history.specs.Legal.{MayBeKept}
+use Rattle.history.specs.Statuses.{locked_at, objection_at}
+use Rattle.history.specs.Verdicts.{or_else, refused_as_locked, refused_by_stations, refused_by_statuses}
+use Rattle.history.proofs.VerdictLemmas.{none_mapped}
+use Rattle.office_inputs.specs.Refusals as inputs
+use Rattle.office_inputs.specs.declared.refusals.Refusal.{Refusal}
+use Rattle.office_inputs.specs.declared.refusals.Refusal.TheVariants.{Locked}
+use Rattle.records.specs.Sheets.{Record}
+use Rattle.register.specs.Asked.{readmission_refusal, refused_at_once, reused}
+
+first_none : (a b : Option Refusal) → or_else a b ≡ None → a ≡ None
+first_none None b h = refl
+first_none (Some refusal) b h = absurd (cc)
+
+later_none : (a b : Option Refusal) → or_else a b ≡ None → b ≡ None
+later_none None b h = h
+later_none (Some refusal) b h = absurd (cc)
+
+not_named : (o : Option Numbered) → reused o ≡ None → o ≡ None
+not_named None h = refl
+not_named (Some other) h = absurd (cc)
+
+-- nor is it refused at once
+pub none_at_once : (h : History) (edit : Edit) → readmission_refusal h edit ≡ None → refused_at_once h edit ≡ None
+none_at_once h edit none =
+    let locked = refused_as_locked h edit in
+    let rest = or_else (refused_by_stations h edit) (or_else (refused_by_statuses h edit) locked) in
+    let behind = later_none (reused (named (edits_of h.events) edit.reference)) rest none in
+    let later = later_none (refused_by_stations h edit) (or_else (refused_by_statuses h edit) locked) behind in
+    ap (λ (o : Option Refusal). or_else o (or_else (refused_by_stations h edit) (refused_by_statuses h edit))) (first_none (reused (named (edits_of h.events) edit.reference)) rest none)
+    ∙ ap (λ (o : Option Refusal). or_else o (refused_by_statuses h edit)) (first_none (refused_by_stations h edit) (or_else (refused_by_statuses h edit) locked) behind)
+    ∙ first_none (refused_by_statuses h edit) locked later
+
+pub may_be_kept : (h : History) (piece : Record) → readmission_refusal h piece.edit ≡ None → MayBeKept h.limits h.events piece
+may_be_kept h piece none =
+    let edit = piece.edit in
+    let locked = refused_as_locked h edit in
+    let rest = or_else (refused_by_stations h edit) (or_else (refused_by_statuses h edit) locked) in
+    let behind = later_none (reused (named (edits_of h.events) edit.reference)) rest none in
+    let later = later_none (refused_by_stations h edit) (or_else (refused_by_statuses h edit) locked) behind in
+    record {
+      reference = not_named (named (edits_of h.events) edit.reference) (first_none (reused (named (edits_of h.events) edit.reference)) rest none);
+      stations = first_none (refused_by_stations h edit) (or_else (refused_by_statuses h edit) locked) behind;
+      statuses = none_mapped inputs.refusal_for_objection (objection_at h.events edit) (first_none (refused_by_statuses h edit) locked later);
+      unlocked = none_mapped Locked (locked_at h.events edit) (later_none (refused_by_statuses h edit) locked later);
+    }
+
+module _ (h : History) (edit : Edit) (new : named (edits_of h.events) edit.reference ≡ None) (stations : refused_by_stations h edit ≡ None) where
+  behind : readmission_refusal h edit ≡ or_else (refused_by_statuses h edit) (refused_as_locked h edit)
+  behind =
+      ap (λ (o : Option Numbered). or_else (reused o) (or_else (refused_by_stations h edit) (or_else (refused_by_statuses h edit) (refused_as_locked h edit)))) new
+      ∙ ap (λ (o : Option Refusal). or_else o (or_else (refused_by_statuses h edit) (refused_as_locked h edit))) stations
+
+  pub refused_objection : (objection : Objection) → objection_at h.events edit ≡ Some objection → readmission_refusal h edit ≡ Some (inputs.refusal_for_objection objection)
+  refused_objection objection e =
+      behind ∙ ap (λ (o : Option Objection). or_else (option_map inputs.refusal_for_objection o) (refused_as_locked h edit)) e
+
+  pub without_objection : objection_at h.events edit ≡ None → readmission_refusal h edit ≡ refused_as_locked h edit
+  without_objection e =
+      behind ∙ ap (λ (o : Option Objection). or_else (option_map inputs.refusal_for_objection o) (refused_as_locked h edit)) e
+
+  pub refused_lock : objection_at h.events edit ≡ None → (day : ℤ) → locked_at h.events edit ≡ Some day → readmission_refusal h edit ≡ Some (Locked day)
+  refused_lock e day l = without_objection e ∙ ap (option_map Locked) l
+
+  pub not_refused : objection_at h.events edit ≡ None → locked_at h.events edit ≡ None → readmission_refusal h edit ≡ None
+  not_refused e l = without_objection e ∙ ap (option_map Locked) l
+
+  pub not_at_once : objection_at h.events edit ≡ None → refused_at_once h edit ≡ None
+  not_at_once e =
+      ap (λ (o : Option Numbered). or_else (reused o) (or_else (refused_by_stations h edit) (refused_by_statuses h edit))) new
+      ∙ ap (λ (o : Option Refusal). or_else o (refused_by_statuses h edit)) stations
+      ∙ ap (option_map inputs.refusal_for_objection) e

@@ -1,0 +1,79 @@
+-- What is asked of the statuses hangs on those of the days of the calendar alone.
+use Rattle.std.specs.Prelude.{◌≡◌, ℕ, Bool, not, ◌&&◌, cond, List, [], ◌∷◌, find, filter, All, Option, Some, None, option_map, ℤ}
+use Rattle.std.proofs.Common.{refl, ap, sym, ◌∙◌}
+use Rattle.std.proofs.lemmas.List.Elements.{All-head, All-tail, All-filter}
+use Rattle.approval.specs.Kept.{KeptSite, standing_in}
+use Rattle.approval.specs.Statuses.{Standing, first_approved, first_day_of, is_approved, is_in_review, is_reviewed_by, objection_of, or_else, spans}
+use Rattle.approval.specs.declared.objections.Objection.{Objection}
+use Rattle.approval.specs.declared.objections.Objection.TheVariants.{NotInReview, SamePerson, NotApproved, AlreadyApproved}
+use Rattle.approval.specs.declared.status.Status.{Status}
+use Rattle.edits.specs.declared.content.Edit.{Edit}
+use Rattle.edits.specs.declared.content.What.{What}
+use Rattle.edits.specs.declared.content.What.TheVariants.{AddStation, SetStation, PutReadings, DropReadings, FlagReadings, PutCorrection, DropCorrection, PutShift, DropShift, AddRating, PutPeriod, DropPeriod, PutEstimate, DropEstimate, PutMeasurement, DropMeasurement, Review, Decide}
+use Rattle.edits.specs.declared.decisions.Decision.{Decision}
+use Rattle.edits.specs.declared.decisions.Decision.TheVariants.{Approve, Rescind}
+use Rattle.fixed_units.specs.Calendar.{calendar}
+use Rattle.fixed_units.specs.Quantities.{IsDay}
+use Rattle.history.specs.Accepted.{stations_at}
+use Rattle.history.specs.Events.{Event}
+use Rattle.history.specs.Statuses.{locked_at, objection_at, status_at}
+use Rattle.history.proofs.PendingLemmas.{calendar_days}
+use Rattle.office_inputs.specs.Changes.{changed_days, keeps_day}
+use Rattle.register.specs.Keeping.{TellsStatuses}
+
+find_step : (b c : Bool) (x : ℤ) (o p : Option ℤ) → b ≡ c → o ≡ p → cond b (Some x) o ≡ cond c (Some x) p
+find_step b c x o p e f = rw (e, f) refl
+
+find_same : (p q : ℤ → Bool) → ((d : ℤ) → IsDay d → p d ≡ q d) → (days : List ℤ) → All IsDay days → find p days ≡ find q days
+find_same p q same [] h = refl
+find_same p q same (d ∷ days) h =
+    find_step (p d) (q d) d (find p days) (find q days) (same d (All-head IsDay d days h)) (find_same p q same days (All-tail IsDay d days h))
+
+module _ (a b : ℤ → Status) (same : (d : ℤ) → IsDay d → a d ≡ b d) where
+  first_same : (test : Status → Bool) (from to : ℤ) → first_day_of (λ d. test (a d)) from to ≡ first_day_of (λ d. test (b d)) from to
+  first_same test from to =
+      find_same (λ d. spans from to d && test (a d)) (λ d. spans from to d && test (b d)) (λ d is. ap (λ s. spans from to d && test s) (same d is)) calendar calendar_days
+
+  decision_same : (by : List ℕ) (from to : ℤ) (decision : Decision) → objection_of a by (Decide from to decision) ≡ objection_of b by (Decide from to decision)
+  decision_same by from to Approve =
+      ap (λ (o : Option ℤ). or_else (option_map NotInReview o) (option_map SamePerson (first_day_of (λ d. is_reviewed_by by (a d)) from to)))
+      (first_same (λ s. not (is_in_review s)) from to)
+      ∙ ap (λ (o : Option ℤ). or_else (option_map NotInReview (first_day_of (λ d. not (is_in_review (b d))) from to)) (option_map SamePerson o))
+      (first_same (is_reviewed_by by) from to)
+  decision_same by from to Rescind = ap (option_map NotApproved) (first_same (λ s. not (is_approved s)) from to)
+
+  objection_same : (by : List ℕ) (what : What) → objection_of a by what ≡ objection_of b by what
+  objection_same by (Review from to) = ap (option_map AlreadyApproved) (first_same is_approved from to)
+  objection_same by (Decide from to decision) = decision_same by from to decision
+  objection_same by (AddStation name zone gap stages discharges) = refl
+  objection_same by (SetStation name gap stages discharges) = refl
+  objection_same by (PutReadings readings) = refl
+  objection_same by (DropReadings from to) = refl
+  objection_same by (FlagReadings from to flag) = refl
+  objection_same by (PutCorrection set at curve prorate) = refl
+  objection_same by (DropCorrection set at) = refl
+  objection_same by (PutShift at curve prorate) = refl
+  objection_same by (DropShift at) = refl
+  objection_same by (AddRating rating table) = refl
+  objection_same by (PutPeriod period) = refl
+  objection_same by (DropPeriod from) = refl
+  objection_same by (PutEstimate estimate) = refl
+  objection_same by (DropEstimate day) = refl
+  objection_same by (PutMeasurement measurement) = refl
+  objection_same by (DropMeasurement number) = refl
+
+  approved_same : (days : List ℤ) → All IsDay days → first_approved a days ≡ first_approved b days
+  approved_same days h = find_same (λ d. is_approved (a d)) (λ d. is_approved (b d)) (λ d is. ap is_approved (same d is)) days h
+
+module _ (events : List Event) (kept : List KeptSite) (told : TellsStatuses events kept) (edit : Edit) where
+  told_status : (d : ℤ) → IsDay d → (standing_in kept edit.site d).status ≡ status_at events edit.site d
+  told_status d is = ap (λ (s : Standing). s.status) (told edit.site d is)
+
+  pub objection_told : objection_of (λ day. (standing_in kept edit.site day).status) edit.by edit.what ≡ objection_at events edit
+  objection_told = objection_same (λ d. (standing_in kept edit.site d).status) (λ d. status_at events edit.site d) told_status edit.by edit.what
+
+  pub locked_told : (days : List ℤ) → days ≡ changed_days (stations_at events) edit → first_approved (λ day. (standing_in kept edit.site day).status) days ≡ locked_at events edit
+  locked_told days e =
+      ap (first_approved (λ day. (standing_in kept edit.site day).status)) e
+      ∙ approved_same (λ d. (standing_in kept edit.site d).status) (λ d. status_at events edit.site d) told_status (changed_days (stations_at events) edit)
+      (All-filter (λ day. not (keeps_day (stations_at events) edit day)) IsDay calendar calendar_days)

@@ -1,5 +1,5 @@
 //! Bodies of many readings, of the usual form in two spellings and with the members in another order: up to 100,000 are read, and one
-//! more is refused, as is anything behind the object.
+//! more is refused, as is a reading that does not follow the one before it, and anything behind the object.
 
 use crate::fixtures::is_refused;
 use civil_days::write_instant;
@@ -35,6 +35,18 @@ const READINGS_FIRST: Form = (
 const TAILED: Form = (
     r#"{"kind":"PutReadings","by":"AB","ref":"a-1","site":"01646500","readings":["#,
     "]}x",
+);
+
+/// The members in the usual order, and behind the rows once more the first instant.
+const FALLING: Form = (
+    r#"{"kind":"PutReadings","by":"AB","ref":"a-1","site":"01646500","readings":["#,
+    r#",["1970-01-01T00:00:00Z","0"]]}"#,
+);
+
+/// The same, and behind that row no JSON.
+const FALLING_TAILED: Form = (
+    r#"{"kind":"PutReadings","by":"AB","ref":"a-1","site":"01646500","readings":["#,
+    r#",["1970-01-01T00:00:00Z","0"],]}"#,
 );
 
 /// How many seconds the readings are apart.
@@ -130,6 +142,17 @@ fn one_reading_more_is_refused(rt: HostRuntime) {
     assert_eq!(rt; is_fault(rt.alloc(), 100_001, SPELLED, fault), Some(true));
     assert_eq!(rt;
         is_fault(rt.alloc(), 100_001, READINGS_FIRST, fault),
+        Some(true)
+    );
+}
+
+#[test]
+fn a_reading_of_an_earlier_instant_is_refused(rt: HostRuntime) {
+    let fault = BodyFault::Body(Member::Readings);
+    assert_eq!(rt; is_fault(rt.alloc(), 1, FALLING, fault), Some(true));
+    assert_eq!(rt; is_fault(rt.alloc(), 400, FALLING, fault), Some(true));
+    assert_eq!(rt;
+        is_fault(rt.alloc(), 400, FALLING_TAILED, BodyFault::Json),
         Some(true)
     );
 }

@@ -3,7 +3,7 @@
 use civil_days::{read_day, read_instant};
 use curves::Curve;
 use edit_bodies::{BodyFault, Member, read_edit};
-use edits::{By, Edit, Estimate, Grade, Measurement, Name, Ref, What};
+use edits::{By, Decision, Edit, Estimate, Grade, Measurement, Name, Ref, What};
 use fixed_units::{Flag, Micro, Reading, RoundingArray, Site, Text};
 use json::Scratch;
 use rating_tables::{SharedTable, Table};
@@ -49,6 +49,10 @@ pub enum Sent {
     Measured(u32, &'static str, i64, i64, Grade),
     /// Takes out the measurement of a number.
     DroppedMeasurement(u32),
+    /// Puts the days from one to another in review.
+    Reviewed(&'static str, &'static str),
+    /// Decides on the days from one to another.
+    Decided(&'static str, &'static str, Decision),
 }
 
 /// The usual rounding arrays of stages and of discharges in these rows.
@@ -185,6 +189,15 @@ fn what(alloc: Global, sent: &Sent) -> Option<What> {
             },
         }),
         Sent::DroppedMeasurement(number) => Some(What::DropMeasurement { number }),
+        Sent::Reviewed(from, to) => Some(What::Review {
+            from: read_day(from.as_bytes())?,
+            to: read_day(to.as_bytes())?,
+        }),
+        Sent::Decided(from, to, decision) => Some(What::Decide {
+            from: read_day(from.as_bytes())?,
+            to: read_day(to.as_bytes())?,
+            decision,
+        }),
     }
 }
 
@@ -195,8 +208,18 @@ fn edit(alloc: Global, sent: &Sent) -> Option<Edit> {
     Edit::new(alloc, by, reference, site, what(alloc, sent)?).ok()
 }
 
+/// The body behind so many blanks that it is a long one, which is tried without a tree first.
+fn behind_blanks(alloc: Global, body: &str) -> Option<Text> {
+    let mut long = Text::new(alloc);
+    for _ in 0..512 {
+        long.push(b' ').ok()?;
+    }
+    long.push_slice(body.as_bytes()).ok()?;
+    Some(long)
+}
+
 /// Whether the body is the edit that is sent.
-pub fn is_read(alloc: Global, body: &[u8], sent: &Sent, scratch: &mut Scratch) -> Option<bool> {
+fn is_read(alloc: Global, body: &[u8], sent: &Sent, scratch: &mut Scratch) -> Option<bool> {
     let wanted = edit(alloc, sent)?;
     match read_edit(alloc, body, scratch) {
         Ok(found) => Some(found.is_same(&wanted)),
@@ -204,11 +227,21 @@ pub fn is_read(alloc: Global, body: &[u8], sent: &Sent, scratch: &mut Scratch) -
     }
 }
 
-/// The number from 0 on of the first body that is read otherwise or not at all, where all are read with one scratch.
+/// Whether the body is the edit that is sent, as it stands and behind many blanks.
+fn is_read_twice(alloc: Global, body: &str, sent: &Sent, scratch: &mut Scratch) -> Option<bool> {
+    let long = behind_blanks(alloc, body)?;
+    Some(
+        is_read(alloc, body.as_bytes(), sent, scratch)?
+            && is_read(alloc, long.as_slice(), sent, scratch)?,
+    )
+}
+
+/// The number from 0 on of the first body that is read otherwise or not at all, as it stands or behind many blanks, where all are read
+/// with one scratch.
 pub fn first_otherwise(alloc: Global, bodies: &[(&str, &Sent)]) -> Option<usize> {
     let mut scratch = Scratch::new(alloc);
     for (row, (body, sent)) in bodies.iter().enumerate() {
-        if is_read(alloc, body.as_bytes(), sent, &mut scratch) != Some(true) {
+        if is_read_twice(alloc, body, sent, &mut scratch) != Some(true) {
             return Some(row);
         }
     }
@@ -223,6 +256,16 @@ pub fn is_refused(alloc: Global, body: &[u8], fault: BodyFault, scratch: &mut Sc
     }
 }
 
+/// Whether another member refuses the body, or none, as it stands or behind many blanks.
+fn is_misnamed(alloc: Global, body: &str, member: Member, scratch: &mut Scratch) -> Option<bool> {
+    let long = behind_blanks(alloc, body)?;
+    let fault = BodyFault::Body(member);
+    Some(
+        !is_refused(alloc, body.as_bytes(), fault, scratch)
+            || !is_refused(alloc, long.as_slice(), fault, scratch),
+    )
+}
+
 /// A body, and the member that refuses it.
 pub type Row = (&'static str, Member);
 
@@ -230,12 +273,7 @@ pub type Row = (&'static str, Member);
 fn first_misnamed(alloc: Global, rows: &[Row]) -> Option<usize> {
     let mut scratch = Scratch::new(alloc);
     for (row, (body, member)) in rows.iter().enumerate() {
-        if !is_refused(
-            alloc,
-            body.as_bytes(),
-            BodyFault::Body(*member),
-            &mut scratch,
-        ) {
+        if is_misnamed(alloc, body, *member, &mut scratch) != Some(false) {
             return Some(row);
         }
     }

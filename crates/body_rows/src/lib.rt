@@ -22,6 +22,8 @@ mod reading_refusals;
 #[cfg(test)]
 mod refusals;
 #[cfg(test)]
+mod review_bodies;
+#[cfg(test)]
 mod span_bodies;
 #[cfg(test)]
 mod value_refusals;

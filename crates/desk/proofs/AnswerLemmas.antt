@@ -1,5 +1,5 @@
 -- How asks are answered.
-use Rattle.std.proofs.Common.{◌≡◌, ◌⊎◌, ℕ, ◌+◌, Bool, true, false, List, length, get_or, ◌==◌, Result, Ok, Err, OnOk, OnErr, true≢false, refl, sym, ◌∙◌, ap, inl, inr}
+use Rattle.std.proofs.Common.{◌≡◌, ◌⊎◌, ℕ, ◌+◌, Bool, true, false, List, length, get_or, ◌==◌, if◌then◌else◌, Result, Ok, Err, OnOk, OnErr, true≢false, refl, sym, ◌∙◌, ap, inl, inr}
 use Rattle.std.specs.Fmt.{digits}
 use Rattle.desk.specs.Answering.{told_bytes}
 use Rattle.desk.specs.Answering as told_of
@@ -14,9 +14,10 @@ use Rattle.http_api.specs.Replies.{bytes_of}
 use Rattle.http_api.specs.declared.asks.Ask.{Ask}
 use Rattle.http_api.specs.declared.asks.Ask.TheVariants as asks
 use Rattle.http_api.specs.declared.replies.Reply.TheVariants as replies
-use Rattle.office.specs.Edits.{IsRefused, IsRefusedBy, is_fault}
+use Rattle.office.specs.Edits.{IsRefused, IsRefusedBy, TakesClaims, is_fault}
 use Rattle.office_inputs.specs.declared.refusals.Refusal.{Refusal}
 use Rattle.office_inputs.specs.declared.refusals.Refusal.TheVariants as refusals
+use Rattle.register.specs.Registered.{NoneOut, Registered}
 
 -- what follows from a fact about an answer that is Ok
 pub on_ok : {X E : Type 0} (r : Result X E) (A B : Type 0) → (A → B) → OnOk r A → OnOk r B
@@ -76,10 +77,25 @@ module _ (h : History) (edit : Edit) (reply : List ℕ) (next : History) where
   refused_by refusals.RatingExists is told fault = refused refusals.RatingExists is told
   refused_by (refusals.PeriodOverlap from) is told fault = refused (refusals.PeriodOverlap from) is told
   refused_by refusals.NoEntry is told fault = refused refusals.NoEntry is told
+  refused_by (refusals.NotInReview day) is told fault = refused (refusals.NotInReview day) is told
+  refused_by (refusals.SamePerson day) is told fault = refused (refusals.SamePerson day) is told
+  refused_by (refusals.Awaits day number) is told fault = refused (refusals.Awaits day number) is told
+  refused_by (refusals.NotApproved day) is told fault = refused (refusals.NotApproved day) is told
+  refused_by (refusals.AlreadyApproved day) is told fault = refused (refusals.AlreadyApproved day) is told
+  refused_by (refusals.Locked day) is told fault = refused (refusals.Locked day) is told
   refused_by (refusals.HistoryFull full) is told fault = refused (refusals.HistoryFull full) is told
   refused_by refusals.JournalFull is told fault = refused refusals.JournalFull is told
   refused_by refusals.NoMemory is told fault = forgone (no_memory reply told) is
   refused_by (refusals.JournalFault in_doubt) is told fault = inr (inl (in_doubt, fault in_doubt refl, is))
+
+marked : (ends before now : Bool) → now ≡ (if ends then false else before) → before ≡ false → now ≡ false
+marked true before now is none = is
+marked false before now is none = is ∙ none
+
+-- where no claim is out, an edit that is taken brings none out
+pub takes_none : (old new : Registered) (edit : Edit) (again : Bool) → TakesClaims old edit new again → NoneOut old → NoneOut new
+takes_none old new edit true keeps none = λ site day. keeps site day ∙ none site day
+takes_none old new edit false marks none = λ site day. marked _ _ _ (marks site day) (none site day)
 
 -- the replies to an edit that was accepted, and of a journal that failed, are not that of want of memory: their statuses differ
 abbrev has_at : ℕ → ℕ → List ℕ → Bool
@@ -115,6 +131,12 @@ unwritten refusals.NoRating told reply old new fault stays none = stays refl
 unwritten refusals.RatingExists told reply old new fault stays none = stays refl
 unwritten (refusals.PeriodOverlap from) told reply old new fault stays none = stays refl
 unwritten refusals.NoEntry told reply old new fault stays none = stays refl
+unwritten (refusals.NotInReview day) told reply old new fault stays none = stays refl
+unwritten (refusals.SamePerson day) told reply old new fault stays none = stays refl
+unwritten (refusals.Awaits day number) told reply old new fault stays none = stays refl
+unwritten (refusals.NotApproved day) told reply old new fault stays none = stays refl
+unwritten (refusals.AlreadyApproved day) told reply old new fault stays none = stays refl
+unwritten (refusals.Locked day) told reply old new fault stays none = stays refl
 unwritten (refusals.HistoryFull full) told reply old new fault stays none = stays refl
 unwritten refusals.JournalFull told reply old new fault stays none = stays refl
 unwritten refusals.NoMemory told reply old new fault stays none = stays refl

@@ -1,58 +1,59 @@
 -- The rows of a daily table, one day after another, and the replies for days.
 use Rattle.std.specs.Prelude.{◌≡◌, ℕ, Bool, true, false, not, List, [], ◌∷◌, ◌++◌, map, Option, Some, None, is_some, option_map, ℤ, pos, ◌+ℤ◌, ◌≤ℤ◌, ◌<ℤ◌, if◌then◌else◌}
 use Rattle.std.proofs.Common.{Bor, arith, refl, ap, sym, ◌∙◌, append_assoc}
+use Rattle.std.specs.List.{flat_map}
 use Rattle.std.proofs.lemmas.Int.{ints}
 use Rattle.std.proofs.lemmas.List.{append-nil}
-use Rattle.approval.specs.declared.Status.{Status}
+use Rattle.approval.specs.declared.status.Status.{Status}
 use Rattle.daily_values.specs.declared.day_values.DayValue.{DayValue}
 use Rattle.depend.specs.Compared.{days_within}
 use Rattle.depend.proofs.CalendarLemmas.{within_cons, within_none}
 use Rattle.desk.specs.Answering.{IsKnown, answer_of}
-use Rattle.desk.specs.Replies.{answer_bytes, day_reply, row_at, row_by, table_reply}
+use Rattle.desk.specs.Replies.{answer_bytes, day_reply, day_row, row_at, sheet_reply, table_reply}
 use Rattle.fixed_units.specs.Quantities.{IsDay, SiteNumber, first_day}
-use Rattle.history.specs.Accepted.{stations_at}
-use Rattle.history.specs.Awaited.{NoStation, answer_at, answer_by, awaited, value_at}
+use Rattle.history.specs.Awaited.{NoStation, answer_at, answer_by}
 use Rattle.history.specs.Events.{Event}
+use Rattle.history.specs.Sheets.{Text}
 use Rattle.history.specs.Statuses.{status_at}
 use Rattle.http_api.specs.Days.{answer_members, status_member}
 use Rattle.http_api.specs.Replies.{bytes_of}
-use Rattle.http_api.specs.Tables.{Row, answer_row, pending_row, row_of, value_row}
+use Rattle.http_api.specs.Tables.{Row, answer_row, row_of}
 use Rattle.http_api.specs.declared.days.DayAnswer.{DayAnswer as Answer}
 use Rattle.http_api.specs.declared.days.DayAnswer.TheVariants as answers
 use Rattle.http_api.specs.declared.days.DayReply.{DayReply}
 use Rattle.http_api.specs.declared.replies.Reply.TheVariants as replies
-use Rattle.office_inputs.specs.Stations.{station_of}
 
 -- the rows that were gathered are those of the days before the next one
-pub record AreGathered (row : ℤ → Row) (first last next : ℤ) (rows : List Row) : Type 0 where
+pub record AreGathered (rows_on : ℤ → List Row) (first last next : ℤ) (rows : List Row) : Type 0 where
   pub low : first_day ≤ℤ next
-  pub rest : rows ++ map row (days_within next last) ≡ map row (days_within first last)
+  pub rest : rows ++ flat_map rows_on (days_within next last) ≡ flat_map rows_on (days_within first last)
 
-pub gathered_first : (row : ℤ → Row) (first last next : ℤ) (rows : List Row) → IsDay first → next ≡ first → rows ≡ [] → AreGathered row first last next rows
-gathered_first row first last next rows h e none =
-    rw e (record { low = h.low; rest = ap (λ (x : List Row). x ++ map row (days_within first last)) none })
+pub gathered_first : (rows_on : ℤ → List Row) (first last next : ℤ) (rows : List Row) → IsDay first → next ≡ first → rows ≡ []
+    → AreGathered rows_on first last next rows
+gathered_first rows_on first last next rows h e none =
+    rw e (record { low = h.low; rest = ap (λ (x : List Row). x ++ flat_map rows_on (days_within first last)) none })
 
-gathered_next : (row : ℤ → Row) (first last next : ℤ) (rows more : List Row) → next ≤ℤ last → more ≡ rows ++ row next ∷ []
-    → AreGathered row first last next rows → AreGathered row first last (next +ℤ pos 1) more
-gathered_next row first last next rows more l m h =
-    let rest = map row (days_within (next +ℤ pos 1) last) in
+gathered_next : (rows_on : ℤ → List Row) (first last next : ℤ) (rows more : List Row) → next ≤ℤ last → more ≡ rows ++ rows_on next
+    → AreGathered rows_on first last next rows → AreGathered rows_on first last (next +ℤ pos 1) more
+gathered_next rows_on first last next rows more l m h =
+    let rest = flat_map rows_on (days_within (next +ℤ pos 1) last) in
     record {
       low = (let a = h.low in omega (arith, ints));
       rest =
           ap (λ (x : List Row). x ++ rest) m
-          ∙ append_assoc rows (row next ∷ []) rest
-          ∙ ap (λ (days : List ℤ). rows ++ map row days) (sym (within_cons next last l))
+          ∙ append_assoc rows (rows_on next) rest
+          ∙ ap (λ (days : List ℤ). rows ++ flat_map rows_on days) (sym (within_cons next last l))
           ∙ h.rest;
     }
 
-pub gathered_after : (row : ℤ → Row) (first last number next : ℤ) (rows more : List Row) → number ≤ℤ last → next ≡ number +ℤ pos 1
-    → more ≡ rows ++ row number ∷ [] → AreGathered row first last number rows → AreGathered row first last next more
-gathered_after row first last number next rows more l e m h = rw e (gathered_next row first last number rows more l m h)
+pub gathered_after : (rows_on : ℤ → List Row) (first last number next : ℤ) (rows more : List Row) → number ≤ℤ last → next ≡ number +ℤ pos 1
+    → more ≡ rows ++ rows_on number → AreGathered rows_on first last number rows → AreGathered rows_on first last next more
+gathered_after rows_on first last number next rows more l e m h = rw e (gathered_next rows_on first last number rows more l m h)
 
-pub gathered_last : (row : ℤ → Row) (first last next : ℤ) (rows : List Row) → last <ℤ next → AreGathered row first last next rows
-    → rows ≡ map row (days_within first last)
-gathered_last row first last next rows l h =
-    sym (append-nil rows) ∙ ap (λ (days : List ℤ). rows ++ map row days) (sym (within_none next last l)) ∙ h.rest
+pub gathered_last : (rows_on : ℤ → List Row) (first last next : ℤ) (rows : List Row) → last <ℤ next → AreGathered rows_on first last next rows
+    → rows ≡ flat_map rows_on (days_within first last)
+gathered_last rows_on first last next rows l h =
+    sym (append-nil rows) ∙ ap (λ (days : List ℤ). rows ++ flat_map rows_on days) (sym (within_none next last l)) ∙ h.rest
 
 -- a day of a site that is kept has an answer
 pub is_answered : (kept : Bool) (edit : Option ℕ) (value : DayValue) → kept ≡ true → (if kept then answer_by edit value else NoStation) ≡ NoStation → ⊥
@@ -60,26 +61,18 @@ is_answered false edit value k e = absurd (cc)
 is_answered true None value k e = absurd (cc)
 is_answered true (Some number) value k e = absurd (cc)
 
--- and its row is that of the edit that it awaits, or of its value
-row_by_answer : (kept : Bool) (edit : Option ℕ) (value : DayValue) (answer : Answer) (day : ℤ) (status : Status) → kept ≡ true
-    → answer_of answer ≡ (if kept then answer_by edit value else NoStation) → answer_row day answer status ≡ row_by day status edit value
-row_by_answer false edit value answer day status k e = absurd (cc)
-row_by_answer true None value (answers.Pending number) day status k e = absurd (cc)
-row_by_answer true (Some other) value (answers.Pending number) day status k e =
-    let same : number ≡ other = cc in
-    ap (λ (n : ℕ). pending_row day n status) same
-row_by_answer true None value (answers.Computed given) day status k e =
-    let same : given.now ≡ value = cc in
-    ap (λ (v : DayValue). value_row day v status) same
-row_by_answer true (Some other) value (answers.Computed given) day status k e = absurd (cc)
+-- and a day with an answer has a row
+told_row : (day : ℤ) (status : Status) (answer : Answer) → day_row day status (answer_of answer) ≡ answer_row day answer status ∷ []
+told_row day status (answers.Pending number) = refl
+told_row day status (answers.Computed value) = refl
 
-pub row_known : (events : List Event) (site : SiteNumber) (day : ℤ) (known : DayReply) → is_some (station_of (stations_at events) site) ≡ true
-    → IsKnown events site day known → row_of known ≡ row_at events site day
-row_known events site day known kept h =
-    ap (λ (d : ℤ). answer_row d known.answer known.status) h.day
-    ∙ ap (λ (s : Status). answer_row day known.answer s) h.status
-    ∙ row_by_answer (is_some (station_of (stations_at events) site)) (awaited events site day) (value_at events site day) known.answer day
-    (status_at events site day) kept h.answer
+pub row_known : (events : List Event) (site : SiteNumber) (day : ℤ) (known : DayReply) → IsKnown events site day known
+    → row_at events site day ≡ row_of known ∷ []
+row_known events site day known h =
+    ap (day_row day (status_at events site day)) (sym h.answer)
+    ∙ ap (λ (s : Status). day_row day s (answer_of known.answer)) (sym h.status)
+    ∙ ap (λ (d : ℤ). day_row d known.status (answer_of known.answer)) (sym h.day)
+    ∙ told_row known.day known.status known.answer
 
 -- ---- the replies
 
@@ -114,3 +107,8 @@ table_told true days rows e same = ap (λ (r : List Row). table_reply true r) sa
 pub is_kept : {X Y : Type 0} (f : X → Y) (found : Option X) (station : Option Y) → option_map f found ≡ station → is_some station ≡ is_some found
 is_kept f None station e = ap is_some (sym e)
 is_kept f (Some x) station e = ap is_some (sym e)
+
+-- a sheet is told as text
+pub sheet_made : (text : Bor (List ℕ)) → bytes_of (replies.Sheet text) ≡ sheet_reply (Text text.now)
+unfolding bytes_of
+sheet_made text = refl

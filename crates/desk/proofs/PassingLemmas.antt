@@ -15,7 +15,7 @@ use Rattle.office.specs.Stops.{IsLeft, IsLeftBefore, IsLeftBetween}
 use Rattle.office.specs.Edits.{IsRefusedBy, IsTaken}
 use Rattle.office_inputs.specs.declared.refusals.Refusal.{Refusal}
 use Rattle.office_inputs.specs.declared.refusals.Refusal.TheVariants as refusals
-use Rattle.records.specs.declared.payloads.Record.{Record}
+use Rattle.records.specs.Sheets.{Record}
 
 -- a history goes on by no event
 pub go_on_none : (h : History) → go_on h [] ≡ h
@@ -133,6 +133,12 @@ module _ {D : Type 0} (g : Ghosts D) where
   passes_refused h after edit refusals.RatingExists old new is counted cause leaves told = passes_none h after old new is.1 counted leaves told
   passes_refused h after edit (refusals.PeriodOverlap from) old new is counted cause leaves told = passes_none h after old new is.1 counted leaves told
   passes_refused h after edit refusals.NoEntry old new is counted cause leaves told = passes_none h after old new is.1 counted leaves told
+  passes_refused h after edit (refusals.NotInReview day) old new is counted cause leaves told = passes_none h after old new is.1 counted leaves told
+  passes_refused h after edit (refusals.SamePerson day) old new is counted cause leaves told = passes_none h after old new is.1 counted leaves told
+  passes_refused h after edit (refusals.Awaits day number) old new is counted cause leaves told = passes_none h after old new is.1 counted leaves told
+  passes_refused h after edit (refusals.NotApproved day) old new is counted cause leaves told = passes_none h after old new is.1 counted leaves told
+  passes_refused h after edit (refusals.AlreadyApproved day) old new is counted cause leaves told = passes_none h after old new is.1 counted leaves told
+  passes_refused h after edit (refusals.Locked day) old new is counted cause leaves told = passes_none h after old new is.1 counted leaves told
   passes_refused h after edit (refusals.HistoryFull full) old new is counted cause leaves told = passes_none h after old new is.1 counted leaves told
   passes_refused h after edit refusals.JournalFull old new is counted cause leaves told = passes_none h after old new is.1 counted leaves told
   passes_refused h after edit refusals.NoMemory old new is counted cause leaves told = passes_none h after old new is counted leaves told

@@ -1,15 +1,18 @@
 -- What is replied to a message, and what has happened then.
-use Rattle.std.specs.Prelude.{◌≡◌, ◌⊎◌, ℕ, ◌+◌, ◌-◌, ◌≤◌, Bool, true, false, List, [], ◌∷◌, ◌++◌, length, map, take, Option, Some, None, is_some, Result, Ok, Err, ℤ}
-use Rattle.approval.specs.declared.Status.{Status}
+use Rattle.std.specs.Prelude.{◌≡◌, ◌⊎◌, ℕ, ◌+◌, ◌-◌, ◌≤◌, Bool, true, false, List, [], ◌∷◌, ◌++◌, length, take, Option, Some, None, is_some, Result, Ok, Err, ℤ}
+use Rattle.std.specs.List.{flat_map}
+use Rattle.approval.specs.declared.status.Status.{Status}
 use Rattle.daily_values.specs.declared.day_values.DayValue.{DayValue}
 use Rattle.depend.specs.Compared.{days_within}
 use Rattle.edits.specs.declared.content.Edit.{Edit}
 use Rattle.fixed_units.specs.Quantities.{SiteNumber}
 use Rattle.history.specs.Accepted.{accepted, stations_at}
 use Rattle.history.specs.After.{after_edit, after_publications, after_settlement, after_turns}
-use Rattle.history.specs.Awaited.{DayAnswer, answer_at, awaited, pending_days, value_at}
+use Rattle.history.specs.Awaited.{DayAnswer, answer_at, pending_days}
 use Rattle.history.specs.Awaited as days
 use Rattle.history.specs.Events.{Event, History}
+use Rattle.history.specs.Sheets.{Shown, shown_at}
+use Rattle.history.specs.Sheets as shown
 use Rattle.history.specs.Statuses.{status_at}
 use Rattle.history.specs.Verdicts.{Verdict, Repeats, Refuses, Accepts, verdict}
 use Rattle.http_api.specs.Asks.{Question, ask_of, question}
@@ -31,7 +34,7 @@ use Rattle.office_inputs.specs.declared.refusals.Refusal.TheVariants.{JournalFau
 use Rattle.wire.specs.ReplyHead.{reply_bytes}
 use Rattle.wire.specs.declared.messages.Message.{Message}
 use Rattle.wire.specs.declared.messages.Message.TheVariants as messages
-use Rattle.wire.specs.declared.replies.Kind.TheVariants.{Csv, Json}
+use Rattle.wire.specs.declared.replies.Kind.TheVariants.{Csv, Json, Plain}
 
 -- an answer of this body
 abbrev pub answer_bytes : List ℕ → List ℕ
@@ -59,13 +62,14 @@ day_reply status days.NoStation = bytes_of replies.NoStation
 day_reply status (days.Pending edit) = answer_bytes (answer_members (told.Pending edit) ++ status_member status)
 day_reply status (days.Computed value) = answer_bytes (value_members value ++ status_member status)
 
--- the row of a day of this status in a daily table: the edit that it awaits, or else its value
-abbrev pub row_by : ℤ → Status → Option ℕ → DayValue → Row
-row_by day status None value = value_row day value status
-row_by day status (Some edit) value = pending_row day edit status
+-- the row of a day of this status in a daily table, by what is answered for it: none where its site is not kept
+abbrev pub day_row : ℤ → Status → DayAnswer → List Row
+day_row day status days.NoStation = []
+day_row day status (days.Pending edit) = pending_row day edit status ∷ []
+day_row day status (days.Computed value) = value_row day value status ∷ []
 
-abbrev pub row_at : List Event → SiteNumber → ℤ → Row
-row_at events site day = row_by day (status_at events site day) (awaited events site day) (value_at events site day)
+abbrev pub row_at : List Event → SiteNumber → ℤ → List Row
+row_at events site day = day_row day (status_at events site day) (answer_at events site day)
 
 -- the reply for the daily table of a site: a row of each day from one day to another, both included
 abbrev pub table_reply : Bool → List Row → List ℕ
@@ -74,7 +78,13 @@ table_reply true rows = reply_bytes (status_by None) Csv None (table_text rows)
 
 abbrev pub daily_reply : List Event → SiteNumber → ℤ → ℤ → List ℕ
 daily_reply events site from to =
-    table_reply (is_some (station_of (stations_at events) site)) (map (row_at events site) (days_within from to))
+    table_reply (is_some (station_of (stations_at events) site)) (flat_map (row_at events site) (days_within from to))
+
+-- the reply for the sheet of a day
+abbrev pub sheet_reply : Shown → List ℕ
+sheet_reply shown.NoStation = bytes_of replies.NoStation
+sheet_reply (shown.Pending edit) = bytes_of (replies.SheetPending edit)
+sheet_reply (shown.Text text) = reply_bytes (status_by None) Plain None text
 
 -- the reply for a measurement of a station
 abbrev pub departure_reply : Option Departure → List ℕ
@@ -95,6 +105,7 @@ abbrev pub history_after : History → Ask → History
 history_after h (asks.Edit edit) = history_by (verdict h edit) h edit
 history_after h (asks.Station site) = h
 history_after h (asks.DayOf site day) = h
+history_after h (asks.SheetOf site day) = h
 history_after h (asks.Daily site from to) = h
 history_after h (asks.Measurement site number) = h
 history_after h (asks.Turns count) = after_turns count h
@@ -106,6 +117,7 @@ abbrev pub reply_to : History → Ask → List ℕ
 reply_to h (asks.Edit edit) = edit_reply (verdict h edit) (length (accepted h.events) + 1)
 reply_to h (asks.Station site) = station_reply (station_of (stations_at h.events) site)
 reply_to h (asks.DayOf site day) = day_reply (status_at h.events site day) (answer_at h.events site day)
+reply_to h (asks.SheetOf site day) = sheet_reply (shown_at h.events site day)
 reply_to h (asks.Daily site from to) = daily_reply h.events site from to
 reply_to h (asks.Measurement site number) = measurement_reply number (station_of (stations_at h.events) site)
 reply_to h (asks.Turns count) = turned_reply h (after_turns count h)
@@ -124,6 +136,7 @@ abbrev pub Fails : History → Ask → List ℕ → History → Type 0
 Fails h (asks.Edit edit) reply next = (in_doubt : Bool) × (reply ≡ fault_reply in_doubt) × IsFaulted h edit next in_doubt
 Fails h (asks.Station site) reply next = ⊥
 Fails h (asks.DayOf site day) reply next = ⊥
+Fails h (asks.SheetOf site day) reply next = ⊥
 Fails h (asks.Daily site from to) reply next = ⊥
 Fails h (asks.Measurement site number) reply next = ⊥
 Fails h (asks.Turns count) reply next = ⊥
@@ -135,6 +148,7 @@ abbrev pub IsLeftBy : History → Ask → History → Type 0
 IsLeftBy h (asks.Edit edit) next = next ≡ h
 IsLeftBy h (asks.Station site) next = next ≡ h
 IsLeftBy h (asks.DayOf site day) next = next ≡ h
+IsLeftBy h (asks.SheetOf site day) next = next ≡ h
 IsLeftBy h (asks.Daily site from to) next = next ≡ h
 IsLeftBy h (asks.Measurement site number) next = next ≡ h
 IsLeftBy h (asks.Turns count) next = (turns : ℕ) × (turns ≤ count) × (next ≡ after_turns turns h)

@@ -1,28 +1,23 @@
 //! What is asked is answered by the office, in texts.
 
-ghost use Rattle.std.specs.Prelude.{◌≡◌, ◌≤◌, ◌<◌, ◌-◌, ◌^◌, Bool, is_some, length, map, MatchOption, OnOk, OnErr, IfOk, true, false};
-ghost use Rattle.depend.specs.Compared.{days_within};
-ghost use Rattle.desk.specs.Answering.{IsKnown, IsMade, IsRefusedBy, told_bytes};
+ghost use Rattle.std.specs.Prelude.{◌≡◌, ◌≤◌, ◌<◌, ◌-◌, ◌^◌, Bool, length, OnOk, OnErr, IfOk, true, false};
+ghost use Rattle.desk.specs.Answering.{IsMade, IsRefusedBy, told_bytes};
 ghost use Rattle.desk.specs.Passing.{Passes};
-ghost use Rattle.desk.specs.Replies.{IsAnswered, IsLeftBy, fault_reply, history_after, memory_reply, reply_to, row_at};
-ghost use Rattle.fixed_units.specs.Quantities.{IsDay};
-ghost use Rattle.history.specs.Accepted.{stations_at};
-ghost use Rattle.history.specs.Awaited.{NoStation, answer_at};
+ghost use Rattle.desk.specs.Replies.{IsAnswered, IsLeftBy, fault_reply, history_after, memory_reply, reply_to};
 ghost use Rattle.http_api.specs.Replies.{bytes_of};
-ghost use Rattle.http_api.specs.Tables.{row_of};
 ghost use Rattle.http_api.specs.declared.asks.Ask.TheVariants as asks;
-ghost use Rattle.office_inputs.specs.Stations.{station_of};
 ghost use Rattle.register.specs.Registered.{NoneOut};
 
+use crate::days::{tell_daily, tell_day, tell_sheet};
 use devices::Disk;
 use edits::Edit;
-use fixed_units::{Day, NoMemory, Site, Text};
+use fixed_units::{NoMemory, Site, Text};
 use http_api::replies::constants_are_replies;
-use http_api::{Ask, DayAnswer, DayReply, Reply, write_reply};
+use http_api::{Ask, DayReply, Reply, write_reply};
 use json::Scratch;
 use measurements::station_departure;
+use office::Office;
 use office::laws::an_office_stands_on_its_disk;
-use office::{Answer, Office};
 use office_inputs::{Refusal, Station};
 use std::alloc::Global;
 use std::marker::Brand;
@@ -45,7 +40,7 @@ pub(crate) enum Told {
 /// ready before the office is asked.
 #[derive(Drop)]
 pub(crate) struct Texts {
-    alloc: Global,
+    pub(crate) alloc: Global,
     pub(crate) scratch: Scratch,
     body: Text,
     reply: Text,
@@ -84,7 +79,7 @@ impl Texts {
     }
 
     /// Makes a reply.
-    fn make(&mut self, reply: &Reply<'_>) -> Result<(), NoMemory>
+    pub(crate) fn make(&mut self, reply: &Reply<'_>) -> Result<(), NoMemory>
         ensures { OnOk result (self.new.reply ≡ bytes_of reply.now) }
     {
         write_reply(self.alloc, reply, &mut self.body, &mut self.reply)
@@ -128,6 +123,7 @@ pub(crate) fn answer<D: Disk>(office: &mut Office<D>, ask: Ask, texts: &mut Text
         Ask::Edit(edit) => take_edit(office, edit, texts),
         Ask::Station(site) => told_by(tell_station(office, site, texts)),
         Ask::DayOf(site, day) => told_by(tell_day(office, site, day, texts)),
+        Ask::SheetOf(site, day) => told_by(tell_sheet(office, site, day, texts)),
         Ask::Daily(site, from, to) => told_by(tell_daily(office, site, from, to, texts)),
         Ask::Measurement(site, number) => told_by(tell_measurement(office, site, number, texts)),
         Ask::Turns(count) => told_by(take_turns(office, count, texts)),
@@ -194,100 +190,6 @@ fn tell_station<D: Disk>(office: &Office<D>, site: Site, texts: &mut Texts) -> R
         Some(station) => texts.make(&Reply::Station(station)),
         None => texts.make(&Reply::NoStation),
     }
-}
-
-/// Tells what is known of a day.
-fn tell_day<D: Disk>(
-    office: &Office<D>,
-    site: Site,
-    day: Day,
-    texts: &mut Texts,
-) -> Result<(), NoMemory>
-    ensures { OnOk result (texts.new.reply ≡ reply_to office.now.register.history (asks.DayOf site day)) }
-{
-    match day_known(office, site, day) {
-        Some(known) => texts.make(&Reply::Day(known)),
-        None => texts.make(&Reply::NoStation),
-    }
-}
-
-/// Tells what is known of each day from one to another, both included.
-fn tell_daily<D: Disk>(
-    office: &Office<D>,
-    site: Site,
-    from: Day,
-    to: Day,
-    texts: &mut Texts,
-) -> Result<(), NoMemory>
-    ensures { OnOk result (texts.new.reply ≡ reply_to office.now.register.history (asks.Daily site from to)) }
-{
-    if keeps(office, site) {
-        let days = days_known(texts.alloc, office, site, from, to)?;
-        return texts.make(&Reply::Daily(days.as_slice()));
-    }
-    texts.make(&Reply::NoStation)
-}
-
-/// Whether a site is kept.
-fn keeps<D: Disk>(office: &Office<D>, site: Site) -> bool
-    ensures { result ≡ is_some (station_of (stations_at office.now.register.history.events) site) }
-{
-    if office.station(site).is_none() {
-        return false;
-    }
-    true
-}
-
-/// What is known of each day from one to another, both included, of a site that is kept.
-fn days_known<'a, D: Disk>(
-    alloc: Global,
-    office: &'a Office<D>,
-    site: Site,
-    from: Day,
-    to: Day,
-) -> Result<Vec<DayReply<'a>>, NoMemory>
-    requires kept { is_some (station_of (stations_at office.now.register.history.events) site) ≡ true }
-    ensures { IfOk result (λ days. map row_of days.items ≡ map (row_at office.now.register.history.events site) (days_within from to)) }
-{
-    let mut days = Vec::new(alloc);
-    days.reserve_exact(usize::try_from(to.get() + 1 - from.get()).unwrap_or(0))?;
-    for number in from.get()..to.get() + 1 {
-        if days.push(known_on(office, site, number)).is_err() {
-            return Err(NoMemory);
-        }
-    }
-    Ok(days)
-}
-
-/// What is known of the day of a number, of a site that is kept.
-fn known_on<'a, D: Disk>(office: &'a Office<D>, site: Site, number: i32) -> DayReply<'a>
-    requires kept { is_some (station_of (stations_at office.now.register.history.events) site) ≡ true }
-    requires day { IsDay number }
-    ensures { row_of result ≡ row_at office.now.register.history.events site number }
-{
-    let Some(day) = Day::new(number) else {
-        unreachable!();
-    };
-    let Some(known) = day_known(office, site, day) else {
-        unreachable!();
-    };
-    known
-}
-
-/// What is known of a day, or `None` exactly where its site is not kept.
-fn day_known<'a, D: Disk>(office: &'a Office<D>, site: Site, day: Day) -> Option<DayReply<'a>>
-    ensures { MatchOption result (answer_at office.now.register.history.events site day ≡ NoStation) (IsKnown office.now.register.history.events site day) }
-{
-    let answer = match office.answer(site, day) {
-        Answer::NoStation => return None,
-        Answer::Pending(edit) => DayAnswer::Pending(edit),
-        Answer::Computed(value) => DayAnswer::Computed(value),
-    };
-    Some(DayReply {
-        day,
-        answer,
-        status: office.status(site, day),
-    })
 }
 
 /// Tells what a measurement of a station says of the rating in force.

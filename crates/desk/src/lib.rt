@@ -2,6 +2,7 @@
 #![tactic(auto)]
 
 mod answers;
+mod days;
 pub mod sessions;
 
 pub use sessions::{SessionEnd, session};

@@ -1,16 +1,20 @@
 -- The readings that rows state, and whether an edit may put them.
-use Rattle.std.proofs.Common.{◌≡◌, ◌↔◌, ℕ, zero, suc, ◌+◌, ◌<◌, ◌≤◌, List, [], ◌∷◌, length, get_or, ℤ, ◌<ℤ◌, int_lt, nat_le, All, Bool, true, false, ◌&&◌, Option, Some, None, IfSome, option_and_then, if◌then◌else◌, refl, sym, ap, ◌∙◌, subst, arith}
+use Rattle.std.proofs.Common.{◌≡◌, ◌↔◌, ℕ, zero, suc, ◌+◌, ◌-◌, ◌<◌, ◌≤◌, List, [], ◌∷◌, ◌++◌, length, get_or, slice_get, ℤ, ◌<ℤ◌, int_lt, nat_le, All, Bool, true, false, ◌&&◌, Option, Some, None, IfSome, option_and_then, if◌then◌else◌, refl, sym, ap, ◌∙◌, subst, arith}
 use Rattle.std.specs.List.{AllAdjacentBelow, IsAllAdjacentAnswer}
 use Rattle.std.proofs.lemmas.Bool.{and_parts, and_from, leb-true, le-leb}
 use Rattle.std.proofs.lemmas.Int.{ints}
+use Rattle.std.proofs.lemmas.List.{length-append}
 use Rattle.std.proofs.lemmas.List.Elements.{All-cons, All-weaker}
 use Rattle.std.proofs.lemmas.List.Kept.{AllPairs-cons}
-use Rattle.civil_days.specs.Spelling.{instant_of_text, stamp_of_text}
+use Rattle.std.proofs.lemmas.Option.{slice_get-get_or}
+use Rattle.std.specs.Result.{result_ok}
+use Rattle.civil_days.specs.Spelling.{instant_of_text, stamp_of_text, only}
 use Rattle.edit_bodies.proofs.EachLemmas.{each-holds, none_kept}
 use Rattle.edit_bodies.proofs.PairLemmas.{of_kind, within}
-use Rattle.edit_bodies.specs.Grammars.{are_put, are_rising, each_of, flag_of, flagged_of, instant_of, kept_if, quantity_of, reading_of, reading_of_row, stage_of}
-use Rattle.edit_bodies.specs.Trees.{Tree, items_stated}
+use Rattle.edit_bodies.specs.Grammars.{are_put, are_rising, each_of, flag_of, flag_of_text, flagged_of, instant_of, kept_if, quantity_of, reading_of, reading_of_row, stage_of}
+use Rattle.edit_bodies.specs.Trees.{Tree, items_stated, stated}
 use Rattle.edits.specs.Lawful.{ArePutReadings, IsPutReading, most_readings}
+use Rattle.fixed_units.specs.Decimals.{decimal_of}
 use Rattle.fixed_units.specs.Quantities.{IsStamp, is_stamp, is_stage}
 use Rattle.fixed_units.specs.declared.readings.Flag.{Flag}
 use Rattle.fixed_units.specs.declared.readings.Flag.TheVariants.{Usable}
@@ -64,6 +68,43 @@ wrong_row (a ∷ b ∷ []) two three = absurd (two refl)
 wrong_row (a ∷ b ∷ c ∷ []) two three = absurd (three refl)
 wrong_row (a ∷ b ∷ c ∷ d ∷ vs) two three = refl
 
+-- rows of strings
+abbrev written : Option (List ℕ) → Option (List ℕ) → Option Flag → Option Reading
+written at raw flag = flagged_of (option_and_then stamp_of_text at) (only is_stage (option_and_then (λ text. result_ok (decimal_of text)) raw)) flag
+
+pub two_texts : (vs : List Tree) (a b : Tree) (at raw : Option (List ℕ)) → length vs ≡ 2 → a ≡ get_or vs 0 a → b ≡ get_or vs 1 b
+    → at ≡ as_str (stated a) → raw ≡ as_str (stated b) → reading_of_row (items_stated vs) ≡ written at raw (Some Usable)
+two_texts [] a b at raw count is it x y = absurd (omega (arith, count))
+two_texts (v ∷ []) a b at raw count is it x y = absurd (omega (arith, count))
+two_texts (v ∷ w ∷ []) a b at raw count is it x y =
+    ap (λ (o : Option (List ℕ)). written o (as_str (stated w)) (Some Usable)) (ap (λ (t : Tree). as_str (stated t)) (sym is) ∙ sym x)
+    ∙ ap (λ (o : Option (List ℕ)). written at o (Some Usable)) (ap (λ (t : Tree). as_str (stated t)) (sym it) ∙ sym y)
+two_texts (v ∷ w ∷ u ∷ vs) a b at raw count is it x y = absurd (omega (arith, count))
+
+pub three_texts : (vs : List Tree) (a b f : Tree) (at raw flag : Option (List ℕ)) → length vs ≡ 3 → a ≡ get_or vs 0 a → b ≡ get_or vs 1 b → f ≡ get_or vs 2 f
+    → at ≡ as_str (stated a) → raw ≡ as_str (stated b) → flag ≡ as_str (stated f) → reading_of_row (items_stated vs) ≡ written at raw (option_and_then flag_of_text flag)
+three_texts [] a b f at raw flag count is it so x y z = absurd (omega (arith, count))
+three_texts (v ∷ []) a b f at raw flag count is it so x y z = absurd (omega (arith, count))
+three_texts (v ∷ w ∷ []) a b f at raw flag count is it so x y z = absurd (omega (arith, count))
+three_texts (v ∷ w ∷ u ∷ []) a b f at raw flag count is it so x y z =
+    ap (λ (o : Option (List ℕ)). written o (as_str (stated w)) (option_and_then flag_of_text (as_str (stated u)))) (ap (λ (t : Tree). as_str (stated t)) (sym is) ∙ sym x)
+    ∙ ap (λ (o : Option (List ℕ)). written at o (option_and_then flag_of_text (as_str (stated u)))) (ap (λ (t : Tree). as_str (stated t)) (sym it) ∙ sym y)
+    ∙ ap (λ (o : Option (List ℕ)). written at raw (option_and_then flag_of_text o)) (ap (λ (t : Tree). as_str (stated t)) (sym so) ∙ sym z)
+three_texts (v ∷ w ∷ u ∷ t ∷ vs) a b f at raw flag count is it so x y z = absurd (omega (arith, count))
+
+pub row_read : (value : Data) (vs : List Tree) → Some (items_stated vs) ≡ as_array value → reading_of value ≡ reading_of_row (items_stated vs)
+row_read value vs e = ap (option_and_then reading_of_row) (sym e)
+
+-- without a stage, or without a flag that is one, there is no reading
+pub no_stage : (at : Option ℤ) (flag : Option Flag) → None ≡ flagged_of at None flag
+no_stage None flag = refl
+no_stage (Some at) flag = refl
+
+pub no_flag : (at raw : Option ℤ) → None ≡ flagged_of at raw None
+no_flag None raw = refl
+no_flag (Some at) None = refl
+no_flag (Some at) (Some raw) = refl
+
 -- ---- the order
 
 rising_told : (rs : List Reading) → AllAdjacentBelow (λ r s. true ≡ int_lt r.at s.at) rs (length rs) → true ≡ are_rising rs
@@ -113,6 +154,48 @@ rises (r ∷ (s ∷ rest)) e =
     AllPairs-cons (λ (x y : Reading). x.at <ℤ y.at) r (s ∷ rest)
     (All-cons (λ (y : Reading). r.at <ℤ y.at) s rest below (All-weaker (λ (y : Reading). s.at <ℤ y.at) (λ (y : Reading). r.at <ℤ y.at) (λ y k. omega (arith, ints, k, below)) rest later))
     behind
+
+-- one more behind the last of readings that rise
+alone_told : (b : Bool) → b ≡ (b && true)
+alone_told true = refl
+alone_told false = refl
+
+pub rising_pushed : (rs : List Reading) (last x : Reading) → are_rising rs ≡ true → Some last ≡ slice_get rs (length rs - 1) → int_lt last.at x.at ≡ are_rising (rs ++ x ∷ [])
+rising_pushed [] last x rising is = absurd cc
+rising_pushed (r ∷ []) last x rising is =
+    let same : last ≡ r = cc in
+    ap (λ (y : Reading). int_lt y.at x.at) same ∙ alone_told (int_lt r.at x.at)
+rising_pushed (r ∷ (s ∷ rest)) last x rising is =
+    let moved : length (r ∷ (s ∷ rest)) - 1 ≡ suc (length (s ∷ rest) - 1) = omega arith in
+    let parts = and_parts _ _ rising in
+    rising_pushed (s ∷ rest) last x parts.1 (is ∙ ap (slice_get (r ∷ (s ∷ rest))) moved)
+    ∙ ap (λ (b : Bool). b && are_rising ((s ∷ rest) ++ x ∷ [])) (sym parts.0)
+
+pub first_rises : (rs : List Reading) (x : Reading) → None ≡ slice_get rs (length rs - 1) → true ≡ are_rising (rs ++ x ∷ [])
+first_rises [] x is = refl
+first_rises (r ∷ rs) x is =
+    let there = slice_get-get_or (r ∷ rs) (length (r ∷ rs) - 1) r (omega arith) in
+    absurd (let no = is ∙ there in cc)
+
+pub count_pushed : (rs : List Reading) (x : Reading) (told : Bool) → told ≡ true ↔ (1 ≤ length rs + 1) × (length rs + 1 ≤ most_readings)
+    → told ≡ (nat_le 1 (length (rs ++ x ∷ [])) && nat_le (length (rs ++ x ∷ [])) most_readings)
+count_pushed rs x told h =
+    count_told told (length rs + 1) h ∙ ap (λ (n : ℕ). nat_le 1 n && nat_le n most_readings) (sym (length-append rs (x ∷ [])))
+
+-- readings that are put, or none yet
+pub record IsFront (rs : List Reading) : Type 0 where
+  pub rising : are_rising rs ≡ true
+  pub put : 1 ≤ length rs → are_put rs ≡ true
+
+pub front_pushed : (rs : List Reading) → are_put rs ≡ true → IsFront rs
+front_pushed rs is = record { rising = (and_parts _ _ is).1; put = λ _. is }
+
+pub front_put : (rs : List Reading) → IsFront rs → (length rs ≡ 0 → ⊥) → are_put rs ≡ true
+front_put [] front some = absurd (some refl)
+front_put (r ∷ rs) front some = front.put (omega arith)
+
+pub front_kept : (rs : List Reading) → are_put rs ≡ true → kept_if are_put rs ≡ Some rs
+front_kept rs is = ap (λ (b : Bool). if b then Some rs else None) is
 
 -- ---- all of them
 

@@ -1,11 +1,13 @@
 -- The grammars of members: what a value states, or nothing where it is ill formed.
-use Rattle.std.specs.Prelude.{ℕ, bytes_eq, codes, is_none, is_some, Bool, true, ◌&&◌, nat_le, List, [], ◌∷◌, length, int_le, int_lt, ℤ, Option, Some, None, option_map, option_and_then, if◌then◌else◌}
+use Rattle.std.specs.Prelude.{ℕ, bytes_eq, codes, is_none, is_some, Bool, true, ◌&&◌, nat_le, List, [], ◌∷◌, length, int_le, int_lt, ℤ, pos, ◌+ℤ◌, Option, Some, None, option_map, option_and_then, if◌then◌else◌}
 use Rattle.std.specs.Result.{result_ok}
 use Rattle.civil_days.specs.Spelling.{day_of_text, stamp_of_text, only}
 use Rattle.curves.specs.Curve.{curve_of}
 use Rattle.edit_bodies.specs.Texts.{are_initials, is_reference, is_name, is_array, site_of_text}
 use Rattle.edit_bodies.specs.Zones.{is_zone}
-use Rattle.edits.specs.Lawful.{most_gap, most_readings}
+use Rattle.edits.specs.Lawful.{most_gap, most_readings, most_reviewed_days}
+use Rattle.edits.specs.declared.decisions.Decision.{Decision}
+use Rattle.edits.specs.declared.decisions.Decision.TheVariants.{Approve, Rescind}
 use Rattle.fixed_units.specs.Decimals.{decimal_of}
 use Rattle.edits.specs.declared.measurements.Grade.{Grade}
 use Rattle.edits.specs.declared.measurements.Grade.TheVariants.{Excellent, Good, Fair, Poor}
@@ -176,6 +178,23 @@ to_of from value = only (int_le from) (instant_of value)
 -- a day of the calendar
 abbrev pub day_of : Data → Option ℤ
 day_of value = string_of day_of_text value
+
+-- the last day of a span that begins at a day: not before it, and not too many days on
+abbrev pub is_last_day : ℤ → ℤ → Bool
+is_last_day from to = int_le from to && int_lt to (from +ℤ pos most_reviewed_days)
+
+abbrev pub last_day_of : ℤ → Data → Option ℤ
+last_day_of from value = only (is_last_day from) (day_of value)
+
+-- what is decided on the days of a span
+abbrev pub decision_of_text : List ℕ → Option Decision
+decision_of_text text =
+    if bytes_eq text (codes "approve") then Some Approve
+    else (if bytes_eq text (codes "rescind") then Some Rescind
+    else None)
+
+abbrev pub decision_of : Data → Option Decision
+decision_of value = string_of decision_of_text value
 
 -- the number of a measurement
 abbrev pub measurement_number_of : Data → Option ℕ

@@ -2,13 +2,13 @@
 use Rattle.std.specs.Prelude.{ℕ, List, codes, bytes_eq, Option, Some, None, if◌then◌else◌}
 use Rattle.serde_json.specs.Data.{Data}
 use Rattle.serde_json.specs.Find.{as_bool}
-use Rattle.edit_bodies.specs.Grammars.{string_of, name_of, zone_of, gap_of, array_of, readings_of, flag_of, to_of, day_of, set_of, instant_of, points_of, rating_number_of, table_of, until_of, measurement_number_of, stage_of, discharge_of, grade_of}
+use Rattle.edit_bodies.specs.Grammars.{string_of, name_of, zone_of, gap_of, array_of, readings_of, flag_of, to_of, day_of, last_day_of, decision_of, set_of, instant_of, points_of, rating_number_of, table_of, until_of, measurement_number_of, stage_of, discharge_of, grade_of}
 use Rattle.edit_bodies.specs.Members.{Reader, ◌>>=◌, done, required}
 use Rattle.edit_bodies.specs.declared.kinds.Kind.{Kind}
 use Rattle.edit_bodies.specs.declared.kinds.Kind.TheVariants as kinds
-use Rattle.edit_bodies.specs.declared.members.Member.TheVariants.{Name, Zone, Gap, StageArray, DischargeArray, Readings, To, Flag, Set, At, Points, Prorate, Rating, Rows, From, Until, Day, Number, Gage, Discharge, Grade}
+use Rattle.edit_bodies.specs.declared.members.Member.TheVariants.{Name, Zone, Gap, StageArray, DischargeArray, Readings, To, Flag, Set, At, Points, Prorate, Rating, Rows, From, Until, Day, Number, Gage, Discharge, Grade, Decision}
 use Rattle.edits.specs.declared.content.What.{What}
-use Rattle.edits.specs.declared.content.What.TheVariants.{AddStation, SetStation, PutReadings, DropReadings, FlagReadings, PutCorrection, DropCorrection, PutShift, DropShift, AddRating, PutPeriod, DropPeriod, PutEstimate, DropEstimate, PutMeasurement, DropMeasurement}
+use Rattle.edits.specs.declared.content.What.TheVariants.{AddStation, SetStation, PutReadings, DropReadings, FlagReadings, PutCorrection, DropCorrection, PutShift, DropShift, AddRating, PutPeriod, DropPeriod, PutEstimate, DropEstimate, PutMeasurement, DropMeasurement, Review, Decide}
 
 -- the kind of a name
 abbrev pub kind_of_text : List ℕ → Option Kind
@@ -29,7 +29,9 @@ kind_of_text text =
     else (if bytes_eq text (codes "DropEstimate") then Some kinds.DropEstimate
     else (if bytes_eq text (codes "PutMeasurement") then Some kinds.PutMeasurement
     else (if bytes_eq text (codes "DropMeasurement") then Some kinds.DropMeasurement
-    else None)))))))))))))))
+    else (if bytes_eq text (codes "Review") then Some kinds.Review
+    else (if bytes_eq text (codes "Decide") then Some kinds.Decide
+    else None)))))))))))))))))
 
 abbrev pub kind_of : Data → Option Kind
 kind_of value = string_of kind_of_text value
@@ -108,3 +110,12 @@ row kinds.PutMeasurement = do
 row kinds.DropMeasurement = do
   number ← required Number measurement_number_of
   done (DropMeasurement number)
+row kinds.Review = do
+  from ← required From day_of
+  to ← required To (last_day_of from)
+  done (Review from to)
+row kinds.Decide = do
+  from ← required From day_of
+  to ← required To (last_day_of from)
+  decision ← required Decision decision_of
+  done (Decide from to decision)

@@ -7,7 +7,7 @@ ghost use Rattle.edit_bodies.specs.Members.{required};
 ghost use Rattle.edits.specs.Lawful.{IsLawful};
 
 use crate::curve_points::take_points;
-use crate::estimates::take_day;
+use crate::days::take_day;
 use crate::faults::BodyFault;
 use crate::grammars::{
     take_array, take_gap, take_instant, take_name, take_prorate, take_set, take_text, take_zone,
@@ -17,6 +17,7 @@ use crate::members::{Fields, Member};
 use crate::periods::take_until;
 use crate::rating_rows::{take_rating_number, take_table};
 use crate::reading_rows::take_readings;
+use crate::reviews::{take_decision, take_last_day};
 use crate::spans::{take_flag, take_to};
 use edits::{Estimate, Measurement, What};
 use ratings::Period;
@@ -57,6 +58,10 @@ pub enum Kind {
     PutMeasurement,
     /// Takes out a field measurement.
     DropMeasurement,
+    /// Puts days in review.
+    Review,
+    /// Decides on days.
+    Decide,
 }
 
 /// Takes the kind out of the members.
@@ -103,6 +108,10 @@ fn kind_named(text: &[u8]) -> Option<Kind>
         Some(Kind::PutMeasurement)
     } else if text == b"DropMeasurement".as_slice() {
         Some(Kind::DropMeasurement)
+    } else if text == b"Review".as_slice() {
+        Some(Kind::Review)
+    } else if text == b"Decide".as_slice() {
+        Some(Kind::Decide)
     } else {
         None
     }
@@ -134,6 +143,8 @@ pub(crate) fn take_what(
         Kind::DropEstimate => take_dropped_estimate(fields),
         Kind::PutMeasurement => take_measurement(fields),
         Kind::DropMeasurement => take_dropped_measurement(fields),
+        Kind::Review => take_review(fields),
+        Kind::Decide => take_decided(fields),
     }
 }
 
@@ -291,7 +302,7 @@ fn take_estimate(fields: &mut Fields<'_>) -> Result<What, BodyFault>
     ensures read { IsTaken (row Kind.PutEstimate) fields.old result fields.new }
     ensures lawful { IfOk result IsLawful }
 {
-    let day = take_day(fields)?;
+    let day = take_day(fields, Member::Day)?;
     let discharge = take_discharge(fields)?;
     Ok(What::PutEstimate {
         estimate: Estimate { day, discharge },
@@ -303,7 +314,7 @@ fn take_dropped_estimate(fields: &mut Fields<'_>) -> Result<What, BodyFault>
     ensures read { IsTaken (row Kind.DropEstimate) fields.old result fields.new }
     ensures lawful { IfOk result IsLawful }
 {
-    let day = take_day(fields)?;
+    let day = take_day(fields, Member::Day)?;
     Ok(What::DropEstimate { day })
 }
 
@@ -335,4 +346,25 @@ fn take_dropped_measurement(fields: &mut Fields<'_>) -> Result<What, BodyFault>
 {
     let number = take_measurement_number(fields)?;
     Ok(What::DropMeasurement { number })
+}
+
+/// The review of days.
+fn take_review(fields: &mut Fields<'_>) -> Result<What, BodyFault>
+    ensures read { IsTaken (row Kind.Review) fields.old result fields.new }
+    ensures lawful { IfOk result IsLawful }
+{
+    let from = take_day(fields, Member::From)?;
+    let to = take_last_day(fields, from)?;
+    Ok(What::Review { from, to })
+}
+
+/// The decision on days.
+fn take_decided(fields: &mut Fields<'_>) -> Result<What, BodyFault>
+    ensures read { IsTaken (row Kind.Decide) fields.old result fields.new }
+    ensures lawful { IfOk result IsLawful }
+{
+    let from = take_day(fields, Member::From)?;
+    let to = take_last_day(fields, from)?;
+    let decision = take_decision(fields)?;
+    Ok(What::Decide { from, to, decision })
 }

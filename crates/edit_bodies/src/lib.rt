@@ -3,7 +3,7 @@
 
 pub mod bodies;
 mod curve_points;
-mod estimates;
+mod days;
 pub mod faults;
 mod grammars;
 pub mod kinds;
@@ -13,6 +13,7 @@ mod numbers;
 mod periods;
 mod rating_rows;
 mod reading_rows;
+mod reviews;
 mod rows;
 pub mod sites;
 mod spans;

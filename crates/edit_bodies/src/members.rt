@@ -31,7 +31,7 @@ pub enum Member {
     DischargeArray,
     /// The readings that are put.
     Readings,
-    /// The last instant of a span.
+    /// The last instant of a span, or its last day.
     To,
     /// The flag of readings.
     Flag,
@@ -47,7 +47,7 @@ pub enum Member {
     Rating,
     /// The rows of a rating.
     Rows,
-    /// The start of a period or of a span.
+    /// The start of a period or of a span, or the first day of one.
     From,
     /// The end of a period.
     Until,
@@ -61,6 +61,8 @@ pub enum Member {
     Discharge,
     /// The grade of a field measurement.
     Grade,
+    /// What is decided on the days of a span.
+    Decision,
     /// A member that no such edit has.
     Further,
 }
@@ -96,6 +98,7 @@ impl Member {
             Member::Gage => "gage",
             Member::Discharge => "discharge",
             Member::Grade => "grade",
+            Member::Decision => "decision",
             Member::Further => "?",
         }
     }

@@ -1,21 +1,34 @@
 //! The member `readings`: rows of an instant, a stage and a flag, which are readings that rise by instant.
 
-ghost use Rattle.std.specs.Prelude.{◌≡◌, IfOk, IfSome, All, int_lt, option_and_then, option_map};
+ghost use Rattle.std.specs.Prelude.{◌≡◌, ◌++◌, ◌∷◌, [], true, IfOk, IfSome, All, int_lt, option_and_then, option_map};
 ghost use Rattle.edit_bodies.specs.Answers.{IsFound, IsTaken};
-ghost use Rattle.edit_bodies.specs.Grammars.{are_put, each_of, kept_if, reading_of, readings_of};
+ghost use Rattle.edit_bodies.specs.Grammars.{are_put, are_rising, each_of, kept_if, reading_of, readings_of};
 ghost use Rattle.edit_bodies.specs.Members.{member_text, required};
-ghost use Rattle.edit_bodies.specs.Trees.{items_stated, left, stated};
+ghost use Rattle.edit_bodies.specs.Trees.{data_of, items_stated, left, stated};
+ghost use Rattle.edit_bodies.specs.UsualForm.{row_json, row_texts};
 ghost use Rattle.edits.specs.Lawful.{ArePutReadings};
 ghost use Rattle.serde_json.specs.Find.{get_member};
 
 use crate::faults::BodyFault;
 use crate::members::{Fields, Member, remove, value_at};
-use crate::rows::{flag_in, instant_in, items_in, stage_in};
+use crate::rows::{flag_named, items_in, stage_written, text_in};
+use civil_days::read_instant;
 use edits::is_reading_count;
 use fixed_units::{Flag, NoMemory, Reading};
 use json::Value;
 use readings::ReadingList;
 use std::alloc::Global;
+
+/// The strings of a row.
+#[derive(Clone, Copy, Drop)]
+pub(crate) struct Row<'a> {
+    /// The instant.
+    pub(crate) at: &'a str,
+    /// The stage.
+    pub(crate) raw: &'a str,
+    /// The flag, if there is one.
+    pub(crate) flag: Option<&'a str>,
+}
 
 /// Takes out the readings that are put, which are not copied: an accepted edit keeps them as they are read.
 pub(crate) fn take_readings(
@@ -61,7 +74,7 @@ fn readings_in(alloc: Global, rows: &Value<'_>) -> Result<ReadingList, BodyFault
 }
 
 /// The list of these readings, or `None` exactly where they do not rise by instant or are not as many as one edit puts.
-pub(crate) fn list_from(readings: Vec<Reading>) -> Option<ReadingList>
+fn list_from(readings: Vec<Reading>) -> Option<ReadingList>
     ensures { result ≡ kept_if are_put readings.items }
 {
     if are_put(readings.as_slice()) {
@@ -76,6 +89,27 @@ fn are_put(readings: &[Reading]) -> bool
     ensures { result ≡ are_put readings.now }
 {
     is_reading_count(readings.len()) && readings.is_sorted_by(is_earlier)
+}
+
+/// Whether a reading may be put behind these: it is later than the last of them, and one edit puts so many.
+#[inline(always)]
+pub(crate) fn may_follow(readings: &[Reading], reading: &Reading) -> bool
+    requires { are_rising readings.now ≡ true }
+    ensures { result ≡ are_put (readings.now ++ reading.now ∷ []) }
+{
+    is_reading_count(readings.len() + 1) && is_later(readings, reading)
+}
+
+/// Whether a reading is later than the last of these, if there is one.
+#[inline(always)]
+fn is_later(readings: &[Reading], reading: &Reading) -> bool
+    requires { are_rising readings.now ≡ true }
+    ensures { result ≡ are_rising (readings.now ++ reading.now ∷ []) }
+{
+    match readings.last() {
+        Some(last) => is_earlier(last, reading),
+        None => true,
+    }
 }
 
 /// Whether a reading is before the next.
@@ -99,21 +133,36 @@ fn rows_in(alloc: Global, items: &[Value<'_>]) -> Result<Option<Vec<Reading>>, N
     Ok(Some(readings))
 }
 
-/// The reading that a row states: an instant, a stage and a flag, and nothing else; without a flag it is usable.
-fn reading_in(row: &Value<'_>) -> Option<Reading>
-    ensures { result ≡ reading_of (stated row.now) }
+/// The reading that an item states: a row of two or three strings, and nothing else.
+fn reading_in(item: &Value<'_>) -> Option<Reading>
+    ensures { result ≡ reading_of (stated item.now) }
 {
-    match items_in(row)? {
-        [at, raw] => Some(Reading {
-            at: instant_in(at)?,
-            raw: stage_in(raw)?,
-            flag: Flag::Usable,
+    match items_in(item)? {
+        [at, raw] => reading_of(&Row {
+            at: text_in(at)?,
+            raw: text_in(raw)?,
+            flag: None,
         }),
-        [at, raw, flag] => Some(Reading {
-            at: instant_in(at)?,
-            raw: stage_in(raw)?,
-            flag: flag_in(flag)?,
+        [at, raw, flag] => reading_of(&Row {
+            at: text_in(at)?,
+            raw: text_in(raw)?,
+            flag: Some(text_in(flag)?),
         }),
         _ => None,
     }
+}
+
+/// The reading that a row states: an instant, a stage and a flag; without a flag it is usable.
+#[inline(always)]
+pub(crate) fn reading_of(row: &Row<'_>) -> Option<Reading>
+    ensures { result ≡ reading_of (data_of (row_json (row_texts row.now))) }
+{
+    Some(Reading {
+        at: read_instant(row.at.as_bytes())?,
+        raw: stage_written(row.raw)?,
+        flag: match row.flag {
+            Some(flag) => flag_named(flag.as_bytes())?,
+            None => Flag::Usable,
+        },
+    })
 }

@@ -1,10 +1,11 @@
 //! The items of an array, and the strings among them.
 
 ghost use Rattle.std.specs.Prelude.{◌≡◌, IfSome, option_map};
-ghost use Rattle.edit_bodies.specs.Grammars.{amount_of, discharge_of, flag_of, flag_of_text, instant_of, quantity_of, stage_of};
+ghost use Rattle.edit_bodies.specs.Grammars.{amount_of, discharge_of, flag_of_text, instant_of, quantity_of, stage_of};
 ghost use Rattle.edit_bodies.specs.Trees.{items_stated, stated};
 ghost use Rattle.fixed_units.specs.Quantities.{IsAmount, IsDischarge, IsStage, IsStamp};
-ghost use Rattle.serde_json.specs.Find.{as_array};
+ghost use Rattle.serde_json.specs.Data.{string};
+ghost use Rattle.serde_json.specs.Find.{as_array, as_str};
 
 use civil_days::read_instant;
 use fixed_units::{Flag, Micro, Second, is_amount, is_discharge, is_stage, read_decimal};
@@ -20,12 +21,19 @@ pub(crate) fn items_in<'v, 'a>(value: &'v Value<'a>) -> Option<&'v [Value<'a>]>
     }
 }
 
+/// The text that a string has.
+pub(crate) fn text_in<'a>(value: &Value<'a>) -> Option<&'a str>
+    ensures { option_map (λ text. text.now) result ≡ as_str (stated value.now) }
+{
+    value.as_str()
+}
+
 /// The stamp that a string writes.
 pub(crate) fn instant_in(value: &Value<'_>) -> Option<Second>
     ensures value { result ≡ instant_of (stated value.now) }
     ensures stamp { IfSome result IsStamp }
 {
-    read_instant(value.as_str()?.as_bytes())
+    read_instant(text_in(value)?.as_bytes())
 }
 
 /// The stage that a string writes.
@@ -33,7 +41,16 @@ pub(crate) fn stage_in(value: &Value<'_>) -> Option<Micro>
     ensures value { result ≡ stage_of (stated value.now) }
     ensures stage { IfSome result IsStage }
 {
-    let stage = quantity_in(value)?;
+    stage_written(text_in(value)?)
+}
+
+/// The stage that a text writes.
+#[inline(always)]
+pub(crate) fn stage_written(text: &str) -> Option<Micro>
+    ensures value { result ≡ stage_of (string text.now) }
+    ensures stage { IfSome result IsStage }
+{
+    let stage = read_decimal(text.as_bytes()).ok()?;
     if is_stage(stage.get()) {
         Some(stage)
     } else {
@@ -67,13 +84,6 @@ pub(crate) fn discharge_in(value: &Value<'_>) -> Option<Micro>
     }
 }
 
-/// The flag of a reading that a string names.
-pub(crate) fn flag_in(value: &Value<'_>) -> Option<Flag>
-    ensures { result ≡ flag_of (stated value.now) }
-{
-    flag_named(value.as_str()?.as_bytes())
-}
-
 /// The flag of that name, or `None` exactly where there is no such flag.
 pub(crate) fn flag_named(text: &[u8]) -> Option<Flag>
     ensures { result ≡ flag_of_text text.now }
@@ -93,5 +103,5 @@ pub(crate) fn flag_named(text: &[u8]) -> Option<Flag>
 fn quantity_in(value: &Value<'_>) -> Option<Micro>
     ensures { result ≡ quantity_of (stated value.now) }
 {
-    read_decimal(value.as_str()?.as_bytes()).ok()
+    read_decimal(text_in(value)?.as_bytes()).ok()
 }

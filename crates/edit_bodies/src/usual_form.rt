@@ -1,34 +1,25 @@
 //! The usual form of a put of readings: its members each once and in order, as loggers and the programs before them send it. It is read
 //! token by token straight into readings, without a tree. Of a body that is not so nothing is said: its tree decides.
 
-ghost use Rattle.std.specs.Prelude.{◌≡◌, ◌<◌, ◌∷◌, ◌++◌, length, List, ℕ, Ok, Some, IfSome, codes};
+ghost use Rattle.std.specs.Prelude.{◌≡◌, ◌<◌, ◌∷◌, ◌++◌, length, Ok, IfSome, codes};
 ghost use Rattle.std.specs.Bool.{MatchBool, OnTrue};
 ghost use Rattle.edit_bodies.specs.Bodies.{edit_of_value, parts};
-ghost use Rattle.edit_bodies.specs.Grammars.{each_of, reading_of, stage_of};
 ghost use Rattle.edit_bodies.specs.Members.{member_text};
-ghost use Rattle.edit_bodies.specs.UsualForm.{StatesPut, StatesReadings, TakesPut, row_texts, rows_data, rows_json, texts_data, texts_json};
+ghost use Rattle.edit_bodies.specs.UsualForm.{StatesPut, StatesReadings, TakesPut, row_json, row_texts};
 ghost use Rattle.edits.specs.Lawful.{ArePutReadings};
-ghost use Rattle.json.specs.Json.{array as array_json};
 ghost use Rattle.json.specs.Token.{begin_array, begin_object, end_array, end_object, key, string as string_token};
-ghost use Rattle.json.specs.Tree.{items_tokens, json_tokens};
-ghost use Rattle.serde_json.specs.Data.{array, string};
+ghost use Rattle.json.specs.Tree.{json_tokens};
 ghost use Rattle.serde_json.specs.Read.{read};
 
 use crate::members::Member;
-use crate::reading_rows::list_from;
-use crate::rows::flag_named;
+use crate::reading_rows::{Row, may_follow, reading_of};
 use crate::sites::read_site;
-use civil_days::read_instant;
 use edits::{By, Edit, Ref, What};
-use fixed_units::{Flag, Micro, Reading, is_stage, read_decimal};
 use json::{Reader, Scratch, Token};
 use readings::ReadingList;
 use std::alloc::Global;
 
-/// How many bytes a row has at least, with the comma behind it: `["1900-01-03T00:00:00Z","0"],`.
-const LEAST_ROW: usize = 29;
-
-/// How a put mostly begins.
+/// How a put mostly begins. A short one that begins so is tried too.
 const BEGINNING: &str = r#"{"kind":"PutReadings""#;
 
 /// From how many bytes on a body is tried, however it begins.
@@ -45,27 +36,16 @@ pub(crate) struct Sender<'a> {
     site: &'a str,
 }
 
-/// The strings of a row.
-#[derive(Clone, Copy, Drop)]
-pub(crate) struct Row<'a> {
-    /// The instant.
-    at: &'a str,
-    /// The stage.
-    raw: &'a str,
-    /// The flag, if there is one.
-    flag: Option<&'a str>,
-}
-
 /// The edit that a text is, where it is a put of the usual form. Of another text nothing is said.
 pub(crate) fn usual_put(alloc: Global, text: &str, scratch: &mut Scratch) -> Option<Edit>
     ensures { IfSome result (λ edit. edit_of_value (read text.now) ≡ Ok (parts edit)) }
 {
-    // so that other edits, which are short, pay nothing for it
+    // so that of other edits, which are short, the length and the beginning alone are compared
     if text.len() < LONG && !text.starts_with(BEGINNING) {
         return None;
     }
     let mut reader = Reader::new(text, scratch).ok()?;
-    let (sender, readings) = put_in(alloc, text.len() / LEAST_ROW, &mut reader)?;
+    let (sender, readings) = put_in(alloc, &mut reader)?;
     edit_in(&sender, readings)
 }
 
@@ -82,12 +62,8 @@ fn edit_in(sender: &Sender<'_>, readings: ReadingList) -> Option<Edit>
     })
 }
 
-/// The members of a whole text, with room for so many readings at first.
-fn put_in<'a>(
-    alloc: Global,
-    room: usize,
-    reader: &mut Reader<'a>,
-) -> Option<(Sender<'a>, ReadingList)>
+/// The members of a whole text.
+fn put_in<'a>(alloc: Global, reader: &mut Reader<'a>) -> Option<(Sender<'a>, ReadingList)>
     ensures tokens { IfSome result (λ put. TakesPut reader.old put.0 put.1) }
     ensures put { IfSome result (λ put. ArePutReadings put.1) }
 {
@@ -100,7 +76,7 @@ fn put_in<'a>(
     if !is_named(reader, Member::Readings) || !opens_array(reader) {
         return None;
     }
-    let readings = readings_in(alloc, room, reader)?;
+    let readings = readings_in(alloc, reader)?;
     if !closes_object(reader) || reader.next().is_some() {
         return None;
     }
@@ -143,62 +119,31 @@ fn is_named(reader: &mut Reader<'_>, member: Member) -> bool
     }
 }
 
-/// The readings that the rows behind an opening bracket state, if they may be put.
-fn readings_in(alloc: Global, room: usize, reader: &mut Reader<'_>) -> Option<ReadingList>
+/// The readings that the rows behind an opening bracket state, if they may be put. No row is read behind one that may not follow.
+fn readings_in(alloc: Global, reader: &mut Reader<'_>) -> Option<ReadingList>
     ensures rows { IfSome result (StatesReadings reader.old reader.new) }
     ensures put { IfSome result ArePutReadings }
 {
-    list_from(rows_in(alloc, room, reader)?)
-}
-
-/// The readings of the rows behind an opening bracket, up to the closing one, in room for as many as there are.
-fn rows_in(alloc: Global, room: usize, reader: &mut Reader<'_>) -> Option<Vec<Reading>>
-    ensures { IfSome result (λ readings. (rows : List (List (List ℕ)))
-        × (reader.old ≡ items_tokens (rows_json rows) ++ reader.new)
-        × (each_of reading_of (rows_data rows) ≡ Some readings.items)) }
-{
-    let mut readings = Vec::with_capacity(alloc, room).ok()?;
+    let mut readings = Vec::new(alloc);
     while !closes_array(reader) {
         let row = next_row(reader)?;
-        let reading = reading_in(&row)?;
+        let reading = reading_of(&row)?;
+        if !may_follow(readings.as_slice(), &reading) {
+            return None;
+        }
         readings.push(reading).ok()?;
     }
-    readings.shrink_to_fit();
-    Some(readings)
-}
-
-/// The reading that the strings of a row state.
-#[inline(always)]
-fn reading_in(row: &Row<'_>) -> Option<Reading>
-    ensures { result ≡ reading_of (array (texts_data (row_texts row.now))) }
-{
-    Some(Reading {
-        at: read_instant(row.at.as_bytes())?,
-        raw: stage_in(row.raw)?,
-        flag: match row.flag {
-            Some(flag) => flag_named(flag.as_bytes())?,
-            None => Flag::Usable,
-        },
-    })
-}
-
-/// The stage that a text writes.
-#[inline(always)]
-fn stage_in(text: &str) -> Option<Micro>
-    ensures { result ≡ stage_of (string text.now) }
-{
-    let stage = read_decimal(text.as_bytes()).ok()?;
-    if is_stage(stage.get()) {
-        Some(stage)
-    } else {
-        None
+    if readings.is_empty() {
+        return None;
     }
+    readings.shrink_to_fit();
+    Some(ReadingList::from_vec(readings))
 }
 
 /// The next row, if it is one of two or three strings.
 #[inline(always)]
 fn next_row<'a>(reader: &mut Reader<'a>) -> Option<Row<'a>>
-    ensures tokens { IfSome result (λ row. reader.old ≡ json_tokens (array_json (texts_json (row_texts row))) ++ reader.new) }
+    ensures tokens { IfSome result (λ row. reader.old ≡ json_tokens (row_json (row_texts row)) ++ reader.new) }
     ensures shorter { IfSome result (λ row. length reader.new < length reader.old) }
 {
     if !opens_array(reader) {

@@ -8,7 +8,7 @@ use Rattle.matchit.specs.Route.{scan}
 use Rattle.matchit.specs.Seek.{slash, has_slash}
 use Rattle.http_api.specs.Routes.{Begins, IsSpelled, tokens_of, RoutesAreApart}
 use Rattle.http_api.specs.declared.routes.Route.{Route}
-use Rattle.http_api.specs.declared.routes.Route.TheVariants.{Edits, Rating, Turns, Settle, Status, Station, DayOf, Daily, Measurement}
+use Rattle.http_api.specs.declared.routes.Route.TheVariants.{Edits, Rating, Turns, Settle, Status, Station, DayOf, SheetOf, Daily, Measurement}
 
 -- what is behind a parameter is nothing, or begins with a slash
 abbrev pub ends_part : List ℕ → Bool
@@ -115,6 +115,7 @@ told_apart Settle Settle = inl refl
 told_apart Status Status = inl refl
 told_apart Station Station = inl refl
 told_apart DayOf DayOf = inl refl
+told_apart SheetOf SheetOf = inl refl
 told_apart Daily Daily = inl refl
 told_apart Measurement Measurement = inl refl
 told_apart Edits Rating = inr refl
@@ -123,6 +124,7 @@ told_apart Edits Settle = inr refl
 told_apart Edits Status = inr refl
 told_apart Edits Station = inr refl
 told_apart Edits DayOf = inr refl
+told_apart Edits SheetOf = inr refl
 told_apart Edits Daily = inr refl
 told_apart Edits Measurement = inr refl
 told_apart Rating Edits = inr refl
@@ -131,6 +133,7 @@ told_apart Rating Settle = inr refl
 told_apart Rating Status = inr refl
 told_apart Rating Station = inr refl
 told_apart Rating DayOf = inr refl
+told_apart Rating SheetOf = inr refl
 told_apart Rating Daily = inr refl
 told_apart Rating Measurement = inr refl
 told_apart Turns Edits = inr refl
@@ -139,6 +142,7 @@ told_apart Turns Settle = inr refl
 told_apart Turns Status = inr refl
 told_apart Turns Station = inr refl
 told_apart Turns DayOf = inr refl
+told_apart Turns SheetOf = inr refl
 told_apart Turns Daily = inr refl
 told_apart Turns Measurement = inr refl
 told_apart Settle Edits = inr refl
@@ -147,6 +151,7 @@ told_apart Settle Turns = inr refl
 told_apart Settle Status = inr refl
 told_apart Settle Station = inr refl
 told_apart Settle DayOf = inr refl
+told_apart Settle SheetOf = inr refl
 told_apart Settle Daily = inr refl
 told_apart Settle Measurement = inr refl
 told_apart Status Edits = inr refl
@@ -155,6 +160,7 @@ told_apart Status Turns = inr refl
 told_apart Status Settle = inr refl
 told_apart Status Station = inr refl
 told_apart Status DayOf = inr refl
+told_apart Status SheetOf = inr refl
 told_apart Status Daily = inr refl
 told_apart Status Measurement = inr refl
 told_apart Station Edits = inr refl
@@ -163,6 +169,7 @@ told_apart Station Turns = inr refl
 told_apart Station Settle = inr refl
 told_apart Station Status = inr refl
 told_apart Station DayOf = inr refl
+told_apart Station SheetOf = inr refl
 told_apart Station Daily = inr refl
 told_apart Station Measurement = inr refl
 told_apart DayOf Edits = inr refl
@@ -171,8 +178,18 @@ told_apart DayOf Turns = inr refl
 told_apart DayOf Settle = inr refl
 told_apart DayOf Status = inr refl
 told_apart DayOf Station = inr refl
+told_apart DayOf SheetOf = inr refl
 told_apart DayOf Daily = inr refl
 told_apart DayOf Measurement = inr refl
+told_apart SheetOf Edits = inr refl
+told_apart SheetOf Rating = inr refl
+told_apart SheetOf Turns = inr refl
+told_apart SheetOf Settle = inr refl
+told_apart SheetOf Status = inr refl
+told_apart SheetOf Station = inr refl
+told_apart SheetOf DayOf = inr refl
+told_apart SheetOf Daily = inr refl
+told_apart SheetOf Measurement = inr refl
 told_apart Daily Edits = inr refl
 told_apart Daily Rating = inr refl
 told_apart Daily Turns = inr refl
@@ -180,6 +197,7 @@ told_apart Daily Settle = inr refl
 told_apart Daily Status = inr refl
 told_apart Daily Station = inr refl
 told_apart Daily DayOf = inr refl
+told_apart Daily SheetOf = inr refl
 told_apart Daily Measurement = inr refl
 told_apart Measurement Edits = inr refl
 told_apart Measurement Rating = inr refl
@@ -188,6 +206,7 @@ told_apart Measurement Settle = inr refl
 told_apart Measurement Status = inr refl
 told_apart Measurement Station = inr refl
 told_apart Measurement DayOf = inr refl
+told_apart Measurement SheetOf = inr refl
 told_apart Measurement Daily = inr refl
 
 pub are_apart : RoutesAreApart

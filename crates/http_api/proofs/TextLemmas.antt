@@ -13,10 +13,7 @@ pub texts_joined : (out first array given second text zone end w x y z : List �
     → z ≡ out ++ (first ++ given ++ second ++ quoted zone ++ end)
 texts_joined out first array given second text zone end w x y z ha ht hw hx hy hz = rw (hz, hy, hx, hw, ha, ht) (simp append_assoc)
 
--- two parts, and three
-pub two_joined : (out first second w z : List ℕ) → w ≡ out ++ first → z ≡ w ++ second → z ≡ out ++ (first ++ second)
-two_joined out first second w z hw hz = rw (hz, hw) (append_assoc out first second)
-
+-- three parts
 pub three_joined : (out first second third w x z : List ℕ) → w ≡ out ++ first → x ≡ w ++ second → z ≡ x ++ third
     → z ≡ out ++ (first ++ second ++ third)
 three_joined out first second third w x z hw hx hz = rw (hz, hx, hw) (simp append_assoc)
@@ -25,8 +22,3 @@ three_joined out first second third w x z hw hx hz = rw (hz, hx, hw) (simp appen
 pub four_joined : (out first second third fourth w x y z : List ℕ) → w ≡ out ++ first → x ≡ w ++ second → y ≡ x ++ third → z ≡ y ++ fourth
     → z ≡ out ++ (first ++ second ++ third ++ fourth)
 four_joined out first second third fourth w x y z hw hx hy hz = rw (hz, hy, hx, hw) (simp append_assoc)
-
--- two values, each behind the name of its member, and a third behind both
-pub extremes_joined : (out first one second other third last w x z : List ℕ) → w ≡ out ++ ((first ++ one) ++ (second ++ other))
-    → x ≡ w ++ third → z ≡ x ++ last → z ≡ out ++ (first ++ one ++ second ++ other ++ third ++ last)
-extremes_joined out first one second other third last w x z hw hx hz = rw (hz, hx, hw) (simp append_assoc)

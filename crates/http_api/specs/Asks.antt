@@ -23,6 +23,7 @@ pub data Question : Type 0 where
   edit : Parts → Question
   station : SiteNumber → Question
   day_of : SiteNumber → ℤ → Question
+  sheet_of : SiteNumber → ℤ → Question
   daily : SiteNumber → ℤ → ℤ → Question
   measurement : SiteNumber → ℕ → Question
   turns : ℕ → Question
@@ -34,6 +35,7 @@ abbrev pub question : Ask → Question
 question (asks.Edit given) = edit (parts given)
 question (asks.Station site) = station site
 question (asks.DayOf site day) = day_of site day
+question (asks.SheetOf site day) = sheet_of site day
 question (asks.Daily site from to) = daily site from to
 question (asks.Measurement site number) = measurement site number
 question (asks.Turns count) = turns count
@@ -65,6 +67,7 @@ asked_by targets.Settle body = Ok settle
 asked_by targets.Status body = Ok counts
 asked_by (targets.Station site) body = Ok (station site)
 asked_by (targets.DayOf site day) body = Ok (day_of site day)
+asked_by (targets.SheetOf site day) body = Ok (sheet_of site day)
 asked_by (targets.Daily site from to) body = Ok (daily site from to)
 asked_by (targets.Measurement site number) body = Ok (measurement site number)
 
@@ -104,6 +107,7 @@ WantsMemory targets.Settle body = ⊥
 WantsMemory targets.Status body = ⊥
 WantsMemory (targets.Station site) body = ⊥
 WantsMemory (targets.DayOf site day) body = ⊥
+WantsMemory (targets.SheetOf site day) body = ⊥
 WantsMemory (targets.Daily site from to) body = ⊥
 WantsMemory (targets.Measurement site number) body = ⊥
 

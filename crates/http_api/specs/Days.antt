@@ -2,7 +2,7 @@
 use Rattle.std.specs.Prelude.{ℕ, ℤ, Bool, List, ◌++◌, codes, decimal, Option, Some, None, is_some, option_and_then}
 use Rattle.std.specs.Result.{result_ok}
 use Rattle.approval.specs.Statuses.{status_name}
-use Rattle.approval.specs.declared.Status.{Status}
+use Rattle.approval.specs.declared.status.Status.{Status}
 use Rattle.fixed_units.specs.PublishedText.{published_text}
 use Rattle.fixed_units.specs.declared.published.Published.{Published}
 use Rattle.daily_values.specs.Figures.{DayFigures, mean_stage, published_discharge}
@@ -42,11 +42,10 @@ unfoldable pub extremes_members : Extremes → List ℕ
 extremes_members extremes =
     (codes ",\"max\":" ++ micro_or_null (discharge_in extremes.max_discharge)) ++ (codes ",\"min\":" ++ micro_or_null (discharge_in extremes.min_discharge))
 
--- those behind that: the greatest and the least discharge with their six decimals, and the published mean stage
+-- those behind that: the members of the extremes, and the published mean stage
 abbrev pub stage_members : Extremes → Option Published → List ℕ
 stage_members extremes stage =
-    codes ",\"max\":" ++ micro_or_null (discharge_in extremes.max_discharge) ++ codes ",\"min\":" ++ micro_or_null (discharge_in extremes.min_discharge)
-    ++ codes ",\"stage\":" ++ published_or_null stage
+    extremes_members extremes ++ codes ",\"stage\":" ++ published_or_null stage
 
 -- a day with figures
 abbrev pub figures_members : DayFigures → List ℕ

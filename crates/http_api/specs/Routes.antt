@@ -28,13 +28,15 @@ spelling routes.Settle = codes "/settle"
 spelling routes.Status = codes "/status"
 spelling routes.Station = codes "/stations/{site}"
 spelling routes.DayOf = codes "/stations/{site}/days/{day}"
+spelling routes.SheetOf = codes "/stations/{site}/days/{day}/sheet"
 spelling routes.Daily = codes "/stations/{site}/daily/{from}/{to}"
 spelling routes.Measurement = codes "/stations/{site}/measurements/{number}"
 
 -- the routes that there are
 abbrev pub all_routes : List Route
 all_routes =
-    routes.Edits ∷ routes.Rating ∷ routes.Turns ∷ routes.Settle ∷ routes.Status ∷ routes.Station ∷ routes.DayOf ∷ routes.Daily ∷ routes.Measurement ∷ []
+    routes.Edits ∷ routes.Rating ∷ routes.Turns ∷ routes.Settle ∷ routes.Status ∷ routes.Station ∷ routes.DayOf ∷ routes.SheetOf ∷ routes.Daily
+    ∷ routes.Measurement ∷ []
 
 -- the rows of `matchit` with that of a route, where the spelling reads as one
 abbrev pub placed_by : Result Scan InsertError → Route → RowsOf (RouteOf Route) → RowsOf (RouteOf Route)
@@ -109,6 +111,7 @@ target_by routes.Settle taken = Some targets.Settle
 target_by routes.Status taken = Some targets.Status
 target_by routes.Station taken = option_map targets.Station (site_in taken)
 target_by routes.DayOf taken = option_and_then (λ site. option_map (targets.DayOf site) (day_in taken)) (site_in taken)
+target_by routes.SheetOf taken = option_and_then (λ site. option_map (targets.SheetOf site) (day_in taken)) (site_in taken)
 target_by routes.Daily taken = daily_target (site_in taken) (from_in taken) (to_in taken)
 target_by routes.Measurement taken =
     option_and_then (λ site. option_map (targets.Measurement site) (measurement_in taken)) (site_in taken)
@@ -122,6 +125,7 @@ verb_of targets.Settle = Post
 verb_of targets.Status = Get
 verb_of (targets.Station site) = Get
 verb_of (targets.DayOf site day) = Get
+verb_of (targets.SheetOf site day) = Get
 verb_of (targets.Daily site from to) = Get
 verb_of (targets.Measurement site number) = Get
 
@@ -134,6 +138,7 @@ NamesRating targets.Settle = Unit {0}
 NamesRating targets.Status = Unit {0}
 NamesRating (targets.Station site) = Unit {0}
 NamesRating (targets.DayOf site day) = Unit {0}
+NamesRating (targets.SheetOf site day) = Unit {0}
 NamesRating (targets.Daily site from to) = Unit {0}
 NamesRating (targets.Measurement site number) = Unit {0}
 

@@ -1,8 +1,8 @@
 -- The body for a station: compact JSON, members in rising order of their names.
 use Rattle.std.specs.Prelude.{ℕ, List, ◌++◌, codes, decimal}
+use Rattle.sheets.specs.SiteText.{site_text}
 use Rattle.json.specs.Print.{quoted}
 use Rattle.station_inputs.specs.Stations.{StationRecord}
-use Rattle.http_api.specs.JsonTexts.{site_text}
 
 -- the array of discharges and the gap
 abbrev pub gap_members : StationRecord → List ℕ

@@ -25,6 +25,8 @@ pub enum Ask {
     Station(Site),
     /// What is known of a day of a station.
     DayOf(Site, Day),
+    /// The primary computation sheet of a day of a station.
+    SheetOf(Site, Day),
     /// The daily table of a station, from one day to another, both included: 1 to 366 days.
     Daily(Site, Day, Day),
     /// What the field measurement of a number at a station says of the rating in force.
@@ -133,6 +135,7 @@ fn ask_by(alloc: Global, target: Target, body: &[u8], scratch: &mut Scratch) -> 
         Target::Status => Ok(Ask::Counts),
         Target::Station(site) => Ok(Ask::Station(site)),
         Target::DayOf(site, day) => Ok(Ask::DayOf(site, day)),
+        Target::SheetOf(site, day) => Ok(Ask::SheetOf(site, day)),
         Target::Daily(site, from, to) => Ok(Ask::Daily(site, from, to)),
         Target::Measurement(site, number) => Ok(Ask::Measurement(site, number)),
     }

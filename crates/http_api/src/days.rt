@@ -20,7 +20,7 @@ pub enum DayAnswer<'a> {
 }
 
 /// What is replied of a day.
-#[derive(Clone, Copy, Debug, Drop)]
+#[derive(Debug, Drop)]
 pub struct DayReply<'a> {
     /// The day.
     pub day: Day,
@@ -36,7 +36,7 @@ pub(crate) fn write_day_reply(day: &DayReply<'_>, out: &mut Text) -> Result<(), 
     ensures err { OnErr result (take (length out.old) out.new ≡ out.old) }
 {
     write_answer(&day.answer, out)?;
-    write_status(day.status, out)
+    write_status(&day.status, out)
 }
 
 /// Adds the members before the status, of which a part may be added where memory runs out.
@@ -57,8 +57,8 @@ fn write_answer(answer: &DayAnswer<'_>, out: &mut Text) -> Result<(), NoMemory>
 }
 
 /// Adds the last member and the end of the body, of which a part may be added where memory runs out.
-fn write_status(status: Status, out: &mut Text) -> Result<(), NoMemory>
-    ensures ok { OnOk result (out.new ≡ out.old ++ status_member status) }
+fn write_status(status: &Status, out: &mut Text) -> Result<(), NoMemory>
+    ensures ok { OnOk result (out.new ≡ out.old ++ status_member status.now) }
     ensures err { OnErr result (take (length out.old) out.new ≡ out.old) }
 {
     out.push_slice(b",\"status\":\"")?;

@@ -1,13 +1,14 @@
 //! The failures: of each reply that is no answer, its status, its code and what it tells beside.
 
 ghost use Rattle.std.specs.Prelude.{◌≡◌, ◌++◌, ◌∷◌, [], None, take, length, OnOk, OnErr};
-ghost use Rattle.http_api.specs.Failures.{denial_row, refusal_row, failure_of, failure_text, detail_text, which_text, full_text};
+ghost use Rattle.http_api.specs.Failures.{denial_row, refusal_row, failure_of, failure_text, detail_text, day_member, edit_member, which_text, full_text};
 
 use crate::asks::Denied;
 use crate::json_texts::{write_flag, write_time};
 use crate::replies::Reply;
+use civil_days::write_day;
 use edit_bodies::Member;
-use fixed_units::{NoMemory, Second, Text};
+use fixed_units::{Day, NoMemory, Second, Text};
 use office_inputs::{Full, Refusal, Which};
 use std::marker::Model;
 use wire::Verb;
@@ -19,6 +20,10 @@ pub(crate) enum Detail {
     Nothing,
     /// The number of an edit.
     Edit(u64),
+    /// A day.
+    Day(Day),
+    /// A day, and the number of the edit that it awaits.
+    Awaits(Day, u64),
     /// The start of a period.
     From(Second),
     /// The number of a line.
@@ -47,9 +52,9 @@ pub(crate) struct Failure {
 }
 
 impl Model for Failure {
-    ghost use Rattle.http_api.specs.Failures.{Row};
+    ghost use Rattle.http_api.specs.Failures.{FailureRow};
 
-    ghost Value = { Row };
+    ghost Value = { FailureRow };
 
     ghost view = { λ f. record { status = f.status; allow = f.allow; code = f.code.now; detail = f.detail } };
 }
@@ -85,6 +90,8 @@ pub(crate) fn failure_of(reply: &Reply<'_>) -> Option<Failure>
         | Reply::Station(_)
         | Reply::Day(_)
         | Reply::Daily(_)
+        | Reply::Sheet(_)
+        | Reply::SheetPending(_)
         | Reply::Measurement(_) => None,
     }
 }
@@ -122,6 +129,12 @@ fn refusal_failure(refusal: Refusal) -> Failure
         Refusal::RatingExists => told(409, b"RatingExists", Detail::Nothing),
         Refusal::PeriodOverlap(from) => told(409, b"PeriodOverlap", Detail::From(from)),
         Refusal::NoEntry => told(409, b"NoEntry", Detail::Nothing),
+        Refusal::NotInReview(day) => told(409, b"NotInReview", Detail::Day(day)),
+        Refusal::SamePerson(day) => told(409, b"SamePerson", Detail::Day(day)),
+        Refusal::Awaits(day, edit) => told(409, b"Awaits", Detail::Awaits(day, edit)),
+        Refusal::NotApproved(day) => told(409, b"NotApproved", Detail::Day(day)),
+        Refusal::AlreadyApproved(day) => told(409, b"AlreadyApproved", Detail::Day(day)),
+        Refusal::Locked(day) => told(423, b"Locked", Detail::Day(day)),
         Refusal::HistoryFull(full) => told(409, b"HistoryFull", Detail::Full(full)),
         Refusal::JournalFull => told(409, b"JournalFull", Detail::Nothing),
         Refusal::NoMemory => told(507, b"NoMemory", Detail::Nothing),
@@ -150,9 +163,11 @@ fn write_detail(detail: Detail, out: &mut Text) -> Result<(), NoMemory>
 {
     match detail {
         Detail::Nothing => Ok(()),
-        Detail::Edit(edit) => {
-            out.push_slice(b",\"edit\":")?;
-            out.push_number(edit)
+        Detail::Edit(edit) => write_edit_member(edit, out),
+        Detail::Day(day) => write_day_member(day, out),
+        Detail::Awaits(day, edit) => {
+            write_day_member(day, out)?;
+            write_edit_member(edit, out)
         }
         Detail::From(from) => {
             out.push_slice(b",\"from\":\"")?;
@@ -171,6 +186,25 @@ fn write_detail(detail: Detail, out: &mut Text) -> Result<(), NoMemory>
             write_flag(in_doubt, out)
         }
     }
+}
+
+/// Adds the member for the number of an edit, of which a part may be added where memory runs out.
+fn write_edit_member(edit: u64, out: &mut Text) -> Result<(), NoMemory>
+    ensures ok { OnOk result (out.new ≡ out.old ++ edit_member edit) }
+    ensures err { OnErr result (take (length out.old) out.new ≡ out.old) }
+{
+    out.push_slice(b",\"edit\":")?;
+    out.push_number(edit)
+}
+
+/// Adds the member for a day, of which a part may be added where memory runs out.
+fn write_day_member(day: Day, out: &mut Text) -> Result<(), NoMemory>
+    ensures ok { OnOk result (out.new ≡ out.old ++ day_member day) }
+    ensures err { OnErr result (take (length out.old) out.new ≡ out.old) }
+{
+    out.push_slice(b",\"day\":\"")?;
+    write_day(day, out)?;
+    out.push_slice(b"\"")
 }
 
 /// Adds a member whose value is a word, of which a part may be added where memory runs out.

@@ -1,13 +1,13 @@
-//! Parts of JSON texts: flags, instants, quantities, strings, sites.
+//! Parts of JSON texts: flags, instants, quantities, strings.
 
-ghost use Rattle.std.specs.Prelude.{◌≡◌, ◌++◌, ◌∷◌, [], ◌<◌, ◌≤◌, ◌-◌, replicate, take, length, OnOk, OnErr};
+ghost use Rattle.std.specs.Prelude.{◌≡◌, ◌++◌, ◌∷◌, [], ◌<◌, take, length, OnOk, OnErr};
 ghost use Rattle.std.specs.Char.{digit_char};
 ghost use Rattle.civil_days.specs.Texts.{instant_text};
 ghost use Rattle.json.specs.Print.{escape, escape_byte, escape_letter, quoted};
-ghost use Rattle.http_api.specs.JsonTexts.{bool_text, micro_or_null, site_text};
+ghost use Rattle.http_api.specs.JsonTexts.{bool_text, micro_or_null};
 
 use civil_days::write_instant;
-use fixed_units::{Micro, NoMemory, Second, Site, Text, write_micro};
+use fixed_units::{Micro, NoMemory, Second, Text, write_micro};
 
 /// Adds a flag. After `NoMemory` the text is as before.
 pub(crate) fn write_flag(flag: bool, out: &mut Text) -> Result<(), NoMemory>
@@ -106,26 +106,4 @@ fn hex_digit(digit: u8) -> u8
     ensures { result ≡ digit_char digit }
 {
     if digit < 10 { 48 + digit } else { 87 + digit }
-}
-
-/// As many zeros as a site number has digits at most.
-const ZEROS: [u8; 15] = *b"000000000000000";
-
-/// Adds a site number, of which a part may be added where memory runs out.
-pub(crate) fn write_site(site: Site, out: &mut Text) -> Result<(), NoMemory>
-    ensures ok { OnOk result (out.new ≡ out.old ++ site_text site) }
-    ensures err { OnErr result (take (length out.old) out.new ≡ out.old) }
-{
-    let mut buffer = itoa::Buffer::new();
-    let value = buffer.format(site.value()).as_bytes();
-    out.push_slice(zeros(site.digits(), value.len()))?;
-    out.push_slice(value)
-}
-
-/// The zeros in front of so many digits of a site number.
-fn zeros(digits: u8, written: usize) -> &'static [u8]
-    requires { digits ≤ 15 }
-    ensures { result.now ≡ replicate (digits - written) 48 }
-{
-    &ZEROS[..usize::from(digits).saturating_sub(written)]
 }

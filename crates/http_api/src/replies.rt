@@ -2,7 +2,7 @@
 
 ghost use Rattle.std.specs.Prelude.{◌≡◌, ◌++◌, true, take, length, decimal, OnOk, OnErr};
 ghost use Rattle.wire.specs.ReplyHead.{is_reply_status, is_allowance};
-ghost use Rattle.http_api.specs.Replies.{answer_text, body_of, status_of, allow_of, kind_of, bytes_of, edit_text, turned_text, counts_text};
+ghost use Rattle.http_api.specs.Replies.{answer_text, body_of, status_of, allow_of, kind_of, bytes_of, edit_text, turned_text, counts_text, pending_line};
 
 use crate::asks::Denied;
 use crate::days::{DayReply, write_day_reply};
@@ -18,7 +18,7 @@ use std::alloc::Global;
 use wire::{Kind, MALFORMED_REPLY, NO_MEMORY_REPLY, Verb, write_head};
 
 /// What is replied to a message.
-#[derive(Clone, Copy, Debug, Drop)]
+#[derive(Debug, Drop)]
 pub enum Reply<'a> {
     /// An edit was accepted.
     Edit {
@@ -47,6 +47,10 @@ pub enum Reply<'a> {
     Day(DayReply<'a>),
     /// What is known of the days of a daily table, one after another.
     Daily(&'a [DayReply<'a>]),
+    /// The primary computation sheet of a day.
+    Sheet(&'a [u8]),
+    /// The day whose sheet is asked for awaits a publication behind this edit, and no sheet is kept of it.
+    SheetPending(u64),
     /// What a field measurement says of the rating in force.
     Measurement(Departure),
     /// The station that is asked for is not kept.
@@ -125,6 +129,7 @@ fn kind_of(reply: &Reply<'_>) -> Kind
 {
     match reply {
         Reply::Daily(_) => Kind::Csv,
+        Reply::Sheet(_) | Reply::SheetPending(_) => Kind::Plain,
         _ => Kind::Json,
     }
 }
@@ -152,6 +157,8 @@ fn write_answer(alloc: Global, reply: &Reply<'_>, out: &mut Text) -> Result<(), 
         Reply::Station(station) => write_station(station, out),
         Reply::Day(ref day) => write_day_reply(day, out),
         Reply::Daily(days) => write_table(alloc, days, out),
+        Reply::Sheet(text) => out.push_slice(text),
+        Reply::SheetPending(edit) => write_pending(edit, out),
         Reply::Measurement(ref departure) => write_departure(departure, out),
         _ => Ok(()),
     }
@@ -187,6 +194,15 @@ fn write_counts(edits: u64, pending: u64, out: &mut Text) -> Result<(), NoMemory
     write_number(b"{\"edits\":", edits, out)?;
     write_number(b",\"pending\":", pending, out)?;
     out.push_slice(b"}")
+}
+
+/// Adds the line for a sheet of a day that awaits an edit, of which a part may be added where memory runs out.
+fn write_pending(edit: u64, out: &mut Text) -> Result<(), NoMemory>
+    ensures ok { OnOk result (out.new ≡ out.old ++ pending_line edit) }
+    ensures err { OnErr result (take (length out.old) out.new ≡ out.old) }
+{
+    write_number(b"PENDING ", edit, out)?;
+    out.push_slice(b"\n")
 }
 
 /// Adds a number behind the name of its member, of which a part may be added where memory runs out.

@@ -34,6 +34,8 @@ pub(crate) enum Route {
     Station,
     /// A day of a station.
     DayOf,
+    /// The sheet of a day of a station.
+    SheetOf,
     /// The daily table of a station.
     Daily,
     /// A field measurement of a station.
@@ -57,6 +59,8 @@ pub(crate) enum Target {
     Station(Site),
     /// A day of a station.
     DayOf(Site, Day),
+    /// The sheet of a day of a station.
+    SheetOf(Site, Day),
     /// The daily table of a station, from one day to another, both included: 1 to 366 days.
     Daily(Site, Day, Day),
     /// The field measurement of a station of this number, from 1.
@@ -64,7 +68,7 @@ pub(crate) enum Target {
 }
 
 /// All routes.
-const ROUTES: [Route; 9] = [
+const ROUTES: [Route; 10] = [
     Route::Edits,
     Route::Rating,
     Route::Turns,
@@ -72,6 +76,7 @@ const ROUTES: [Route; 9] = [
     Route::Status,
     Route::Station,
     Route::DayOf,
+    Route::SheetOf,
     Route::Daily,
     Route::Measurement,
 ];
@@ -89,6 +94,7 @@ impl Route {
             Route::Status => "/status",
             Route::Station => "/stations/{site}",
             Route::DayOf => "/stations/{site}/days/{day}",
+            Route::SheetOf => "/stations/{site}/days/{day}/sheet",
             Route::Daily => "/stations/{site}/daily/{from}/{to}",
             Route::Measurement => "/stations/{site}/measurements/{number}",
         }
@@ -105,6 +111,7 @@ impl Target {
             Target::Status
             | Target::Station(_)
             | Target::DayOf(_, _)
+            | Target::SheetOf(_, _)
             | Target::Daily(_, _, _)
             | Target::Measurement(_, _) => Verb::Get,
         }
@@ -204,6 +211,11 @@ fn target_by(route: Route, params: &Params<'_, '_>) -> Option<Target>
             let site = site_in(params)?;
             let day = day_in(params)?;
             Some(Target::DayOf(site, day))
+        }
+        Route::SheetOf => {
+            let site = site_in(params)?;
+            let day = day_in(params)?;
+            Some(Target::SheetOf(site, day))
         }
         Route::Daily => daily_target(params),
         Route::Measurement => {

@@ -3,9 +3,10 @@
 ghost use Rattle.std.specs.Prelude.{◌≡◌, ◌++◌, take, length, OnOk, OnErr};
 ghost use Rattle.http_api.specs.Stations.{station_text, gap_members, name_members, zone_members};
 
-use crate::json_texts::{write_quoted, write_site};
+use crate::json_texts::write_quoted;
 use fixed_units::{NoMemory, RoundingArray, Text};
 use office_inputs::Station;
+use sheets::write_site;
 
 /// Adds the body for a station, of which a part may be added where memory runs out.
 pub(crate) fn write_station(station: &Station, out: &mut Text) -> Result<(), NoMemory>

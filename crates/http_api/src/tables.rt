@@ -1,11 +1,11 @@
 //! The daily table: comma-separated lines, a line of names and a row for each day.
 
 ghost use Rattle.std.specs.Prelude.{◌≡◌, ◌++◌, [], ℤ, map, OnOk, OnErr, IfOk};
-ghost use Rattle.approval.specs.declared.Status.{Status};
+ghost use Rattle.approval.specs.declared.status.Status.{Status};
 ghost use Rattle.civil_days.specs.Texts.{day_text};
 ghost use Rattle.csv.specs.Writing.{default_writer, row_text};
-ghost use Rattle.http_api.specs.Columns.{AreTexts, IsBetweenRows, answer_name, columns_row, given, number_or_empty};
-ghost use Rattle.http_api.specs.Tables.{answer_row, estimate_mark, mark, names, published_or_empty, row_of, table_text};
+ghost use Rattle.http_api.specs.Columns.{AreTexts, IsBetweenRows, columns_row, given};
+ghost use Rattle.http_api.specs.Tables.{answer_row, estimate_mark, mark, names, number_or_empty, published_or_empty, row_of, table_text};
 
 use crate::days::{DayAnswer, DayReply};
 use approval::Status;
@@ -15,9 +15,11 @@ use daily_values::DayValue;
 use fixed_units::{Day, NoMemory, Published, Text, write_published};
 use std::alloc::Global;
 
-/// What stands in the columns behind that of a day's answer.
+/// What stands in the columns of a day's answer.
 #[derive(Clone, Copy, Debug)]
-struct Columns {
+struct Columns<'a> {
+    /// What is answered.
+    answer: &'a [u8],
     /// The edit that the day awaits.
     edit: Option<u64>,
     /// The published discharge.
@@ -107,25 +109,25 @@ fn write_row(
 }
 
 /// Writes the line of a day with these columns, whose texts were made.
-fn write_fields(
+fn write_fields<'a>(
     day: &DayReply<'_>,
-    columns: &Columns,
-    texts: &RowTexts,
+    columns: &Columns<'a>,
+    texts: &'a RowTexts,
     writer: &mut Writer<Vec<u8>>,
 ) -> Result<(), NoMemory>
     requires texts { AreTexts day.now.day columns.now texts.now }
     requires between { IsBetweenRows writer.old }
-    ensures line { OnOk result (given writer.new ≡ given writer.old ++ row_text default_writer (columns_row day.now.day (answer_name day.now.answer) columns.now day.now.status)) }
+    ensures line { OnOk result (given writer.new ≡ given writer.old ++ row_text default_writer (columns_row day.now.day columns.now day.now.status)) }
     ensures between { OnOk result (IsBetweenRows writer.new) }
 {
     write_line(
         &[
             texts.day.as_slice(),
-            answer_name(&day.answer),
+            columns.answer,
             texts.edit.as_slice(),
             texts.discharge.as_slice(),
             texts.stage.as_slice(),
-            mark(day.status),
+            mark(&day.status),
             estimate_mark(columns.estimated),
         ],
         writer,
@@ -155,35 +157,27 @@ fn written(writer: Writer<Vec<u8>>) -> Result<Vec<u8>, NoMemory>
     }
 }
 
-/// The name of an answer.
-fn answer_name<'a>(answer: &DayAnswer<'_>) -> &'a [u8]
-    ensures { result.now ≡ answer_name answer.now }
-{
-    match answer {
-        DayAnswer::Pending(_) => b"pending",
-        DayAnswer::Computed(DayValue::Empty) => b"empty",
-        DayAnswer::Computed(DayValue::Day(_)) => b"computed",
-    }
-}
-
 /// What the columns tell of an answer.
-fn columns_of(answer: &DayAnswer<'_>) -> Columns
-    ensures { (day : ℤ) (status : Status) → columns_row day (answer_name answer.now) result status ≡ answer_row day answer.now status }
+fn columns_of<'a>(answer: &DayAnswer<'_>) -> Columns<'a>
+    ensures { (day : ℤ) (status : Status) → columns_row day result status ≡ answer_row day answer.now status }
 {
     match answer {
         DayAnswer::Pending(edit) => Columns {
+            answer: b"pending",
             edit: Some(*edit),
             discharge: None,
             stage: None,
             estimated: false,
         },
         DayAnswer::Computed(DayValue::Empty) => Columns {
+            answer: b"empty",
             edit: None,
             discharge: None,
             stage: None,
             estimated: false,
         },
         DayAnswer::Computed(DayValue::Day(figures)) => Columns {
+            answer: b"computed",
             edit: None,
             discharge: figures.discharge_text(),
             stage: figures.stage_text(),
@@ -204,7 +198,7 @@ impl RowTexts {
     }
 
     /// Makes the texts of a day and of what the columns tell of it. After `NoMemory` they may hold anything.
-    fn fill(&mut self, day: Day, columns: &Columns) -> Result<(), NoMemory>
+    fn fill(&mut self, day: Day, columns: &Columns<'_>) -> Result<(), NoMemory>
         ensures { OnOk result (AreTexts day columns.now self.new) }
     {
         set_day(day, &mut self.day)?;
@@ -245,12 +239,12 @@ fn set_published(value: Option<Published>, text: &mut Text) -> Result<(), NoMemo
 }
 
 /// How a day of this status is marked.
-fn mark<'a>(status: Status) -> &'a [u8]
-    ensures { result.now ≡ mark status }
+fn mark<'a>(status: &Status) -> &'a [u8]
+    ensures { result.now ≡ mark status.now }
 {
     match status {
-        Status::Working | Status::Review => b"P",
-        Status::Approved => b"A",
+        Status::Working | Status::InReview(_) => b"P",
+        Status::Approved(_) => b"A",
     }
 }
 

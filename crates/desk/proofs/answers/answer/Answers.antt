@@ -33,6 +33,18 @@ returns-in-DayOf-clause-passed g c =
     let h = c.args.office.now.register.history in
     passes_published g.D.Disk h h c.args.office.now.disk (only c.args.office.now.disk) c.an_office_stands_on_its_disk.ensures.images (publishes_none h)
 
+pub returns-in-SheetOf-clause-answered : goal.returns-in-SheetOf-clause-answered
+returns-in-SheetOf-clause-answered g c =
+    let h = c.args.office.now.register.history in
+    rw c.in-SheetOf.is (by_office c.tell_sheet.result c.told_by-in-SheetOf.result h (asks.SheetOf c.in-SheetOf.site c.in-SheetOf.day) c.tell_sheet.new.texts.reply h
+    c.tell_sheet.ensures (any_ok c.tell_sheet.result _ refl) (any_err c.tell_sheet.result _ refl) c.told_by-in-SheetOf.ensures.made c.told_by-in-SheetOf.ensures.not)
+
+pub returns-in-SheetOf-clause-passed : goal.returns-in-SheetOf-clause-passed
+returns-in-SheetOf-clause-passed g c =
+    let only = (g.met.D.Disk g.world.𝓛 g.world.𝓜 g.world.𝓡 ((λ s x. x), (λ x. x), (λ x. x), λ x. x)).only_now in
+    let h = c.args.office.now.register.history in
+    passes_published g.D.Disk h h c.args.office.now.disk (only c.args.office.now.disk) c.an_office_stands_on_its_disk.ensures.images (publishes_none h)
+
 pub returns-in-Daily-clause-answered : goal.returns-in-Daily-clause-answered
 returns-in-Daily-clause-answered g c =
     let h = c.args.office.now.register.history in

@@ -1,7 +1,7 @@
 use Rattle.std.proofs.Common.{◌≡◌, Err, ap, false, rules}
 use Rattle.desk.specs.Answering.{told_bytes}
 use Rattle.desk.specs.declared.answers.Told.{Told}
-use Rattle.desk.proofs.AnswerLemmas.{made_told, refused_by, unwritten}
+use Rattle.desk.proofs.AnswerLemmas.{made_told, refused_by, takes_none, unwritten}
 use Rattle.desk.proofs.PassingLemmas.{passes_published, passes_refused, passes_taken, publishes_none}
 use Rattle.desk.proofs.answers.take_edit_counted.Goals as goal
 use Rattle.http_api.specs.Replies.{bytes_of}
@@ -39,3 +39,7 @@ pub returns-in-Ok-2-clause-unwritten : goal.returns-in-Ok-2-clause-unwritten
 returns-in-Ok-2-clause-unwritten g c =
     let made : c.make.new.self.reply ≡ bytes_of (replies.Edit c.saturating_add.result false) = search rules in
     made_told c.made_for.result c.make.new.self.reply c.saturating_add.result false c.args.office.now.disk c.edit.new.self.disk c.made_for.ensures.made made
+
+pub returns-in-Ok-2-clause-claims : goal.returns-in-Ok-2-clause-claims
+returns-in-Ok-2-clause-claims g c =
+    takes_none c.args.office.now.register c.edit.new.self.register c.args.edit c.in-Ok-2.told.repeated c.in-Ok-2.ensures.claims c.requires.claims

@@ -3,7 +3,7 @@ use Rattle.desk.specs.Replies.{day_reply}
 use Rattle.history.specs.Statuses.{status_at}
 use Rattle.desk.proofs.AnswerLemmas.{on_ok}
 use Rattle.desk.proofs.DailyLemmas.{day_told}
-use Rattle.desk.proofs.answers.tell_day.Goals as goal
+use Rattle.desk.proofs.days.tell_day.Goals as goal
 
 pub returns-in-Some : goal.returns-in-Some
 returns-in-Some g c =

@@ -1,13 +1,13 @@
 -- Day after day is added, from the first to the last.
 use Rattle.std.specs.Prelude.{◌≡◌, ℤ, pos, ◌+ℤ◌, ◌≤ℤ◌, map, true}
-use Rattle.std.proofs.Common.{◌∙◌, ap, arith, rules, to_z, of_z, w32, [], ◌∷◌, ◌++◌}
+use Rattle.std.proofs.Common.{◌∙◌, ap, sym, arith, rules, to_z, of_z, w32, List, [], ◌∷◌, ◌++◌}
 use Rattle.std.specs.Result.{is_ok}
 use Rattle.std.proofs.lemmas.List.{map-append}
 use Rattle.std.proofs.lemmas.Int.{ints}
 use Rattle.desk.specs.Replies.{row_at}
 use Rattle.http_api.specs.Tables.{Row, row_of}
 use Rattle.desk.proofs.DailyLemmas.{gathered_after, gathered_first, gathered_last}
-use Rattle.desk.proofs.answers.days_known.Goals as goal
+use Rattle.desk.proofs.days.days_known.Goals as goal
 
 pub loop-number-init : goal.loop-number-init
 loop-number-init g c =
@@ -38,7 +38,7 @@ loop-number-preserved g c =
     let items = rw good at c.push.ensures.items in
     let rows = map row_of c.loop-number.days.items in
     gathered_after (row_at c.args.office.now.register.history.events c.args.site) c.args.from c.args.to number _ rows (map row_of c.push.new.self.items) within next
-    (ap (map row_of) items ∙ map-append row_of c.loop-number.days.items (c.known_on.result ∷ []) ∙ ap (λ (r : Row). rows ++ r ∷ []) c.known_on.ensures)
+    (ap (map row_of) items ∙ map-append row_of c.loop-number.days.items (c.known_on.result ∷ []) ∙ ap (λ (more : List Row). rows ++ more) (sym c.known_on.ensures))
     c.loop-number.invariant
 
 pub returns : goal.returns

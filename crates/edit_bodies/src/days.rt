@@ -1,4 +1,4 @@
-//! The day of an estimate.
+//! The days of edits.
 
 ghost use Rattle.std.specs.Prelude.{◌≡◌};
 ghost use Rattle.edit_bodies.specs.Answers.{IsTaken};
@@ -11,10 +11,10 @@ use crate::members::{Fields, Member};
 use civil_days::read_day;
 use fixed_units::Day;
 
-/// Takes out the day of an estimate.
-pub(crate) fn take_day(fields: &mut Fields<'_>) -> Result<Day, BodyFault>
-    ensures { IsTaken (required Member.Day day_of) fields.old result fields.new }
+/// Takes out a day.
+pub(crate) fn take_day(fields: &mut Fields<'_>, member: Member) -> Result<Day, BodyFault>
+    ensures { IsTaken (required member day_of) fields.old result fields.new }
 {
-    let text = take_text(fields, Member::Day)?;
-    read_day(text.as_bytes()).ok_or(BodyFault::Body(Member::Day))
+    let text = take_text(fields, member)?;
+    read_day(text.as_bytes()).ok_or(BodyFault::Body(member))
 }

@@ -131,6 +131,11 @@ class Run:
         self.send(number)
         return self.reply()
 
+    def settle(self):
+        self.process.stdin.write(journals.SETTLEMENT)
+        self.process.stdin.flush()
+        return self.reply()
+
     def end(self):
         self.process.stdin.close()
         rest = self.process.stdout.read()
@@ -172,6 +177,10 @@ class Case:
         """Edits that have to be accepted, each the next that was not sent yet: first the station, then its readings."""
         for _ in range(count):
             self.sent += 1
+            if journals.is_approval(self.sent):
+                settled = run.settle()
+                if not settled or '"pending":0' not in settled:
+                    raise SystemExit(f"a settlement was answered {settled}")
             reply = run.edit(self.sent)
             if not reply or '"repeated":false' not in reply:
                 raise SystemExit(f"an edit was answered {reply}")

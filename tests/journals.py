@@ -2,7 +2,8 @@
 
 Edit 1 adds the station, every later one puts a reading, and each tenth one a datum correction instead; some put three readings,
 flag all so far, take out the one before, put an estimate, add a rating, put a period of the rating before it, or put a field
-measurement. Each is under a reference of its own."""
+measurement. Of each hundred some put an estimate of a day of their own, review that day, approve it and, in every second hundred,
+take the approval back; a settlement goes before an approval. Each is under a reference of its own."""
 import datetime
 import json
 import struct
@@ -63,6 +64,17 @@ def is_estimate(number):
     return number % 20 == 8 and number < 4_000
 
 
+def step(number):
+    """What an edit does to the day of its hundred, if anything: the day is estimated, reviewed, approved, or approved no more."""
+    named = {41: "estimate", 42: "review", 43: "approve", 47: "rescind" if number // 100 % 2 == 1 else None}
+    return named.get(number % 100) if number < 4_000 else None
+
+
+def is_approval(number):
+    """Whether an edit approves a day, which has to be computed before."""
+    return step(number) == "approve"
+
+
 FLAGS = ["ok", "erroneous", "affected"]
 ROWS = [(0, 0), (1_000_000, 10_000_000), (2_000_000, 30_500_000)]
 
@@ -74,6 +86,33 @@ def day(number):
 
 def day_text(number):
     return (datetime.date(1970, 1, 1) + datetime.timedelta(days=day(number))).isoformat()
+
+
+def reviewed_day(number):
+    """The day of the hundred of an edit, counted from 1970-01-01: it is before every reading, and far from the other estimates."""
+    return 10_957 + number // 100
+
+
+def reviewed_day_text(number):
+    return (datetime.date(1970, 1, 1) + datetime.timedelta(days=reviewed_day(number))).isoformat()
+
+
+def person(number):
+    """Who sends an edit: a day is reviewed by another person than the one who approves it."""
+    return {"review": "RV", "approve": "AP"}.get(step(number), "AB")
+
+
+def sheet(number):
+    """The computation sheet that is stored with the approval of the day of an edit's hundred: of an estimate and no reading."""
+    lines = [f"PRIMARY COMPUTATION 01646500 {reviewed_day_text(number)}", "STATE A", "LENGTH 86400", "READINGS 0"]
+    lines += ["MISSING AFFECTED 0 NORATING 0 BELOW 0 ABOVE 0", "STAGE - COVERED 0", "DISCHARGE - COVERED 0"]
+    lines += ["MAX STAGE -", "MIN STAGE -", "MAX DISCHARGE -", "MIN DISCHARGE -", "PUBLISHED 12.40 e"]
+    return "".join(line + "\n" for line in lines).encode()
+
+
+def approvals(count):
+    """The approvals among the first edits, of days whose approval none of these takes back."""
+    return [number for number in range(1, count + 1) if is_approval(number) and not (step(number + 4) and number + 4 <= count)]
 
 
 def decimal(millionths):
@@ -91,6 +130,13 @@ def content(number, raw):
         return "AddStation", dict(zip(names, [NAME, ZONE, GAP, STAGES, DISCHARGES]))
     at = text_of(instant(number))
     stage = decimal(raw)
+    span = {"from": reviewed_day_text(number), "to": reviewed_day_text(number)}
+    if step(number) == "estimate":
+        return "PutEstimate", {"day": reviewed_day_text(number), "discharge": "12.4"}
+    if step(number) == "review":
+        return "Review", span
+    if step(number):
+        return "Decide", {**span, "decision": step(number)}
     if is_rating(number):
         return "AddRating", {"rating": number, "rows": [[decimal(row[0]), decimal(row[1])] for row in ROWS]}
     if is_period(number):
@@ -114,13 +160,32 @@ def content(number, raw):
 def request(number, raw=STAGE):
     """The request that sends an edit."""
     kind, members = content(number, raw)
-    edit = {"kind": kind, "by": "AB", "ref": reference(number), "site": "01646500", **members}
+    edit = {"kind": kind, "by": person(number), "ref": reference(number), "site": "01646500", **members}
     body = json.dumps(edit, separators=(",", ":")).encode()
     return b"POST /edits HTTP/1.1\r\nContent-Length: %d\r\n\r\n%s" % (len(body), body)
 
 
+SETTLEMENT = b"POST /settle HTTP/1.1\r\nContent-Length: 0\r\n\r\n"
+
+
+def settled_request(number, raw=STAGE):
+    """The request that sends an edit, behind the settlement that an approval needs."""
+    return (SETTLEMENT if is_approval(number) else b"") + request(number, raw)
+
+
 def requests(numbers):
-    return b"".join(request(number) for number in numbers)
+    return b"".join(settled_request(number) for number in numbers)
+
+
+def sheet_request(number):
+    """The question for the sheet of the day of an edit's hundred."""
+    return b"GET /stations/01646500/days/%s/sheet HTTP/1.1\r\n\r\n" % reviewed_day_text(number).encode()
+
+
+def sheet_reply(number):
+    """The reply to it while the day is approved."""
+    head = b"HTTP/1.1 200 OK\r\nContent-Type: text/plain; charset=utf-8\r\nContent-Length: %d\r\n\r\n"
+    return head % len(sheet(number)) + sheet(number)
 
 
 def short(text):
@@ -129,7 +194,16 @@ def short(text):
 
 def payload(number, raw=STAGE):
     """The payload of an edit's record."""
-    head = short("AB") + short(reference(number)) + struct.pack("<BQ", 8, 1_646_500)
+    head = short(person(number)) + short(reference(number)) + struct.pack("<BQ", 8, 1_646_500)
+    span = struct.pack("<ii", reviewed_day(number), reviewed_day(number))
+    if step(number) == "estimate":
+        return b"\x0d" + head + struct.pack("<iq", reviewed_day(number), 12_400_000)
+    if step(number) == "review":
+        return b"\x11" + head + span
+    if step(number) == "approve":
+        return b"\x12" + head + span + b"\0" + struct.pack("<I", len(sheet(number))) + sheet(number)
+    if step(number) == "rescind":
+        return b"\x12" + head + span + b"\1"
     if number == 1:
         return b"\x01" + head + short(NAME) + short(ZONE) + struct.pack("<I", GAP) + (STAGES + DISCHARGES).encode()
     if is_rating(number):

@@ -134,6 +134,18 @@ def other(number, **members):
     return post(b"/edits", json.dumps({**json.loads(body), **members}).encode())
 
 
+# A day is estimated, reviewed, computed and approved, and then its estimate is put anew; and its sheet.
+LOCKING = requests([41, 42, 43]) + other(41, ref="n", discharge="12.5") + journals.sheet_request(43)
+LOCKED = (
+    reply(3)
+    + reply(4)
+    + answer(b"200 OK", b'{"pending":0,"published":2}')
+    + reply(5)
+    + answer(b"423 Locked", b'{"code":"Locked","day":"%s"}' % journals.reviewed_day_text(43).encode())
+    + journals.sheet_reply(43)
+)
+
+
 def replies(place):
     """Each status of a reply with its cause, but those of a failing disk and of want of memory."""
     conflict, bad, missing = b"409 Conflict", b"400 Bad Request", b"404 Not Found"
@@ -153,6 +165,7 @@ def replies(place):
         ("a POST where GET is due", post(b"/status"), not_allowed(b"GET")),
         ("a GET where POST is due", get(b"/settle"), not_allowed(b"POST")),
         ("a POST without a length", b"POST /settle HTTP/1.1\r\n\r\n", answer(b"411 Length Required", b'{"code":"NoLength"}')),
+        ("an edit of an approved day", LOCKING, LOCKED),
         ("a body that is too long", post(b"/edits", b" " * 4_194_305), answer(b"413 Payload Too Large", b'{"code":"TooLarge"}')),
     ]:
         expect(f"reply to {what}", (0, wanted, b""), place.on_journal("batch", READING, data))

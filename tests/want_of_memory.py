@@ -3,8 +3,8 @@
 
     python3 tests/want_of_memory.py PROGRAM [--year] [--folder .] [--jobs 4]
 
-A whole batch (a station, its rating, the rating's period, three readings in one edit, a day before and after turns) is run once for
-each allocation that it makes, with that one refused. Every request must be answered: by its reply, by 507, or by what follows where
+A whole batch (a station, its rating, the rating's period, three readings in one edit, a review and an approval of three other days with
+their sheets, a day before and after turns, and its sheet) is run once for each allocation that it makes, with that one refused. Every request must be answered: by its reply, by 507, or by what follows where
 an earlier edit was answered 507. Then the same batch is sent once more over the journal that was left, with all the memory there is:
 every edit must be accepted or told to be repeated, and the day must be computed. With `--year` the three readings are a logger's year
 in one body, settled, with the table of its days (some minutes).
@@ -96,8 +96,8 @@ def get(target):
     return b"GET %s HTTP/1.1\r\n\r\n" % target.encode()
 
 
-def edit(kind, reference, members):
-    return post("/edits", '{"kind":"%s","by":"AB","ref":"%s",%s,%s}' % (kind, reference, SITE, members))
+def edit(kind, reference, members, by="AB"):
+    return post("/edits", '{"kind":"%s","by":"%s","ref":"%s",%s,%s}' % (kind, by, reference, SITE, members))
 
 
 def station(gap):
@@ -111,8 +111,15 @@ def station(gap):
 
 def whole_batch():
     rows = '"readings":[["2024-01-05T05:00:00Z","1.00"],["2024-01-05T17:00:00Z","2.00"],["2024-01-06T05:00:00Z","1.00"]]'
-    day = get("/stations/01646500/days/2024-01-05")
-    return station(720) + [edit("PutReadings", "a4", rows), day, post("/turns/10"), day]
+    day = "/stations/01646500/days/2024-01-05"
+    # Days that no reading changes, so that the readings are accepted behind the approval too.
+    span = '"from":"2024-02-01","to":"2024-02-03"'
+    reviewed = [
+        edit("Review", "a5", span, "RV"),
+        edit("Decide", "a6", span + ',"decision":"approve"', "AP"),
+        get("/stations/01646500/days/2024-02-02/sheet"),
+    ]
+    return station(720) + [edit("PutReadings", "a4", rows), *reviewed, get(day), post("/turns/10"), get(day + "/sheet"), get(day)]
 
 
 def year():

@@ -11,7 +11,7 @@ use Rattle.journal.specs.JournalBytes.{IsJournalOf, StandsFor}
 use Rattle.office.specs.Stops.{IsLeft, IsLeftBefore, IsLeftBetween}
 use Rattle.office_inputs.specs.declared.limits.Limits.{Limits}
 use Rattle.office_inputs.specs.declared.limits.TheConstants.{USUAL_STATIONS, USUAL_READINGS, USUAL_DAY_READINGS, USUAL_CELLS, USUAL_EVENTS, USUAL_JOURNAL_BYTES}
-use Rattle.records.specs.declared.payloads.Record.{Record}
+use Rattle.records.specs.Sheets.{Record}
 
 -- an office keeps to these numbers
 abbrev with_all : ℕ → ℕ → ℕ → ℕ → ℕ → ℕ → Limits

@@ -24,7 +24,7 @@ use Rattle.journal.specs.declared.opening.OpenFault.{OpenFault}
 use Rattle.journal.specs.declared.opening.OpenFault.TheVariants as opening
 use Rattle.office.specs.Openings.{IsDamagedFor, IsNotOpened}
 use Rattle.office.specs.Stops.{IsLeft, IsLeftBetween}
-use Rattle.records.specs.declared.payloads.Record.{Record}
+use Rattle.records.specs.Sheets.{Record}
 
 -- a disk that tells its bytes has these
 both_told : (o : Option (List ℕ)) (P : List ℕ → Type 0) → IsSome o → IfSome o P → IsSomeAnd o P

@@ -17,7 +17,7 @@ use Rattle.office.specs.Openings.{IsDamagedFor}
 use Rattle.office.specs.Stops.{IsLeft, IsLeftBetween}
 use Rattle.office_inputs.specs.declared.limits.Limits.{Limits}
 use Rattle.office_inputs.specs.declared.limits.TheConstants.{USUAL_STATIONS, USUAL_READINGS, USUAL_DAY_READINGS, USUAL_CELLS, USUAL_EVENTS, USUAL_JOURNAL_BYTES}
-use Rattle.records.specs.declared.payloads.Record.{Record}
+use Rattle.records.specs.Sheets.{Record}
 
 -- the numbers that every run keeps to
 abbrev pub usual : Limits

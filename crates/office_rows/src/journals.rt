@@ -6,10 +6,10 @@ use whole_runs::{
     pass_openings, pass_sessions,
 };
 
-const HEADER: &[u8] = b"STREAMOFFICE-J1\n";
+pub(crate) const HEADER: &[u8] = b"STREAMOFFICE-J1\n";
 
 /// The station 01646500, POTOMAC, is added under `a1`.
-const ADDED_RECORD: &[u8] =
+pub(crate) const ADDED_RECORD: &[u8] =
     b"\x37\0\0\0\x01\x02AB\x02a1\x08\xa4\x1f\x19\0\0\0\0\0\x07POTOMAC\x06-05:00\xd0\x02\0\099999999929999999992";
 
 /// The same under `a2`.
@@ -17,7 +17,7 @@ const SECOND_RECORD: &[u8] =
     b"\x37\0\0\0\x01\x02AB\x02a2\x08\xa4\x1f\x19\0\0\0\0\0\x07POTOMAC\x06-05:00\xd0\x02\0\099999999929999999992";
 
 /// The reading of 1.00 feet at 2024-01-05T05:00:00Z is put under `r2`.
-const READING: &[u8] =
+pub(crate) const READING: &[u8] =
     b"\x25\0\0\0\x03\x02AB\x02r2\x08\xa4\x1f\x19\0\0\0\0\0\x01\0\0\0\xd0\x8c\x97\x65\0\0\0\0\x40\x42\x0f\0\0\0\0\0\0";
 
 /// The station is set under `a3`, with gaps of an hour at most.
@@ -123,7 +123,7 @@ const DAMAGED_AT_16: Due = Due {
     left: None,
 };
 
-const DAMAGED_AT_76: Due = Due {
+pub(crate) const DAMAGED_AT_76: Due = Due {
     status: 5,
     written: &[],
     told: b"streamoffice: damaged at 76\n",

@@ -2,6 +2,10 @@
 #![tactic(auto)]
 
 #[cfg(test)]
+mod approval_journals;
+#[cfg(test)]
+mod approved_days;
+#[cfg(test)]
 mod bulk_days;
 #[cfg(test)]
 mod corrections;
@@ -21,6 +25,10 @@ mod measured;
 mod rated_days;
 #[cfg(test)]
 mod repeats;
+#[cfg(test)]
+mod reviews;
+#[cfg(test)]
+mod sheets_of_days;
 #[cfg(test)]
 mod tables;
 #[cfg(test)]

@@ -7,8 +7,8 @@ pub mod runs;
 pub mod sessions;
 
 pub use messages::{
-    ADDED, ADDITION, BAD_REQUEST, CONFLICT, Exchange, FIRST, GET_ALONE, LENGTH_REQUIRED, NOT_FOUND,
-    OK, POST_ALONE, TABLE, TOO_LARGE, UNAVAILABLE, push_message, push_reply,
+    ADDED, ADDITION, BAD_REQUEST, CONFLICT, Exchange, FIRST, GET_ALONE, LENGTH_REQUIRED, LOCKED,
+    NOT_FOUND, OK, POST_ALONE, SHEET, TABLE, TOO_LARGE, UNAVAILABLE, push_message, push_reply,
 };
 pub use runs::{
     BATCH, Batch, Due, INIT, LongBatch, NO_RECORDS, Opening, Parts, Run, STATUS, Turn, WHOLE, Ways,

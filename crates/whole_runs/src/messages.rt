@@ -16,6 +16,9 @@ pub const ADDED: Exchange = ("POST /edits", ADDITION, OK, FIRST);
 /// The beginnings of replies, up to the length of the body.
 pub const OK: &str = "HTTP/1.1 200 OK\r\nContent-Type: application/json\r\n";
 
+/// To a question for a computation sheet.
+pub const SHEET: &str = "HTTP/1.1 200 OK\r\nContent-Type: text/plain; charset=utf-8\r\n";
+
 /// To a question for a daily table.
 pub const TABLE: &str = "HTTP/1.1 200 OK\r\nContent-Type: text/csv\r\n";
 
@@ -42,6 +45,9 @@ pub const LENGTH_REQUIRED: &str =
 
 /// To a body that is too large.
 pub const TOO_LARGE: &str = "HTTP/1.1 413 Payload Too Large\r\nContent-Type: application/json\r\n";
+
+/// To an edit that would change an approved day.
+pub const LOCKED: &str = "HTTP/1.1 423 Locked\r\nContent-Type: application/json\r\n";
 
 /// Where the journal failed.
 pub const UNAVAILABLE: &str =

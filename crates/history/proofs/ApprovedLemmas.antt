@@ -1,5 +1,5 @@
 -- An approved day keeps its status, its inputs and its sheet until a rescission of it is accepted.
-use Rattle.std.specs.Prelude.{◌≡◌, ℕ, zero, suc, ◌+◌, ◌-◌, ◌==◌, ◌≤◌, ◌<◌, Bool, true, false, not, ◌&&◌, ◌||◌, cond, List, [], ◌∷◌, ◌++◌, length, map, filter, find, reverse, slice_get, All, Option, Some, None, ℤ}
+use Rattle.std.specs.Prelude.{◌≡◌, ℕ, zero, suc, ◌+◌, ◌-◌, ◌==◌, ◌≤◌, ◌<◌, Bool, true, false, not, ◌&&◌, ◌||◌, cond, List, [], ◌∷◌, ◌++◌, length, map, filter, find, reverse, slice_get, Option, Some, None, ℤ}
 use Rattle.std.specs.List.{list_any}
 use Rattle.std.proofs.Common.{arith, refl, ap, sym, subst, ◌∙◌}
 use Rattle.std.proofs.lemmas.Bool.{false≢true, false_from_ne_true}
@@ -17,17 +17,18 @@ use Rattle.edits.specs.declared.decisions.Decision.TheVariants.{Approve, Rescind
 use Rattle.fixed_units.specs.Calendar.{calendar}
 use Rattle.fixed_units.specs.Quantities.{SiteNumber, IsDay, site_place, same_site}
 use Rattle.fixed_units.proofs.CalendarLemmas.{calendar_any}
-use Rattle.history.specs.Accepted.{accepted, changes, edit_of, edits_of, stations_at}
+use Rattle.history.specs.Accepted.{accepted, changes, edit_of, edits_of, record_numbered, stations_at}
 use Rattle.history.specs.Awaited.{inputs_at}
 use Rattle.history.specs.Events.{Event, Accepted, Published, Faulted}
 use Rattle.history.specs.Legal.{IsOrderly, MayBeKept}
 use Rattle.history.specs.Rescissions.{NoneRescinds, takes_back}
 use Rattle.history.specs.Statuses.{sheet_kept, sheet_of, standing_at, standing_back, standing_of, status_at, stored_sheet}
 use Rattle.history.proofs.EventLemmas.{accepted-append, accepted_published, accepted_faulted, stations_accepted}
+use Rattle.history.proofs.FirstDayLemmas.{find_filtered}
 use Rattle.history.proofs.PendingLemmas.{same_site_by}
 use Rattle.history.proofs.StandingLemmas.{standing_accepted}
 use Rattle.history.proofs.StationLemmas.{places_equal, unchanged_day}
-use Rattle.office_inputs.specs.Changes.{changed_days, keeps_day}
+use Rattle.office_inputs.specs.Changes.{keeps_day}
 use Rattle.office_inputs.specs.Stations.{inputs_of_day, stations_of}
 use Rattle.office_inputs.specs.declared.limits.Limits.{Limits}
 use Rattle.records.specs.Sheets.{Record}
@@ -45,20 +46,8 @@ none_any p (x ∷ xs) h = none_step (p x) x (find p xs) (list_any p xs) h (none_
 pub none_passes : (p : ℤ → Bool) (day : ℤ) → IsDay day → find p calendar ≡ None → p day ≡ false
 none_passes p day k h = false_from_ne_true (p day) (λ t. false≢true (sym (none_any p calendar h) ∙ calendar_any p day k t))
 
-filtered_step : (b c : Bool) (x : ℤ) (found : Option ℤ) (all : Option ℤ) → cond {A = Option ℤ} b (cond c (Some x) found) found ≡ None → (found ≡ None → all ≡ None)
-    → cond (b && c) (Some x) all ≡ None
-filtered_step true true x found all h rec = absurd (cc)
-filtered_step true false x found all h rec = rec h
-filtered_step false c x found all h rec = rec h
-
-find_if : (p : ℤ → Bool) (b : Bool) (x : ℤ) (xs : List ℤ) → find p (cond b (x ∷ xs) xs) ≡ cond b (cond (p x) (Some x) (find p xs)) (find p xs)
-find_if p true x xs = refl
-find_if p false x xs = refl
-
 pub none_filtered : (p q : ℤ → Bool) (xs : List ℤ) → find p (filter q xs) ≡ None → find (λ d. q d && p d) xs ≡ None
-none_filtered p q [] h = refl
-none_filtered p q (x ∷ xs) h =
-    filtered_step (q x) (p x) x (find p (filter q xs)) (find (λ d. q d && p d) xs) (sym (find_if p (q x) x (filter q xs)) ∙ h) (none_filtered p q xs)
+none_filtered p q xs h = sym (find_filtered p q xs) ∙ h
 
 -- a day stands as its site's place tells
 standing_back_by : (back : List Edit) (a b : SiteNumber) (day : ℤ) → site_place a ≡ site_place b → standing_back back a day ≡ standing_back back b day
@@ -234,11 +223,17 @@ numbered_front xs ys (suc k) l =
     let e : suc k - 1 ≡ k = omega arith in
     rw e (ap (λ (o : Option Record). cond (suc k == 0) None o) (get_front xs ys k (omega (arith, l))))
 
+-- the record of an accepted edit stays
+pub record_stays : (events since : List Event) (number : ℕ) → number ≤ length (accepted events)
+    → record_numbered (events ++ since) number ≡ record_numbered events number
+record_stays events since number l =
+    ap (λ (ps : List Record). cond (number == 0) None (slice_get ps (number - 1))) (accepted-append events since)
+    ∙ numbered_front (accepted events) (accepted since) number l
+
 -- the sheet that is kept of a day stays as long as the day stands as it does
 pub sheet_stays : (events since : List Event) (site : SiteNumber) (day : ℤ) → standing_at (events ++ since) site day ≡ standing_at events site day
     → stored_sheet (events ++ since) site day ≡ stored_sheet events site day
 sheet_stays events since site day same =
     ap (sheet_kept (events ++ since) site day) same
     ∙ ap (λ (o : Option Record). cond (is_approved (status_at events site day)) (sheet_of o day) None)
-    (ap (λ (ps : List Record). cond ((standing_at events site day).edit == 0) None (slice_get ps ((standing_at events site day).edit - 1))) (accepted-append events since)
-    ∙ numbered_front (accepted events) (accepted since) (standing_at events site day).edit (standing_within events site day))
+    (record_stays events since (standing_at events site day).edit (standing_within events site day))

@@ -16,6 +16,7 @@ use Rattle.history.specs.Statuses.{standing_of}
 use Rattle.history.specs.Verdicts.{Accepts, record_of, verdict}
 use Rattle.history.specs.declared.recorded.NotKept.{NotKept}
 use Rattle.history.specs.declared.recorded.NotKept.TheVariants as not_kept
+use Rattle.history.proofs.ApprovalLemmas.{made_sheets}
 use Rattle.history.proofs.EventLemmas.{accepted_all, accepted_published, accepted_faulted}
 use Rattle.history.proofs.VerdictLemmas.{accepted_parts}
 use Rattle.office_inputs.specs.Refusals as inputs
@@ -63,6 +64,7 @@ locked_by edits edit = first_approved (λ day. (standing_of edits edit.site day)
 -- whether a record may be kept hangs on the edits accepted before
 pub may_be_kept_by : (limits : Limits) (a b : List Event) (piece : Record) → accepted a ≡ accepted b → MayBeKept limits a piece → MayBeKept limits b piece
 may_be_kept_by limits a b piece e m = record {
+  sheets = m.sheets;
   reference = ap (λ (ps : List Record). named (map edit_of ps) piece.edit.reference) (sym e) ∙ m.reference;
   stations = ap (λ (ps : List Record). inputs.refusal_of limits (stations_of (map edit_of ps)) piece.edit) (sym e) ∙ m.stations;
   statuses = ap (λ (ps : List Record). objection_by (map edit_of ps) piece.edit) (sym e) ∙ m.statuses;
@@ -299,7 +301,13 @@ doubt_may_be_kept h piece d k = front_may_be_kept h h.events [] k (sym (append-n
 pub accepted_may_be_kept : (h : History) (edit : Edit) → verdict h edit ≡ Accepts → MayBeKept h.limits h.events (record_of h edit)
 accepted_may_be_kept h edit v =
     let parts = accepted_parts h edit v in
-    record { reference = parts.new; stations = parts.stations; statuses = parts.statuses; unlocked = parts.unlocked }
+    record {
+      sheets = made_sheets h.events edit.site edit.what edit.lawful;
+      reference = parts.new;
+      stations = parts.stations;
+      statuses = parts.statuses;
+      unlocked = parts.unlocked;
+    }
 
 -- and it is made there
 pub accepted_is_made : (h : History) (edit : Edit) → verdict h edit ≡ Accepts → IsMade h.events (record_of h edit)

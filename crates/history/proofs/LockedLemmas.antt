@@ -1,7 +1,7 @@
 -- An edit is refused as locked only where it would change an approved day, and none that would is accepted.
 use Rattle.std.specs.Prelude.{◌≡◌, ℕ, Bool, true, false, not, ◌&&◌, cond, List, [], ◌∷◌, filter, find, Option, Some, None, option_map, ℤ}
 use Rattle.std.proofs.Common.{refl, ap, sym, ◌∙◌}
-use Rattle.approval.specs.Statuses.{first_approved, first_day_of, is_approved}
+use Rattle.approval.specs.Statuses.{first_day_of, is_approved}
 use Rattle.approval.specs.declared.objections.Objection.{Objection}
 use Rattle.approval.specs.declared.objections.Objection.TheVariants as objections
 use Rattle.edits.specs.Same.{is_same}
@@ -15,17 +15,18 @@ use Rattle.fixed_units.specs.Quantities.{SiteNumber, IsDay}
 use Rattle.history.specs.Accepted.{Numbered, edits_of, named, stations_at}
 use Rattle.history.specs.Awaited.{awaited, is_pending}
 use Rattle.history.specs.Events.{Event, History}
+use Rattle.history.specs.Locks.{ReachesTheLocks}
 use Rattle.history.specs.Statuses.{locked_at, objection_at, status_at}
 use Rattle.history.specs.Verdicts.{Accepts, Refuses, Repeats, awaiting, awaits_by, is_full_of_cells, is_full_of_events, is_journal_full, or_else, refused_as_awaiting, refused_as_locked, refused_by_stations, refused_by_statuses, refused_where, refusal_of, verdict, verdict_by, verdict_of_refusal}
 use Rattle.history.proofs.ApprovedLemmas.{none_filtered, none_passes}
 use Rattle.history.proofs.StationLemmas.{found_passes}
-use Rattle.history.proofs.VerdictLemmas.{accepted_parts}
+use Rattle.history.proofs.VerdictLemmas.{accepted_parts, none_mapped}
 use Rattle.office_inputs.specs.Changes.{keeps_day}
 use Rattle.office_inputs.specs.Refusals as inputs
 use Rattle.office_inputs.specs.Stations.{station_of, stations_after}
 use Rattle.office_inputs.specs.declared.refusals.Full.TheVariants as fulls
 use Rattle.office_inputs.specs.declared.refusals.Refusal.{Refusal}
-use Rattle.office_inputs.specs.declared.refusals.Refusal.TheVariants.{RefReused, NoStation, StationExists, Limit, Awaits, Locked, HistoryFull, JournalFull}
+use Rattle.office_inputs.specs.declared.refusals.Refusal.TheVariants.{RefReused, NoStation, StationExists, Awaits, Locked, HistoryFull, JournalFull}
 use Rattle.office_inputs.specs.declared.refusals.Which.{Which}
 use Rattle.station_inputs.specs.declared.obstacles.Obstacle.{Obstacle}
 use Rattle.station_inputs.specs.declared.obstacles.Obstacle.TheVariants as obstacles
@@ -148,6 +149,34 @@ of_verdict : (day : ℤ) (o : Option Numbered) (edit : Edit) (r : Option Refusal
 of_verdict day None edit r h = of_refusal day r h
 of_verdict day (Some other) edit r h = absurd (again day (is_same other.edit edit) other.number h)
 
+first_is_none : (day : ℤ) (a b : Option Refusal) → NotLocked day a → or_else a b ≡ Some (Locked day) → a ≡ None
+first_is_none day None b n h = refl
+first_is_none day (Some refusal) b n h = absurd (n h)
+
+not_named : (day : ℤ) (o : Option Numbered) (edit : Edit) (r : Option Refusal) → verdict_by o edit r ≡ Refuses (Locked day) → o ≡ None
+not_named day None edit r h = refl
+not_named day (Some other) edit r h = absurd (again day (is_same other.edit edit) other.number h)
+
+-- nothing that is asked before refuses an edit that is locked out
+pub reaches_locks : (h : History) (edit : Edit) (day : ℤ) → verdict h edit ≡ Refuses (Locked day) → ReachesTheLocks h edit
+reaches_locks h edit day v =
+    let full = or_else (refused_where (is_full_of_events h edit) (HistoryFull fulls.Events))
+    (or_else (refused_where (is_full_of_cells h edit) (HistoryFull fulls.Cells)) (refused_where (is_journal_full h edit) JournalFull)) in
+    let locked = refused_as_locked h edit in
+    let awaits = refused_as_awaiting h edit in
+    let stations = refused_by_stations h edit in
+    let statuses = refused_by_statuses h edit in
+    let whole = of_verdict day (named (edits_of h.events) edit.reference) edit (refusal_of h edit) v in
+    let a = later day stations (or_else statuses (or_else awaits (or_else locked full))) (by_stations day h edit) whole in
+    let b = later day statuses (or_else awaits (or_else locked full)) (not_objection day (objection_at h.events edit)) a in
+    record {
+      new = not_named day (named (edits_of h.events) edit.reference) edit (refusal_of h edit) v;
+      stations = first_is_none day stations (or_else statuses (or_else awaits (or_else locked full))) (by_stations day h edit) whole;
+      statuses = none_mapped inputs.refusal_for_objection (objection_at h.events edit)
+          (first_is_none day statuses (or_else awaits (or_else locked full)) (not_objection day (objection_at h.events edit)) a);
+      awaits_none = first_is_none day awaits (or_else locked full) (not_awaiting day h.events edit.site edit.what) b;
+    }
+
 pub locked_is : (h : History) (edit : Edit) (day : ℤ) → verdict h edit ≡ Refuses (Locked day) → locked_at h.events edit ≡ Some day
 locked_is h edit day v =
     let events = refused_where (is_full_of_events h edit) (HistoryFull fulls.Events) in
@@ -177,7 +206,7 @@ found_among : (p q : ℤ → Bool) (xs : List ℤ) (y : ℤ) → find p (filter 
 found_among p q [] y h = absurd (cc)
 found_among p q (x ∷ xs) y h = member_step p q (q x) x y xs refl h (found_among p q xs y)
 
-not_true : (b : Bool) → not b ≡ true → b ≡ false
+pub not_true : (b : Bool) → not b ≡ true → b ≡ false
 not_true true h = absurd (cc)
 not_true false h = refl
 

@@ -1,5 +1,8 @@
 -- Which histories can be.
-use Rattle.std.specs.Prelude.{◌≡◌, true, List, ◌∷◌, ◌++◌, map, Some, None, ℤ}
+use Rattle.std.specs.Prelude.{◌≡◌, ℕ, true, List, [], ◌∷◌, ◌++◌, length, map, Some, None, ℤ, pos, ◌+ℤ◌, ◌-ℤ◌}
+use Rattle.edits.specs.declared.content.What.{What}
+use Rattle.edits.specs.declared.content.What.TheVariants.{Decide}
+use Rattle.edits.specs.declared.decisions.Decision.TheVariants.{Approve}
 use Rattle.fixed_units.specs.Quantities.{SiteNumber}
 use Rattle.history.specs.Accepted.{edits_of, stations_at, named}
 use Rattle.history.specs.After.{reopen, go_on}
@@ -11,9 +14,15 @@ use Rattle.office_inputs.specs.Refusals as inputs
 use Rattle.office_inputs.specs.declared.limits.Limits.{Limits}
 use Rattle.records.specs.Sheets.{Record}
 
--- A record may be kept behind these events: its reference is that of no edit accepted before, neither the stations in force nor the
--- statuses of its days refuse it, and it changes no approved day.
+-- a record has one sheet for each day that it approves, and no others
+abbrev pub HasItsSheets : What → List (List ℕ) → Type 0
+HasItsSheets (Decide from to Approve) sheets = pos (length sheets) ≡ (to -ℤ from) +ℤ pos 1
+HasItsSheets _ sheets = sheets ≡ []
+
+-- A record may be kept behind these events: it has a sheet for each day that it approves, its reference is that of no edit accepted
+-- before, neither the stations in force nor the statuses of its days refuse it, and it changes no approved day.
 pub record MayBeKept (limits : Limits) (before : List Event) (piece : Record) : Type 0 where
+  pub sheets : HasItsSheets piece.edit.what piece.sheets
   pub reference : named (edits_of before) piece.edit.reference ≡ None
   pub stations : inputs.refusal_of limits (stations_at before) piece.edit ≡ None
   pub statuses : objection_at before piece.edit ≡ None

@@ -4,6 +4,7 @@ pub mod Awaited
 pub mod Events
 pub mod LastChanges
 pub mod Legal
+pub mod Locks
 pub mod Recording
 pub mod Rescissions
 pub mod Sheets

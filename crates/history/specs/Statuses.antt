@@ -1,6 +1,6 @@
 -- How far the record of each day is approved, by the accepted edits, and the computation sheet that is kept of an approved day.
-use Rattle.std.specs.Prelude.{ℕ, ◌+◌, ◌-◌, Bool, true, false, ◌==◌, if◌then◌else◌, List, [], ◌∷◌, length, reverse, slice_get, Option, Some, None, option_map, ℤ, ◌-ℤ◌, unsigned_abs}
-use Rattle.approval.specs.Statuses.{Standing, worked, standing_after, is_approved, objection_of, first_approved}
+use Rattle.std.specs.Prelude.{ℕ, ◌+◌, if◌then◌else◌, List, [], ◌∷◌, length, reverse, slice_get, Option, Some, None, ℤ, ◌-ℤ◌, unsigned_abs}
+use Rattle.approval.specs.Statuses.{Standing, worked, standing_after, is_approved, objection_of, first_approved, spans}
 use Rattle.approval.specs.declared.objections.Objection.{Objection}
 use Rattle.approval.specs.declared.status.Status.{Status}
 use Rattle.edits.specs.declared.content.Edit.{Edit}
@@ -8,7 +8,7 @@ use Rattle.edits.specs.declared.content.What.{What}
 use Rattle.edits.specs.declared.content.What.TheVariants.{Decide}
 use Rattle.edits.specs.declared.decisions.Decision.TheVariants.{Approve}
 use Rattle.fixed_units.specs.Quantities.{SiteNumber}
-use Rattle.history.specs.Accepted.{accepted, edits_of, changes, stations_at, record_numbered}
+use Rattle.history.specs.Accepted.{edits_of, changes, stations_at, record_numbered}
 use Rattle.history.specs.Events.{Event}
 use Rattle.office_inputs.specs.Changes.{changed_days}
 use Rattle.office_inputs.specs.Stations.{stations_of}
@@ -39,9 +39,9 @@ objection_at events edit = objection_of (λ day. status_at events edit.site day)
 abbrev pub locked_at : List Event → Edit → Option ℤ
 locked_at events edit = first_approved (λ day. status_at events edit.site day) (changed_days (stations_at events) edit)
 
--- the sheet of a day in the record of its approval
+-- the sheet of a day in the record of its approval, which has one for each day that it approves, in order: none of any other day
 abbrev pub sheet_by : What → List (List ℕ) → ℤ → Option (List ℕ)
-sheet_by (Decide from to Approve) sheets day = slice_get sheets (unsigned_abs (day -ℤ from))
+sheet_by (Decide from to Approve) sheets day = if spans from to day then slice_get sheets (unsigned_abs (day -ℤ from)) else None
 sheet_by _ sheets day = None
 
 abbrev pub sheet_in : ℤ → Record → Option (List ℕ)

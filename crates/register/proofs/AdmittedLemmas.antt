@@ -1,6 +1,6 @@
 -- A record that is not refused among those that an office is opened with may be kept.
 use Rattle.std.specs.Prelude.{◌≡◌, Option, Some, None, option_map, ℤ}
-use Rattle.std.proofs.Common.{refl, ap, sym, ◌∙◌}
+use Rattle.std.proofs.Common.{refl, ap, ◌∙◌}
 use Rattle.approval.specs.declared.objections.Objection.{Objection}
 use Rattle.edits.specs.declared.content.Edit.{Edit}
 use Rattle.history.specs.Accepted.{Numbered, edits_of, named}
@@ -8,11 +8,12 @@ use Rattle.history.specs.Events.{History}
 use Rattle.history.specs.Legal.{MayBeKept}
 use Rattle.history.specs.Statuses.{locked_at, objection_at}
 use Rattle.history.specs.Verdicts.{or_else, refused_as_locked, refused_by_stations, refused_by_statuses}
+use Rattle.history.proofs.ApprovalLemmas.{sheets_fit}
 use Rattle.history.proofs.VerdictLemmas.{none_mapped}
 use Rattle.office_inputs.specs.Refusals as inputs
 use Rattle.office_inputs.specs.declared.refusals.Refusal.{Refusal}
 use Rattle.office_inputs.specs.declared.refusals.Refusal.TheVariants.{Locked}
-use Rattle.records.specs.Sheets.{Record}
+use Rattle.records.specs.Sheets.{AreSheetsOf, Record}
 use Rattle.register.specs.Asked.{readmission_refusal, refused_at_once, reused}
 
 first_none : (a b : Option Refusal) → or_else a b ≡ None → a ≡ None
@@ -38,14 +39,16 @@ none_at_once h edit none =
     ∙ ap (λ (o : Option Refusal). or_else o (refused_by_statuses h edit)) (first_none (refused_by_stations h edit) (or_else (refused_by_statuses h edit) locked) behind)
     ∙ first_none (refused_by_statuses h edit) locked later
 
-pub may_be_kept : (h : History) (piece : Record) → readmission_refusal h piece.edit ≡ None → MayBeKept h.limits h.events piece
-may_be_kept h piece none =
+pub may_be_kept : (h : History) (piece : Record) → AreSheetsOf piece.edit.what piece.sheets → readmission_refusal h piece.edit ≡ None
+    → MayBeKept h.limits h.events piece
+may_be_kept h piece sheets none =
     let edit = piece.edit in
     let locked = refused_as_locked h edit in
     let rest = or_else (refused_by_stations h edit) (or_else (refused_by_statuses h edit) locked) in
     let behind = later_none (reused (named (edits_of h.events) edit.reference)) rest none in
     let later = later_none (refused_by_stations h edit) (or_else (refused_by_statuses h edit) locked) behind in
     record {
+      sheets = sheets_fit piece.edit.what piece.sheets sheets;
       reference = not_named (named (edits_of h.events) edit.reference) (first_none (reused (named (edits_of h.events) edit.reference)) rest none);
       stations = first_none (refused_by_stations h edit) (or_else (refused_by_statuses h edit) locked) behind;
       statuses = none_mapped inputs.refusal_for_objection (objection_at h.events edit) (first_none (refused_by_statuses h edit) locked later);

@@ -1,6 +1,6 @@
 -- The verdict of an edit, where nothing of the first refusals holds.
 use Rattle.std.specs.Prelude.{◌≡◌, Option, Some, None, option_map, ℤ}
-use Rattle.std.proofs.Common.{refl, ap, ◌∙◌}
+use Rattle.std.proofs.Common.{ap, ◌∙◌}
 use Rattle.edits.specs.declared.content.Edit.{Edit}
 use Rattle.history.specs.Accepted.{Numbered, edits_of, named}
 use Rattle.history.specs.Events.{History}

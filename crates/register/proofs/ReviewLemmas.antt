@@ -1,6 +1,6 @@
 -- The days of a review, gone over one after another, and the sheets of an approval.
-use Rattle.std.specs.Prelude.{◌≡◌, ℕ, Bool, true, false, ◌&&◌, cond, List, [], ◌∷◌, ◌++◌, length, map, filter, All, Option, Some, None, is_some, option_map, ℤ, pos, ◌+ℤ◌, ◌-ℤ◌, ◌≤ℤ◌, ◌<ℤ◌, int_le}
-use Rattle.std.proofs.Common.{arith, refl, ap, sym, ◌∙◌, append_assoc, length-append}
+use Rattle.std.specs.Prelude.{◌≡◌, ℕ, Bool, true, false, ◌&&◌, List, [], ◌∷◌, ◌++◌, length, map, filter, All, Option, Some, None, is_some, option_map, ℤ, pos, ◌+ℤ◌, ◌-ℤ◌, ◌≤ℤ◌, ◌<ℤ◌}
+use Rattle.std.proofs.Common.{arith, refl, ap, sym, ◌∙◌, append_assoc}
 use Rattle.std.proofs.lemmas.Int.{ints}
 use Rattle.std.proofs.lemmas.List.{append-nil, length-map}
 use Rattle.std.proofs.lemmas.List.Elements.{All-append, All-cons, All-nil}
@@ -15,18 +15,13 @@ use Rattle.day_cells.specs.KeptDays.{KeptDays}
 use Rattle.history.specs.Awaited.{awaited, is_pending, value_at}
 use Rattle.history.specs.Events.{Event}
 use Rattle.history.specs.Verdicts.{awaits_by}
+use Rattle.history.proofs.ApprovalLemmas.{spans_is, spans_yes}
 use Rattle.history.proofs.ApprovedLemmas.{none_passes}
 use Rattle.history.proofs.StationLemmas.{found_passes}
 use Rattle.office_inputs.specs.declared.refusals.Refusal.TheVariants.{Awaits}
 use Rattle.recompute.specs.Cells.{awaited_in, value_in}
 use Rattle.records.specs.Sheets.{AreSheetsOfDays, IsSheet}
 use Rattle.register.specs.Keeping.{Tells}
-
-pub spans_is : (from to day : ℤ) → spans from to day ≡ true → (from ≤ℤ day) × (day ≤ℤ to)
-spans_is from to day h = (grind (arith, ints), grind (arith, ints))
-
-spans_yes : (from to day : ℤ) → from ≤ℤ day → day ≤ℤ to → spans from to day ≡ true
-spans_yes from to day a b = grind (arith, ints)
 
 -- the days of a span stand one after another
 pub days_spanned : (from to : ℤ) → IsDay from → IsDay to → from ≤ℤ to → filter (spans from to) calendar ≡ days_within from to

@@ -1,10 +1,9 @@
 -- What is asked of the statuses hangs on those of the days of the calendar alone.
-use Rattle.std.specs.Prelude.{◌≡◌, ℕ, Bool, not, ◌&&◌, cond, List, [], ◌∷◌, find, filter, All, Option, Some, None, option_map, ℤ}
-use Rattle.std.proofs.Common.{refl, ap, sym, ◌∙◌}
+use Rattle.std.specs.Prelude.{◌≡◌, ℕ, Bool, not, ◌&&◌, cond, List, [], ◌∷◌, find, All, Option, Some, option_map, ℤ}
+use Rattle.std.proofs.Common.{refl, ap, ◌∙◌}
 use Rattle.std.proofs.lemmas.List.Elements.{All-head, All-tail, All-filter}
 use Rattle.approval.specs.Kept.{KeptSite, standing_in}
 use Rattle.approval.specs.Statuses.{Standing, first_approved, first_day_of, is_approved, is_in_review, is_reviewed_by, objection_of, or_else, spans}
-use Rattle.approval.specs.declared.objections.Objection.{Objection}
 use Rattle.approval.specs.declared.objections.Objection.TheVariants.{NotInReview, SamePerson, NotApproved, AlreadyApproved}
 use Rattle.approval.specs.declared.status.Status.{Status}
 use Rattle.edits.specs.declared.content.Edit.{Edit}

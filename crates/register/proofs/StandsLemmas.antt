@@ -5,10 +5,9 @@ use Rattle.approval.specs.Kept.{KeptSite, standing_in}
 use Rattle.approval.specs.Statuses.{Standing, after_what, standing_after}
 use Rattle.day_cells.specs.Days.{contains_day}
 use Rattle.edits.specs.declared.content.Edit.{Edit}
-use Rattle.fixed_units.specs.Quantities.{SiteNumber, IsDay, same_site}
+use Rattle.fixed_units.specs.Quantities.{SiteNumber, same_site}
 use Rattle.history.specs.Accepted.{accepted, changes, stations_at}
 use Rattle.history.specs.Events.{Event, Accepted}
-use Rattle.history.specs.Statuses.{standing_at}
 use Rattle.history.proofs.StandingLemmas.{standing_accepted}
 use Rattle.office_inputs.specs.Changes.{keeps_day, changed_days}
 use Rattle.records.specs.Sheets.{Record}

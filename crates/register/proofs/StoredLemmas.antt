@@ -1,27 +1,27 @@
 -- The sheet that is kept of a day which was approved since the opening is that of its value from scratch, of the inputs in force.
-use Rattle.std.specs.Prelude.{◌≡◌, ℕ, zero, suc, ◌+◌, ◌-◌, ◌==◌, ◌<◌, Bool, true, false, ◌&&◌, cond, List, [], ◌∷◌, ◌++◌, length, map, filter, slice_get, Option, Some, None, ◌⊎◌, ℤ, pos, negsuc, ◌+ℤ◌, ◌-ℤ◌, ◌≤ℤ◌, unsigned_abs}
+use Rattle.std.specs.Prelude.{◌≡◌, All, ℕ, zero, suc, ◌+◌, ◌-◌, ◌==◌, ◌<◌, Bool, true, false, cond, List, [], ◌∷◌, ◌++◌, length, map, filter, slice_get, Option, Some, None, ℤ, pos, ◌+ℤ◌, ◌-ℤ◌, ◌≤ℤ◌, unsigned_abs}
 use Rattle.std.proofs.Common.{arith, refl, ap, sym, subst, inl, inr, ◌∙◌}
 use Rattle.std.specs.Ordering.{int_eq}
 use Rattle.std.proofs.lemmas.Bool.{false≢true}
-use Rattle.std.proofs.lemmas.Bool.Decides.{Decides-int_eq, nat_tests}
+use Rattle.std.proofs.lemmas.Bool.Decides.{Decides-int_eq}
 use Rattle.std.proofs.lemmas.Int.{ints}
-use Rattle.std.proofs.lemmas.List.{append-nil, append_assoc, length-map}
-use Rattle.approval.specs.Statuses.{Standing, after_what, is_approved, is_in_review, spans, worked}
-use Rattle.approval.specs.declared.status.Status.{Status}
-use Rattle.approval.specs.declared.status.Status.TheVariants.{InReview, Approved}
+use Rattle.std.proofs.lemmas.List.{append-nil, append_assoc}
+use Rattle.std.proofs.lemmas.List.Elements.{All-head, All-tail}
+use Rattle.approval.specs.Statuses.{Standing, after_what, is_approved, spans}
 use Rattle.day_inputs.specs.declared.day_inputs.DayInputs.{DayInputs}
 use Rattle.daily_values.specs.DayValue.{day_value}
 use Rattle.daily_values.specs.declared.day_values.DayValue.{DayValue}
-use Rattle.depend.specs.Compared.{count_of, days_within}
+use Rattle.depend.specs.Compared.{count_of}
 use Rattle.depend.proofs.CalendarLemmas.{counted}
 use Rattle.edits.specs.declared.content.Edit.{Edit}
 use Rattle.edits.specs.declared.content.What.{What}
-use Rattle.edits.specs.declared.content.What.TheVariants.{AddStation, SetStation, PutReadings, DropReadings, FlagReadings, PutCorrection, DropCorrection, PutShift, DropShift, AddRating, PutPeriod, DropPeriod, PutEstimate, DropEstimate, PutMeasurement, DropMeasurement, Review, Decide}
+use Rattle.edits.specs.declared.content.What.TheVariants.{Decide}
 use Rattle.edits.specs.declared.decisions.Decision.{Decision}
-use Rattle.edits.specs.declared.decisions.Decision.TheVariants.{Approve, Rescind}
+use Rattle.edits.specs.declared.decisions.Decision.TheVariants.{Approve}
 use Rattle.edits.specs.Lawful.{IsLawful, IsReviewSpan}
 use Rattle.fixed_units.specs.Calendar.{calendar, days_from}
-use Rattle.fixed_units.specs.Quantities.{SiteNumber, IsDay, site_place, same_site}
+use Rattle.fixed_units.specs.Quantities.{SiteNumber, IsDay, IsSite, site_place, same_site}
+use Rattle.fixed_units.proofs.SiteLemmas.{Decides-same_site}
 use Rattle.history.specs.Accepted.{accepted, changes, stations_at, record_numbered}
 use Rattle.history.specs.Awaited.{inputs_at, value_at}
 use Rattle.history.specs.Events.{Event, Accepted, Published, Faulted}
@@ -29,7 +29,8 @@ use Rattle.history.specs.Legal.{IsMade, IsOrderly, MayBeKept}
 use Rattle.history.specs.Sheets.{IsFromScratch}
 use Rattle.history.specs.Statuses.{sheet_by, sheet_in, sheet_kept, sheet_of, standing_at, status_at, stored_sheet}
 use Rattle.history.specs.Verdicts.{sheets_of}
-use Rattle.history.proofs.ApprovedLemmas.{inputs_step, same_records, sheet_stays, standing_within}
+use Rattle.history.proofs.ApprovalLemmas.{IsApproval, distance, last_numbered, made_by, spans_is}
+use Rattle.history.proofs.ApprovedLemmas.{inputs_step, record_stays, same_records, sheet_stays, standing_within}
 use Rattle.history.proofs.EventLemmas.{accepted_accepted, accepted_all, accepted_published, accepted_faulted, stations_accepted}
 use Rattle.history.proofs.StandingLemmas.{standing_accepted}
 use Rattle.history.proofs.StationLemmas.{found_place, places_equal, same_day}
@@ -37,62 +38,11 @@ use Rattle.office_inputs.specs.Stations as in_force
 use Rattle.office_inputs.specs.Stations.{day_of_station, inputs_of_day, place_of, station_of, stations_after, with_changed}
 use Rattle.office_inputs.specs.declared.limits.Limits.{Limits}
 use Rattle.records.specs.Sheets.{Record}
-use Rattle.register.proofs.ReviewLemmas.{days_spanned, spans_is}
+use Rattle.register.proofs.ReviewLemmas.{days_spanned}
 use Rattle.rising.specs.Lists.{at, put}
 use Rattle.rising.proofs.Placing.{at_put, at_put_other}
 use Rattle.sheets.specs.Sheets.{sheet}
 use Rattle.station_inputs.specs.Stations.{StationRecord, station_after}
-
--- what an edit makes of a day that is approved behind it: as it stood before, or approved by this very edit
-record IsApproval (number : ℕ) (what : What) (day : ℤ) (t : Standing) : Type 0 where
-  from : ℤ
-  to : ℤ
-  what_is : what ≡ Decide from to Approve
-  within : spans from to day ≡ true
-  edit_is : t.edit ≡ number
-
-other_made : (b : Bool) (number : ℕ) (what : What) (day : ℤ) (s : Standing) → is_approved (cond b worked s).status ≡ true
-    → (cond b worked s ≡ s) ⊎ IsApproval number what day (cond b worked s)
-other_made true number what day s h = absurd (cc)
-other_made false number what day s h = inl refl
-
-reviewed_made : (b : Bool) (number : ℕ) (by : List ℕ) (what : What) (day : ℤ) (s : Standing)
-    → is_approved (cond b (record { status = InReview by; edit = number }) s).status ≡ true
-    → (cond b (record { status = InReview by; edit = number }) s ≡ s) ⊎ IsApproval number what day (cond b (record { status = InReview by; edit = number }) s)
-reviewed_made true number by what day s h = absurd (cc)
-reviewed_made false number by what day s h = inl refl
-
-approved_made : (b : Bool) (number : ℕ) (by : List ℕ) (from to day : ℤ) (s : Standing) → spans from to day ≡ b
-    → (cond b (record { status = Approved by; edit = number }) s ≡ s) ⊎ IsApproval number (Decide from to Approve) day (cond b (record { status = Approved by; edit = number }) s)
-approved_made true number by from to day s e = inr (record { from = from; to = to; what_is = refl; within = e; edit_is = refl })
-approved_made false number by from to day s e = inl refl
-
-decided_made : (number : ℕ) (by : List ℕ) (from to : ℤ) (decision : Decision) (changed : Bool) (day : ℤ) (s : Standing)
-    → is_approved (after_what number by (Decide from to decision) changed day s).status ≡ true
-    → (after_what number by (Decide from to decision) changed day s ≡ s) ⊎ IsApproval number (Decide from to decision) day (after_what number by (Decide from to decision) changed day s)
-decided_made number by from to Approve changed day s h = approved_made (spans from to day) number by from to day s refl
-decided_made number by from to Rescind changed day s h = other_made (spans from to day) number (Decide from to Rescind) day s h
-
-made_by : (number : ℕ) (by : List ℕ) (what : What) (changed : Bool) (day : ℤ) (s : Standing) → is_approved (after_what number by what changed day s).status ≡ true
-    → (after_what number by what changed day s ≡ s) ⊎ IsApproval number what day (after_what number by what changed day s)
-made_by number by (AddStation name zone gap stages discharges) changed day s h = other_made (changed && is_in_review s.status) number _ day s h
-made_by number by (SetStation name gap stages discharges) changed day s h = other_made (changed && is_in_review s.status) number _ day s h
-made_by number by (PutReadings readings) changed day s h = other_made (changed && is_in_review s.status) number _ day s h
-made_by number by (DropReadings from to) changed day s h = other_made (changed && is_in_review s.status) number _ day s h
-made_by number by (FlagReadings from to flag) changed day s h = other_made (changed && is_in_review s.status) number _ day s h
-made_by number by (PutCorrection set since curve prorate) changed day s h = other_made (changed && is_in_review s.status) number _ day s h
-made_by number by (DropCorrection set since) changed day s h = other_made (changed && is_in_review s.status) number _ day s h
-made_by number by (PutShift since curve prorate) changed day s h = other_made (changed && is_in_review s.status) number _ day s h
-made_by number by (DropShift since) changed day s h = other_made (changed && is_in_review s.status) number _ day s h
-made_by number by (AddRating rating table) changed day s h = other_made (changed && is_in_review s.status) number _ day s h
-made_by number by (PutPeriod period) changed day s h = other_made (changed && is_in_review s.status) number _ day s h
-made_by number by (DropPeriod from) changed day s h = other_made (changed && is_in_review s.status) number _ day s h
-made_by number by (PutEstimate estimate) changed day s h = other_made (changed && is_in_review s.status) number _ day s h
-made_by number by (DropEstimate own) changed day s h = other_made (changed && is_in_review s.status) number _ day s h
-made_by number by (PutMeasurement measurement) changed day s h = other_made (changed && is_in_review s.status) number _ day s h
-made_by number by (DropMeasurement own) changed day s h = other_made (changed && is_in_review s.status) number _ day s h
-made_by number by (Review from to) changed day s h = reviewed_made (spans from to day) number by _ day s h
-made_by number by (Decide from to decision) changed day s h = decided_made number by from to decision changed day s h
 
 -- a decision leaves every station as it is
 own_at : (stations : List StationRecord) (s : StationRecord) (n : ℤ) (b : Bool) → int_eq (place_of s) n ≡ b → at place_of (place_of s) stations ≡ Some s
@@ -129,10 +79,6 @@ map_get text [] k day h = absurd (cc)
 map_get text (d ∷ days) zero day h = let same : d ≡ day = cc in ap (λ (x : ℤ). Some (text x)) same
 map_get text (d ∷ days) (suc k) day h = map_get text days k day h
 
-distance : (z : ℤ) → pos 0 ≤ℤ z → pos (unsigned_abs z) ≡ z
-distance (pos n) h = refl
-distance (negsuc n) h = absurd (omega (arith, ints))
-
 day_sheet : (text : ℤ → List ℕ) (from to day : ℤ) → IsReviewSpan from to → spans from to day ≡ true
     → slice_get (map text (filter (spans from to) calendar)) (unsigned_abs (day -ℤ from)) ≡ Some (text day)
 day_sheet text from to day span within =
@@ -148,17 +94,6 @@ day_sheet text from to day span within =
     (ap (λ (days : List ℤ). slice_get days k) (days_spanned from to span.begins span.ends o)
     ∙ days_get from (count_of (to +ℤ pos 1 -ℤ from)) k few ∙ ap (λ (d : ℤ). Some d) here)
 
--- the record of the edit that is accepted last
-last_get : (xs : List Record) (x : Record) → slice_get (xs ++ x ∷ []) (length xs) ≡ Some x
-last_get [] x = refl
-last_get (y ∷ xs) x = last_get xs x
-
-last_numbered : (xs : List Record) (x : Record) → cond (length xs + 1 == 0) None (slice_get (xs ++ x ∷ []) (length xs + 1 - 1)) ≡ Some x
-last_numbered xs x =
-    let test : (length xs + 1 == 0) ≡ false = grind (arith, nat_tests) in
-    let place : length xs + 1 - 1 ≡ length xs = omega arith in
-    rw (test, place) (last_get xs x)
-
 module _ (limits : Limits) (first : List Record) (site : SiteNumber) (day : ℤ) (is : IsDay day) where
   abbrev IsStored : List Event → Type 0
   IsStored events = IsFromScratch events site day
@@ -169,9 +104,14 @@ module _ (limits : Limits) (first : List Record) (site : SiteNumber) (day : ℤ)
   stays : (events : List Event) (e : Event) → standing_at (events ++ e ∷ []) site day ≡ standing_at events site day
       → inputs_at (events ++ e ∷ []) site day ≡ inputs_at events site day → IsStored events → IsStored (events ++ e ∷ [])
   stays events e standing inputs h = record {
-    own = h.own;
-    place = h.place;
-    text = sheet_stays events (e ∷ []) site day standing ∙ h.text ∙ ap (λ (i : DayInputs). Some (sheet h.own day (day_value i) true)) (sym inputs);
+    approval = h.approval;
+    approved_by =
+        ap (λ (s : Standing). record_numbered (events ++ e ∷ []) s.edit) standing
+        ∙ record_stays events (e ∷ []) (standing_at events site day).edit (standing_within events site day) ∙ h.approved_by;
+    of_site = h.of_site;
+    text =
+        sheet_stays events (e ∷ []) site day standing ∙ h.text
+        ∙ ap (λ (i : DayInputs). Some (sheet h.approval.edit.site day (day_value i) true)) (sym inputs);
   }
 
   told_on : (events : List Event) (e : Event) → standing_at (events ++ e ∷ []) site day ≡ standing_at events site day
@@ -196,14 +136,16 @@ module _ (limits : Limits) (first : List Record) (site : SiteNumber) (day : ℤ)
       made.sheets ∙ ap (λ (w : What). sheets_of events piece.edit.site w) a.what_is in
       let found : sheet_in day piece ≡ Some (text day) =
       ap (λ (w : What). sheet_by w piece.sheets day) a.what_is
+      ∙ ap (λ (b : Bool). cond b (slice_get piece.sheets (unsigned_abs (day -ℤ a.from))) None) a.within
       ∙ ap (λ (l : List (List ℕ)). slice_get l (unsigned_abs (day -ℤ a.from))) sheets ∙ day_sheet text a.from a.to day span a.within in
       let value : value_at events piece.edit.site day ≡ value_at more site day =
       ap day_value (same_day (stations_at events) piece.edit.site site day place
       ∙ sym (ap (λ (l : List StationRecord). inputs_of_day l site day) (stations_accepted events piece)
       ∙ decided_inputs (stations_at events) piece.edit site day a.from a.to Approve a.what_is)) in
       record {
-        own = piece.edit.site;
-        place = place;
+        approval = piece;
+        approved_by = ap (λ (s : Standing). record_numbered more s.edit) is_t ∙ ap (record_numbered more) a.edit_is ∙ kept;
+        of_site = same;
         text =
             ap (sheet_kept more site day) is_t
             ∙ ap (λ (b : Bool). cond b (sheet_of (record_numbered more t.edit) day) None) approved
@@ -278,3 +220,23 @@ module _ (limits : Limits) (first : List Record) (site : SiteNumber) (day : ℤ)
   stored_since since k made =
       let whole : (map Accepted first ++ []) ++ since ≡ map Accepted first ++ since = ap (λ (l : List Event). l ++ since) (append-nil (map Accepted first)) in
       subst Told whole (told_since since [] (subst (IsOrderly limits) (sym whole) k) made none_first)
+
+-- what holds of all holds of each
+of_each : (P : Record → Type 0) (pieces : List Record) (k : ℕ) (piece : Record) → All P pieces → slice_get pieces k ≡ Some piece → P piece
+of_each P [] k piece all h = absurd (cc)
+of_each P (x ∷ pieces) zero piece all h = let same : x ≡ piece = cc in subst P same (All-head P x pieces all)
+of_each P (x ∷ pieces) (suc k) piece all h = of_each P pieces k piece (All-tail P x pieces all) h
+
+of_numbered : (P : Record → Type 0) (pieces : List Record) (number : ℕ) (b : Bool) (piece : Record) → All P pieces
+    → cond b None (slice_get pieces (number - 1)) ≡ Some piece → P piece
+of_numbered P pieces number true piece all h = absurd (cc)
+of_numbered P pieces number false piece all h = of_each P pieces (number - 1) piece all h
+
+-- where each edit names a site, it is the sheet of the site itself
+pub own_sheet : (events : List Event) (site : SiteNumber) (day : ℤ) → IsSite site → All (λ (piece : Record). IsSite piece.edit.site) (accepted events)
+    → IsFromScratch events site day → stored_sheet events site day ≡ Some (sheet site day (value_at events site day) true)
+own_sheet events site day is all f =
+    let number = (standing_at events site day).edit in
+    let named = of_numbered (λ (piece : Record). IsSite piece.edit.site) (accepted events) number (number == 0) f.approval all f.approved_by in
+    let own : f.approval.edit.site ≡ site = (Decides-same_site f.approval.edit.site site named is).0 f.of_site in
+    f.text ∙ ap (λ (s : SiteNumber). Some (sheet s day (value_at events site day) true)) own

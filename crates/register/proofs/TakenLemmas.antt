@@ -1,9 +1,9 @@
 -- What is kept in memory after an edit was accepted.
-use Rattle.std.specs.Prelude.{◌≡◌, ℕ, ◌+◌, ◌<◌, ◌^◌, List, [], ◌∷◌, ◌++◌, length, None, ℤ}
+use Rattle.std.specs.Prelude.{◌≡◌, ℕ, ◌+◌, ◌<◌, ◌^◌, List, [], ◌∷◌, ◌++◌, length, ℤ}
 use Rattle.std.proofs.Common.{arith, refl, ap, sym, subst, ◌∙◌, length-append}
 use Rattle.approval.specs.Kept.{KeptSite}
 use Rattle.day_cells.specs.KeptDays.{KeptDays}
-use Rattle.history.specs.Accepted.{accepted, edits_of, stations_at, named, journal_size}
+use Rattle.history.specs.Accepted.{accepted, stations_at, journal_size}
 use Rattle.history.specs.After.{after_record}
 use Rattle.history.specs.Awaited.{pending_days}
 use Rattle.history.specs.Events.{Event, Accepted}

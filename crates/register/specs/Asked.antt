@@ -1,9 +1,9 @@
 -- What is answered of a history: the verdict of an edit, the answer of a day, jobs, and what becomes of a publication.
-use Rattle.std.specs.Prelude.{◌≡◌, ℕ, ◌-◌, Bool, ◌&&◌, ◌||◌, ◌==◌, if◌then◌else◌, List, find, slice_get, Option, Some, None, is_none, unwrap_or, ℤ, int_lt}
+use Rattle.std.specs.Prelude.{◌≡◌, Bool, ◌&&◌, ◌||◌, List, find, slice_get, Option, Some, None, is_none, unwrap_or, ℤ, int_lt}
 use Rattle.day_inputs.specs.Equality.{same_inputs}
 use Rattle.edits.specs.declared.content.Edit.{Edit}
 use Rattle.fixed_units.specs.Quantities.{SiteNumber, site_place, same_site}
-use Rattle.history.specs.Accepted.{Numbered, accepted, edits_of, stations_at, named}
+use Rattle.history.specs.Accepted.{Numbered, edits_of, stations_at, named}
 use Rattle.history.specs.Awaited.{SiteDay, DayAnswer, awaited, inputs_at, answer_by}
 use Rattle.history.specs.Awaited as days
 use Rattle.history.specs.Events.{Event, History}
@@ -16,7 +16,6 @@ use Rattle.office_inputs.specs.declared.refusals.Refusal.{Refusal}
 use Rattle.office_inputs.specs.declared.refusals.Refusal.TheVariants.{RefReused}
 use Rattle.recompute.specs.Jobs.{DayJob, outcome_by}
 use Rattle.recompute.specs.declared.jobs.Publish.{Publish}
-use Rattle.records.specs.Sheets.{Record}
 use Rattle.register.specs.declared.answers.Answer.{Answer}
 use Rattle.register.specs.declared.answers.Answer.TheVariants as answers
 use Rattle.register.specs.declared.answers.Sheet.{Sheet}

@@ -197,6 +197,8 @@ impl Register {
         ensures same { OnErr result (self.new.history ≡ self.old.history) }
         ensures claims { NoneOut self.old → NoneOut self.new }
     {
+        // Its type promises a sheet for each day that it approves.
+        let _ = piece.sheets();
         if self.events_after(&piece, days).is_none() {
             return Err(NotReadmitted::NoMemory);
         }

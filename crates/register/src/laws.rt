@@ -1,20 +1,22 @@
 //! What holds of the jobs of an office, and of its history.
 
-ghost use Rattle.std.specs.Prelude.{◌≡◌, ◌≢◌, ◌↔◌, ◌<◌, ◌++◌, ◌∷◌, [], ℕ, ℤ, true, List, take, Option, Some};
+ghost use Rattle.std.specs.Prelude.{◌≡◌, ◌≢◌, ◌↔◌, ◌<◌, ◌++◌, ◌∷◌, [], ℕ, ℤ, true, List, take, All, Option, Some};
 ghost use Rattle.edits.specs.declared.content.Edit.{Edit};
 ghost use Rattle.approval.specs.Statuses.{is_approved};
-ghost use Rattle.fixed_units.specs.Quantities.{IsDay, SiteNumber};
+ghost use Rattle.fixed_units.specs.Quantities.{IsDay, IsSite, SiteNumber};
+ghost use Rattle.history.specs.Accepted.{accepted};
 ghost use Rattle.history.specs.After.{after_edit, after_fault, after_publications, after_settlement, after_turn};
-ghost use Rattle.history.specs.Awaited.{SiteDay, awaited, is_pending, pending_days};
+ghost use Rattle.history.specs.Awaited.{SiteDay, awaited, is_pending, pending_days, value_at};
 ghost use Rattle.history.specs.Events.{Event, History};
 ghost use Rattle.history.specs.Legal.{IsLegal};
 ghost use Rattle.history.specs.Sheets.{IsFromScratch};
-ghost use Rattle.history.specs.Statuses.{standing_at, status_at};
+ghost use Rattle.history.specs.Statuses.{standing_at, status_at, stored_sheet};
 ghost use Rattle.history.specs.Verdicts.{Accepts, verdict};
 ghost use Rattle.recompute.specs.declared.jobs.Publish.TheVariants.{Foreign, Published};
 ghost use Rattle.records.specs.Sheets.{Record};
 ghost use Rattle.register.specs.Asked.{job_at, outcome_at};
 ghost use Rattle.register.specs.Keeping.{KeepsToTheLimit};
+ghost use Rattle.sheets.specs.Sheets.{sheet};
 
 use crate::registers::Register;
 
@@ -43,7 +45,9 @@ pub fn events_and_pending_days_keep_to_the_limit()
 {}
 
 /// The sheet that is kept of a day which was approved since the office was opened is that of the day's value from scratch, of the inputs
-/// in force: whatever came since the approval.
+/// in force, under the site as the approval names it: whatever came since the approval. Where each edit names a site of 8 to 15 digits, as
+/// the edits of an office do, that is the site itself.
 pub fn a_kept_sheet_is_from_scratch()
-    ensures { (h : History) (site : SiteNumber) (day : ℤ) → IsLegal h → IsDay day → is_approved (status_at h.events site day) ≡ true → h.opened < (standing_at h.events site day).edit → IsFromScratch h.events site day }
+    ensures approval { (h : History) (site : SiteNumber) (day : ℤ) → IsLegal h → IsDay day → is_approved (status_at h.events site day) ≡ true → h.opened < (standing_at h.events site day).edit → IsFromScratch h.events site day }
+    ensures site { (h : History) (site : SiteNumber) (day : ℤ) → IsLegal h → IsDay day → IsSite site → All (λ (piece : Record). IsSite piece.edit.site) (accepted h.events) → is_approved (status_at h.events site day) ≡ true → h.opened < (standing_at h.events site day).edit → stored_sheet h.events site day ≡ Some (sheet site day (value_at h.events site day) true) }
 {}

@@ -122,18 +122,31 @@ impl Register {
     }
 }
 
-/// The sheet of a day in the record of its approval.
+/// The sheet of a day in the record of its approval, or `None` exactly where the record approves no such day.
 fn sheet_in(piece: &Record, day: Day) -> Option<&[u8]>
     ensures { option_map (λ text. text.now) result ≡ sheet_in day piece.now }
 {
     match &piece.edit().what {
         What::Decide {
             from,
+            to,
             decision: Decision::Approve,
-            ..
-        } => piece.sheets().get(day.get().abs_diff(from.get()) as usize),
+        } => {
+            if spans(*from, *to, day) {
+                piece.sheets().get(day.get().abs_diff(from.get()) as usize)
+            } else {
+                None
+            }
+        }
         _ => None,
     }
+}
+
+/// Whether the day is one of those from one to another, both included.
+fn spans(from: Day, to: Day, day: Day) -> bool
+    ensures { result ≡ spans from to day }
+{
+    from <= day && day <= to
 }
 
 /// The day of a number.

@@ -1,5 +1,5 @@
 use Rattle.std.specs.Prelude.{◌≡◌, ◌++◌, true, List, ℤ}
-use Rattle.std.proofs.Common.{ap, sym, subst, ◌∙◌}
+use Rattle.std.proofs.Common.{ap, subst, ◌∙◌}
 use Rattle.approval.specs.Statuses.{is_approved}
 use Rattle.fixed_units.specs.Quantities.{IsDay, SiteNumber}
 use Rattle.history.specs.Accepted.{edits_of}

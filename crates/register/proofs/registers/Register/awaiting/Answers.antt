@@ -1,16 +1,14 @@
 -- Day after day is asked for the edit that it awaits.
-use Rattle.std.specs.Prelude.{◌≡◌, ℤ, ◌≤ℤ◌, ◌<ℤ◌, ◌+ℤ◌, pos, Some, None}
-use Rattle.std.proofs.Common.{arith, rules, ap, sym, subst, ◌∙◌, to_z, of_z, w32}
+use Rattle.std.specs.Prelude.{◌≡◌, ℤ, ◌≤ℤ◌, ◌<ℤ◌, ◌+ℤ◌, pos, Some}
+use Rattle.std.proofs.Common.{arith, ap, subst, ◌∙◌, to_z, of_z, w32}
 use Rattle.std.proofs.lemmas.Int.{ints}
 use Rattle.fixed_units.specs.Quantities.{IsDay}
-use Rattle.approval.specs.Statuses.{first_day_of}
 use Rattle.history.specs.Awaited.{is_pending}
-use Rattle.history.specs.Verdicts.{awaits_by}
 use Rattle.office_inputs.specs.declared.refusals.Refusal.TheVariants.{Awaits}
 use Rattle.recompute.specs.Cells.{awaited_in}
 use Rattle.register.specs.Keeping.{Tells}
 use Rattle.register.specs.Registered.{Registered}
-use Rattle.register.proofs.ReviewLemmas.{IsSought, first_awaited, none_awaited, none_sought, sought_after, sought_first}
+use Rattle.register.proofs.ReviewLemmas.{first_awaited, none_awaited, none_sought, sought_after, sought_first}
 use Rattle.register.proofs.registers.Register.awaiting.Goals as goal
 
 pub loop-number-init : goal.loop-number-init

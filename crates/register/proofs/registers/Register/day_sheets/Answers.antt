@@ -1,6 +1,6 @@
 -- Day after day a sheet is made, of the value that the cells keep.
-use Rattle.std.specs.Prelude.{◌≡◌, ℤ, ◌≤ℤ◌, ◌<ℤ◌, ◌+ℤ◌, pos, Some, None, true, List, ℕ, length}
-use Rattle.std.proofs.Common.{arith, rules, ap, sym, subst, ◌∙◌, to_z, of_z, w32}
+use Rattle.std.specs.Prelude.{◌≡◌, ℤ, ◌≤ℤ◌, ◌<ℤ◌, ◌+ℤ◌, pos, true}
+use Rattle.std.proofs.Common.{arith, ap, subst, ◌∙◌, to_z, of_z, w32}
 use Rattle.std.proofs.lemmas.Int.{ints}
 use Rattle.fixed_units.specs.Quantities.{IsDay}
 use Rattle.daily_values.specs.declared.day_values.DayValue.{DayValue}

@@ -3,7 +3,6 @@ use Rattle.std.specs.Prelude.{◌≡◌}
 use Rattle.std.proofs.Common.{ap, sym, subst, ◌∙◌}
 use Rattle.approval.specs.Kept.{standing_in}
 use Rattle.approval.specs.Statuses.{first_approved}
-use Rattle.edits.specs.declared.content.Edit.{Edit}
 use Rattle.history.specs.Statuses.{locked_at}
 use Rattle.history.specs.Verdicts.{verdict_of_refusal}
 use Rattle.records.specs.Sheets.{Record}

@@ -1,18 +1,17 @@
 -- The office is opened with one edit more, and no claim is out.
-use Rattle.std.specs.Prelude.{◌≡◌, ◌+◌, ◌++◌, ◌∷◌, [], IfErr, IsErrAnd, Result, Ok, Err, None}
+use Rattle.std.specs.Prelude.{◌≡◌, ◌+◌, IfErr, IsErrAnd, Result, Ok, Err, None}
 use Rattle.std.proofs.Common.{ap, sym, subst, ◌∙◌}
 use Rattle.edits.specs.declared.content.Edit.{Edit}
-use Rattle.history.specs.Accepted.{accepted}
-use Rattle.history.specs.After.{after_record, reopen}
+use Rattle.history.specs.After.{after_record}
 use Rattle.history.specs.Events.{History}
 use Rattle.history.specs.Legal.{IsLegal}
 use Rattle.history.specs.Verdicts.{refused_by_stations}
 use Rattle.register.specs.Asked.{IsNotReadmitted, refused_at_once}
-use Rattle.register.specs.Registered.{Registered, is_out}
+use Rattle.register.specs.Registered.{Registered}
 use Rattle.register.specs.declared.judged.NotReadmitted.{NotReadmitted}
 use Rattle.register.specs.declared.judged.NotReadmitted.TheVariants as opening
 use Rattle.register.proofs.AdmittedLemmas.{may_be_kept, none_at_once}
-use Rattle.register.proofs.OpenedLemmas.{legal_opened, not_out, reopened_more}
+use Rattle.register.proofs.OpenedLemmas.{legal_opened, not_out}
 use Rattle.register.proofs.registers.Register.readmit_unlocked.Goals as goal
 
 pub take_in-requires-clause-legal : goal.take_in-requires-clause-legal
@@ -23,7 +22,7 @@ take_in-requires-clause-legal c =
     let opened : c.self.inside.opened ≡ h.opened = ap (λ (r : Registered). r.history.opened) c.self.view_is ∙ ap (λ (x : History). x.opened) same in
     subst (λ (x : History). IsLegal (after_record (c.self.inside.opened + 1) x c.args.piece)) (sym same)
     (subst (λ n. IsLegal (after_record (n + 1) h c.args.piece)) (sym opened)
-    (legal_opened h c.args.piece c.requires.opening legal (may_be_kept h c.args.piece c.requires.lawful)))
+    (legal_opened h c.args.piece c.requires.opening legal (may_be_kept h c.args.piece c.sheets.ensures.lawful c.requires.lawful)))
 
 without_memory : {T : Type 0} (r : Result T NotReadmitted) (h : History) (edit : Edit) → IsErrAnd r (λ told. told ≡ opening.NoMemory) → refused_at_once h edit ≡ None
     → IfErr r (IsNotReadmitted h edit)
@@ -44,7 +43,7 @@ returns-in_err-prepare-clause-refused c =
 pub take_in-requires-clause-lawful : goal.take_in-requires-clause-lawful
 take_in-requires-clause-lawful c =
     subst (λ (x : History). refused_by_stations x c.args.piece.edit ≡ None) (sym c.in_ok-prepare.ensures.history)
-    (may_be_kept c.args.self.now.history c.args.piece c.requires.lawful).stations
+    (may_be_kept c.args.self.now.history c.args.piece c.sheets.ensures.lawful c.requires.lawful).stations
 
 pub returns-clause-claims : goal.returns-clause-claims
 returns-clause-claims c = λ none site day.

@@ -1,5 +1,5 @@
 -- The statuses of the days of the calendar are those of the history.
-use Rattle.std.specs.Prelude.{◌≡◌, Option, Some, None, option_map}
+use Rattle.std.specs.Prelude.{◌≡◌, Option, Some, option_map}
 use Rattle.std.proofs.Common.{ap, sym, subst, ◌∙◌}
 use Rattle.approval.specs.Kept.{standing_in}
 use Rattle.approval.specs.Statuses.{objection_of}

@@ -1,9 +1,9 @@
 -- Which claims are out behind an edit for which room was made.
-use Rattle.std.specs.Prelude.{◌≡◌, Bool, false, ◌&&◌, if◌then◌else◌, ℤ, Result, Ok, Err, IfOk, OnErr}
+use Rattle.std.specs.Prelude.{◌≡◌, Bool, false, ◌&&◌, if◌then◌else◌, Result, Ok, Err, IfOk, OnErr}
 use Rattle.std.proofs.Common.{sym, subst, ◌∙◌}
 use Rattle.day_cells.specs.Days.{contains_day}
 use Rattle.edits.specs.declared.content.Edit.{Edit}
-use Rattle.fixed_units.specs.Quantities.{SiteNumber, same_site}
+use Rattle.fixed_units.specs.Quantities.{same_site}
 use Rattle.history.specs.Accepted.{stations_at}
 use Rattle.history.specs.Events.{History}
 use Rattle.office.specs.Edits.{EditsClaims, TakesClaims}

@@ -4,6 +4,7 @@ pub mod CourseLemmas
 pub mod DoubtLemmas
 pub mod EditLemmas
 pub mod KeepingLemmas
+pub mod KeptSheetLemmas
 pub mod LeftLemmas
 pub mod RefusedLemmas
 pub mod ReplayLemmas

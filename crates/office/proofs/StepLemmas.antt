@@ -7,7 +7,7 @@ use Rattle.fixed_units.specs.Quantities.{IsDay}
 use Rattle.history.specs.Accepted.{accepted, edit_of}
 use Rattle.history.specs.After.{MayLeaveInDoubt, after_edit, after_fault, after_publications}
 use Rattle.history.specs.Awaited.{SiteDay, pending_days}
-use Rattle.history.specs.Events.{Accepted, Faulted, History}
+use Rattle.history.specs.Events.{Faulted, History}
 use Rattle.history.specs.Legal.{IsLegal, MayBeKept}
 use Rattle.history.specs.Verdicts.{Accepts, record_of, verdict}
 use Rattle.history.proofs.EventLemmas.{accepted_all, accepted_accepted, accepted_faulted}

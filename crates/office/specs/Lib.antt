@@ -1,5 +1,6 @@
 pub mod Edits
 pub mod Keeping
+pub mod KeptSheets
 pub mod Offices
 pub mod Openings
 pub mod Replaying

@@ -22,8 +22,8 @@ pub record IsOpened (content : Option (List ℕ)) (limits : Limits) (register : 
   pub legal : IsLegal register.history
   pub claims : NoneOut register
 
--- At this gate a record stands that is not accepted behind those before it: its reference is that of one of them, or the stations in
--- force refuse it.
+-- At this gate a record stands that is not accepted behind those before it: its reference is that of one of them, the stations in force or
+-- the statuses of its days refuse it, or it would change an approved day.
 pub record IsRefusedAt (limits : Limits) (at : ℕ) (bytes : List ℕ) : Type 0 where
   pub pieces : List Record
   pub piece : Record

@@ -1,19 +1,23 @@
 //! What holds of every office.
 
-ghost use Rattle.std.specs.Prelude.{◌≡◌, ◌≢◌, ◌↔◌, ◌<◌, ◌≤◌, ◌+◌, ◌++◌, ◌∷◌, [], ℕ, ℤ, false, List, length, map, slice_get, All, Option, Some, None, is_some, IsSome, IfSome, Ok};
+ghost use Rattle.std.specs.Prelude.{◌≡◌, ◌≢◌, ◌↔◌, ◌⊎◌, ◌<◌, ◌≤◌, ◌+◌, ◌++◌, ◌∷◌, [], ℕ, ℤ, false, true, List, length, map, slice_get, All, Option, Some, None, is_some, IsSome, IfSome, Ok};
+ghost use Rattle.approval.specs.Statuses.{is_approved};
 ghost use Rattle.daily_values.specs.DayValue.{day_value};
 ghost use Rattle.daily_values.specs.declared.day_values.DayValue.{DayValue};
 ghost use Rattle.edits.specs.declared.content.Edit.{Edit};
 ghost use Rattle.fixed_units.specs.Quantities.{IsDay, SiteNumber};
 ghost use Rattle.history.specs.Accepted.{accepted, edit_of, edits_of};
 ghost use Rattle.history.specs.After.{doubt, go_on, reopen};
-ghost use Rattle.history.specs.Awaited.{Computed, DayAnswer, NoStation, Pending, answer_at, awaited};
+ghost use Rattle.history.specs.Awaited.{Computed, DayAnswer, NoStation, Pending, answer_at, awaited, inputs_at};
 ghost use Rattle.history.specs.Events.{Event, History};
 ghost use Rattle.history.specs.LastChanges.{ChangedLast};
 ghost use Rattle.history.specs.Legal.{IsLegal};
+ghost use Rattle.history.specs.Rescissions.{NoneRescinds};
+ghost use Rattle.history.specs.Statuses.{standing_at, status_at, stored_sheet};
 ghost use Rattle.history.specs.Verdicts.{Repeats, verdict};
 ghost use Rattle.journal.specs.JournalBytes.{HasHeader, IsJournalOf};
 ghost use Rattle.office.specs.Edits.{IsTaken};
+ghost use Rattle.office.specs.KeptSheets.{FoundRescinded};
 ghost use Rattle.office.specs.Openings.{IsDamagedFor, IsOpened, MayOpen};
 ghost use Rattle.office.specs.Steps.{APublication, AStop, AnAnswer, AnEdit, Gives, GoesOver, IsCall, IsStep, MayBeFound, Step, added, cut_off};
 ghost use Rattle.office.specs.Stops.{IsLeft, IsLeftBetween};
@@ -97,6 +101,30 @@ pub fn no_acknowledged_edit_is_lost()
         → IsCall step → IsStep at step new → IsLeftBetween at.history new.history image → IsJournalOf pieces image
         → (more : List Record) × (length more ≤ 1) × All (MayBeFound at.history (cut_off step)) more
         × (map edit_of pieces ≡ (edits_of old.history.events ++ added before) ++ map edit_of more) }
+{}
+
+/// Approved sheets stay byte for byte; that each approved day has one is a law of histories. Whatever calls are made, with faults of the disk, stops at any
+/// moment and openings behind them, it stands as it is approved, with its inputs and with that very sheet, as long as no edit is
+/// acknowledged, or found at an opening, that takes its approval back. So an office that is opened on whatever a stop leaves, between two
+/// calls or inside one, has the sheet of each day that was approved, unless the one edit that it found beside the accepted ones takes
+/// that very approval back.
+pub fn approved_sheets_stay()
+    ensures standing { (old new : Registered) (steps : List Step) (site : SiteNumber) (day : ℤ) → GoesOver old steps new → IsLegal old.history → IsDay day
+        → is_approved (status_at old.history.events site day) ≡ true → NoneRescinds site day (added steps)
+        → standing_at new.history.events site day ≡ standing_at old.history.events site day }
+    ensures inputs { (old new : Registered) (steps : List Step) (site : SiteNumber) (day : ℤ) → GoesOver old steps new → IsLegal old.history → IsDay day
+        → is_approved (status_at old.history.events site day) ≡ true → NoneRescinds site day (added steps)
+        → inputs_at new.history.events site day ≡ inputs_at old.history.events site day }
+    ensures sheet { (old new : Registered) (steps : List Step) (site : SiteNumber) (day : ℤ) → GoesOver old steps new → IsLegal old.history → IsDay day
+        → is_approved (status_at old.history.events site day) ≡ true → NoneRescinds site day (added steps)
+        → stored_sheet new.history.events site day ≡ stored_sheet old.history.events site day }
+    ensures between { (old register : Registered) (image : List ℕ) (site : SiteNumber) (day : ℤ) → IsLeft old.history image
+        → IsOpened (Some image) old.history.limits register → IsDay day → is_approved (status_at old.history.events site day) ≡ true
+        → (stored_sheet register.history.events site day ≡ stored_sheet old.history.events site day) ⊎ FoundRescinded old.history None register.history site day }
+    ensures inside { (old : Registered) (step : Step) (new register : Registered) (image : List ℕ) (site : SiteNumber) (day : ℤ) → IsCall step → IsStep old step new
+        → IsLeftBetween old.history new.history image → IsOpened (Some image) old.history.limits register → IsDay day
+        → is_approved (status_at old.history.events site day) ≡ true
+        → (stored_sheet register.history.events site day ≡ stored_sheet old.history.events site day) ⊎ FoundRescinded old.history (cut_off step) register.history site day }
 {}
 
 /// Whatever comes before and after it, an answer is that of the history then; one marked computed is the value that computing from

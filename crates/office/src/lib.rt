@@ -8,6 +8,7 @@ mod keeping;
 pub mod laws;
 pub mod offices;
 pub mod opening;
+pub mod taking;
 
 pub use offices::{Accepted, Office};
 pub use register::{Answer, Sheet};

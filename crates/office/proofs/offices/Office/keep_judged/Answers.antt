@@ -1,6 +1,5 @@
-use Rattle.std.specs.Prelude.{◌≡◌, List, Bool, [], Err}
+use Rattle.std.specs.Prelude.{◌≡◌, [], Err}
 use Rattle.std.proofs.Common.{false, IsSome, refl, subst}
-use Rattle.history.specs.Events.{History}
 use Rattle.journal.specs.Moments.{LeavesOnly}
 use Rattle.journal.specs.Writing.{Lists}
 use Rattle.office.specs.Edits.{EditCalls, EditsClaims, IsTaken}

@@ -38,7 +38,7 @@ read_more input messages rest offset message after offset' read passes =
     }
 
 -- a whole reply more
-wrote_reply : (w0 w w' : Option (List ℕ)) (replies : List (List ℕ)) (reply : List ℕ)
+pub wrote_reply : (w0 w w' : Option (List ℕ)) (replies : List (List ℕ)) (reply : List ℕ)
     → IfSome w0 (λ before. w ≡ Some (before ++ concat replies)) → AreWritten w reply w' true
     → IfSome w0 (λ before. w' ≡ Some (before ++ concat (replies ++ reply ∷ [])))
 wrote_reply None w w' replies reply wrote put = tt

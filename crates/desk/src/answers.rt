@@ -20,9 +20,6 @@ use office::Office;
 use office::laws::an_office_stands_on_its_disk;
 use office_inputs::{Refusal, Station};
 use std::alloc::Global;
-use std::marker::Brand;
-use std::sync::ledger::{Blank, Ledger};
-use steps::Steps;
 use wire::NO_MEMORY_REPLY;
 
 /// Which reply is told.
@@ -132,29 +129,8 @@ pub(crate) fn answer<D: Disk>(office: &mut Office<D>, ask: Ask, texts: &mut Text
     }
 }
 
-/// Takes an edit.
+/// Takes an edit. The text of the acceptance is made first, so that want of memory leaves the office and its disk as they were.
 fn take_edit<D: Disk>(office: &mut Office<D>, edit: Edit, texts: &mut Texts) -> Told
-    requires claims { NoneOut office.old.register }
-    ensures answered { IsAnswered office.old.register.history (asks.Edit edit) (told_bytes result texts.new.reply) office.new.register.history }
-    ensures passed { Passes D.Disk office.old.register.history office.new.register.history office.old.disk office.new.disk }
-    ensures claims { NoneOut office.new.register }
-    ensures unwritten { told_bytes result texts.new.reply ≡ memory_reply → office.new.disk ≡ office.old.disk }
-    ensures counted { D.faults office.old.disk ≤ D.faults office.new.disk }
-{
-    take_edit_counted::<D, Brand>(office, edit, texts, Blank::new(1))
-}
-
-/// The same, with a counter that nobody reads. The text of the acceptance is made first, so that want of memory leaves the office and
-/// its disk as they were.
-fn take_edit_counted<D: Disk, L: Ledger>(
-    office: &mut Office<D>,
-    edit: Edit,
-    texts: &mut Texts,
-    blank: Blank,
-) -> Told
-    requires name { blank.name ≡ L.name }
-    requires parts { blank.parts ≡ L.parts }
-    requires some { 0 < blank.parts }
     requires claims { NoneOut office.old.register }
     ensures answered { IsAnswered office.old.register.history (asks.Edit edit) (told_bytes result texts.new.reply) office.new.register.history }
     ensures passed { Passes D.Disk office.old.register.history office.new.register.history office.old.disk office.new.disk }
@@ -171,8 +147,7 @@ fn take_edit_counted<D: Disk, L: Ledger>(
     if texts.make(&accepted).is_err() {
         return Told::NoMemory;
     }
-    let mut steps = Steps::<L>::new(blank);
-    match office.edit(edit, &mut steps) {
+    match office.take(edit) {
         Ok(told) if told.repeated => texts.tell(&Reply::Edit {
             number: told.number,
             repeated: true,

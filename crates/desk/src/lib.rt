@@ -5,4 +5,4 @@ mod answers;
 mod days;
 pub mod sessions;
 
-pub use sessions::{SessionEnd, session};
+pub use sessions::{SessionEnd, session, stands_still};

@@ -224,7 +224,7 @@ fn reply_to<D: Disk>(
 }
 
 /// While nobody asks an office nothing passes in it: a law, which does nothing.
-fn stands_still<D: Disk>(office: &Office<D>)
+pub fn stands_still<D: Disk>(office: &Office<D>)
     ensures { Passes D.Disk office.now.register.history office.now.register.history office.now.disk office.now.disk }
 {
     an_office_stands_on_its_disk(office);

@@ -8,7 +8,6 @@ pub mod PointLemmas
 pub mod RatingLemmas
 pub mod ReadingLemmas
 pub mod RowLemmas
-pub mod SiteLemmas
 pub mod TextLemmas
 pub mod TreeLemmas
 pub mod UsualLemmas

@@ -3,7 +3,7 @@ use Rattle.std.specs.Prelude.{ℕ, bytes_eq, codes, is_none, is_some, Bool, true
 use Rattle.std.specs.Result.{result_ok}
 use Rattle.civil_days.specs.Spelling.{day_of_text, stamp_of_text, only}
 use Rattle.curves.specs.Curve.{curve_of}
-use Rattle.edit_bodies.specs.Texts.{are_initials, is_reference, is_name, is_array, site_of_text}
+use Rattle.edit_bodies.specs.Texts.{are_initials, is_reference, is_name, is_array}
 use Rattle.edit_bodies.specs.Zones.{is_zone}
 use Rattle.edits.specs.Lawful.{most_gap, most_readings, most_reviewed_days}
 use Rattle.edits.specs.declared.decisions.Decision.{Decision}
@@ -18,6 +18,7 @@ use Rattle.fixed_units.specs.declared.readings.Reading.{Reading}
 use Rattle.rating_tables.specs.Table.{table_fault}
 use Rattle.serde_json.specs.Data.{Data, Items, no_items, item}
 use Rattle.serde_json.specs.Find.{as_str, as_number, as_u64, as_array, as_null}
+use Rattle.site_texts.specs.SiteText.{site_of_text}
 
 -- what is there, if it passes
 abbrev pub kept_if : {A : Type 0} → (A → Bool) → A → Option A

@@ -1,10 +1,8 @@
 -- The texts of an edit's members, as tests: of what `edits` and `fixed_units` say they are.
-use Rattle.std.specs.Prelude.{ℕ, Bool, ◌&&◌, ◌||◌, ◌==◌, nat_le, List, length, Option, Some, None, if◌then◌else◌}
+use Rattle.std.specs.Prelude.{ℕ, Bool, ◌&&◌, ◌||◌, ◌==◌, nat_le, List, length}
 use Rattle.std.specs.List.{list_all}
 use Rattle.std.specs.Char.{is_ascii_digit}
-use Rattle.std.specs.Str.Parse.{digits_value}
 use Rattle.edits.specs.Texts.{is_letter, is_digit, is_printed}
-use Rattle.fixed_units.specs.Quantities.{SiteNumber}
 use Rattle.fixed_units.specs.RoundingArray.{most_decimals}
 
 -- a text of so many characters at least and at most, each of a kind
@@ -24,8 +22,3 @@ is_name text = is_text_of 1 60 is_printed text
 -- a rounding array
 abbrev pub is_array : List ℕ → Bool
 is_array text = is_text_of 10 10 is_ascii_digit text && nat_le (most_decimals text) 6
-
--- the site of a text of 8 to 15 digits
-abbrev pub site_of_text : List ℕ → Option SiteNumber
-site_of_text text =
-    if is_text_of 8 15 is_ascii_digit text then Some (record { digits = length text; value = digits_value 10 text }) else None

@@ -15,11 +15,11 @@ ghost use Rattle.serde_json.specs.Find.{as_bool, as_str, get_member};
 use crate::faults::BodyFault;
 use crate::members::{Fields, Member, remove, value_at};
 use crate::numbers::number_in;
-use crate::sites::read_site;
 use civil_days::read_instant;
 use edits::{By, Name, Ref, is_gap, is_name, is_set_number, is_zone};
 use fixed_units::{NoMemory, RoundingArray, Second, Site, Text};
 use json::Value;
+use site_texts::read_site;
 use std::alloc::Global;
 
 /// Takes out a string.

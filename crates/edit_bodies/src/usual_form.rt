@@ -13,10 +13,10 @@ ghost use Rattle.serde_json.specs.Read.{read};
 
 use crate::members::Member;
 use crate::reading_rows::{Row, may_follow, reading_of};
-use crate::sites::read_site;
 use edits::{By, Edit, Ref, What};
 use json::{Reader, Scratch, Token};
 use readings::ReadingList;
+use site_texts::read_site;
 use std::alloc::Global;
 
 /// How a put mostly begins. A short one that begins so is tried too.

@@ -6,8 +6,9 @@ use Rattle.std.specs.Str.Parse.{digits_value}
 use Rattle.matchit.specs.Params.{named}
 use Rattle.civil_days.specs.Spelling.{day_of_text}
 use Rattle.edit_bodies.specs.Grammars.{kept_if, kept_within}
-use Rattle.edit_bodies.specs.Texts.{are_initials, is_reference, site_of_text}
+use Rattle.edit_bodies.specs.Texts.{are_initials, is_reference}
 use Rattle.fixed_units.specs.Quantities.{SiteNumber}
+use Rattle.site_texts.specs.SiteText.{site_of_text}
 
 -- what the parameters of a target took: the name of each with its part of the target
 abbrev pub Parameters : Type 0

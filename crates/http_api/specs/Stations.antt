@@ -1,6 +1,6 @@
 -- The body for a station: compact JSON, members in rising order of their names.
 use Rattle.std.specs.Prelude.{ℕ, List, ◌++◌, codes, decimal}
-use Rattle.sheets.specs.SiteText.{site_text}
+use Rattle.site_texts.specs.SiteText.{site_text}
 use Rattle.json.specs.Print.{quoted}
 use Rattle.station_inputs.specs.Stations.{StationRecord}
 

@@ -1,6 +1,6 @@
 //! The failures: of each reply that is no answer, its status, its code and what it tells beside.
 
-ghost use Rattle.std.specs.Prelude.{◌≡◌, ◌++◌, ◌∷◌, [], None, take, length, OnOk, OnErr};
+ghost use Rattle.std.specs.Prelude.{◌≡◌, ◌≤◌, ◌++◌, ◌∷◌, [], None, take, length, OnOk, OnErr};
 ghost use Rattle.http_api.specs.Failures.{denial_row, refusal_row, failure_of, failure_text, detail_text, day_member, edit_member, which_text, full_text};
 
 use crate::asks::Denied;
@@ -46,7 +46,7 @@ pub(crate) struct Failure {
     /// The method that is allowed, where another one was used.
     pub(crate) allow: Option<Verb>,
     /// Its code.
-    code: &'static [u8],
+    code: &'static str,
     /// What it tells beside.
     detail: Detail,
 }
@@ -60,7 +60,7 @@ impl Model for Failure {
 }
 
 /// A failure that allows no other method.
-fn told(status: u16, code: &'static [u8], detail: Detail) -> Failure
+fn told(status: u16, code: &'static str, detail: Detail) -> Failure
     ensures { result ≡ record { status = status; allow = None; code = code.entry.now; detail = detail } }
 {
     Failure {
@@ -76,14 +76,14 @@ pub(crate) fn failure_of(reply: &Reply<'_>) -> Option<Failure>
     ensures { result ≡ failure_of reply.now }
 {
     match reply {
-        Reply::NoStation => Some(told(404, b"NoStation", Detail::Nothing)),
-        Reply::NoMeasurement => Some(told(404, b"NoMeasurement", Detail::Nothing)),
+        Reply::NoStation => Some(told(404, "NoStation", Detail::Nothing)),
+        Reply::NoMeasurement => Some(told(404, "NoMeasurement", Detail::Nothing)),
         Reply::Denied(denied) => Some(denial(*denied)),
         Reply::Refused(refusal) => Some(refusal_failure(*refusal)),
-        Reply::NoLength => Some(told(411, b"NoLength", Detail::Nothing)),
-        Reply::TooLarge => Some(told(413, b"TooLarge", Detail::Nothing)),
-        Reply::Malformed => Some(told(400, b"Malformed", Detail::Nothing)),
-        Reply::NoMemory => Some(told(507, b"NoMemory", Detail::Nothing)),
+        Reply::NoLength => Some(told(411, "NoLength", Detail::Nothing)),
+        Reply::TooLarge => Some(told(413, "TooLarge", Detail::Nothing)),
+        Reply::Malformed => Some(told(400, "Malformed", Detail::Nothing)),
+        Reply::NoMemory => Some(told(507, "NoMemory", Detail::Nothing)),
         Reply::Edit { .. }
         | Reply::Turned { .. }
         | Reply::Counts { .. }
@@ -101,19 +101,27 @@ fn denial(denied: Denied) -> Failure
     ensures { result ≡ denial_row denied }
 {
     match denied {
-        Denied::NoRoute => told(404, b"NoRoute", Detail::Nothing),
-        Denied::NotAllowed(Verb::Other) => told(404, b"NoRoute", Detail::Nothing),
+        Denied::NoRoute => told(404, "NoRoute", Detail::Nothing),
+        Denied::NotAllowed(Verb::Other) => told(404, "NoRoute", Detail::Nothing),
         Denied::NotAllowed(verb) => Failure {
             status: 405,
             allow: Some(verb),
-            code: b"NotAllowed",
+            code: "NotAllowed",
             detail: Detail::Nothing,
         },
-        Denied::Json => told(400, b"Json", Detail::Nothing),
-        Denied::Body(member) => told(400, b"Body", Detail::Member(member)),
-        Denied::Rdb(fault) => told(400, b"Rdb", Detail::Line(fault.line())),
-        Denied::NoMemory => told(507, b"NoMemory", Detail::Nothing),
+        Denied::Json => told(400, "Json", Detail::Nothing),
+        Denied::Body(member) => told(400, "Body", Detail::Member(member)),
+        Denied::Rdb(fault) => told(400, "Rdb", Detail::Line(fault.line())),
+        Denied::NoMemory => told(507, "NoMemory", Detail::Nothing),
     }
+}
+
+/// The code of a refusal, as it stands in the body of its reply.
+pub fn code_name(refusal: &Refusal) -> &'static str
+    ensures name { result.now ≡ (refusal_row refusal.now).code }
+    ensures size { length result.now ≤ 15 }
+{
+    refusal_failure(*refusal).code
 }
 
 /// Why an edit is refused.
@@ -121,24 +129,24 @@ fn refusal_failure(refusal: Refusal) -> Failure
     ensures { result ≡ refusal_row refusal }
 {
     match refusal {
-        Refusal::RefReused(edit) => told(409, b"RefReused", Detail::Edit(edit)),
-        Refusal::NoStation => told(409, b"NoStation", Detail::Nothing),
-        Refusal::StationExists => told(409, b"StationExists", Detail::Nothing),
-        Refusal::Limit(which) => told(409, b"Limit", Detail::Limit(which)),
-        Refusal::NoRating => told(409, b"NoRating", Detail::Nothing),
-        Refusal::RatingExists => told(409, b"RatingExists", Detail::Nothing),
-        Refusal::PeriodOverlap(from) => told(409, b"PeriodOverlap", Detail::From(from)),
-        Refusal::NoEntry => told(409, b"NoEntry", Detail::Nothing),
-        Refusal::NotInReview(day) => told(409, b"NotInReview", Detail::Day(day)),
-        Refusal::SamePerson(day) => told(409, b"SamePerson", Detail::Day(day)),
-        Refusal::Awaits(day, edit) => told(409, b"Awaits", Detail::Awaits(day, edit)),
-        Refusal::NotApproved(day) => told(409, b"NotApproved", Detail::Day(day)),
-        Refusal::AlreadyApproved(day) => told(409, b"AlreadyApproved", Detail::Day(day)),
-        Refusal::Locked(day) => told(423, b"Locked", Detail::Day(day)),
-        Refusal::HistoryFull(full) => told(409, b"HistoryFull", Detail::Full(full)),
-        Refusal::JournalFull => told(409, b"JournalFull", Detail::Nothing),
-        Refusal::NoMemory => told(507, b"NoMemory", Detail::Nothing),
-        Refusal::JournalFault(in_doubt) => { told(503, b"JournalFault", Detail::InDoubt(in_doubt)) }
+        Refusal::RefReused(edit) => told(409, "RefReused", Detail::Edit(edit)),
+        Refusal::NoStation => told(409, "NoStation", Detail::Nothing),
+        Refusal::StationExists => told(409, "StationExists", Detail::Nothing),
+        Refusal::Limit(which) => told(409, "Limit", Detail::Limit(which)),
+        Refusal::NoRating => told(409, "NoRating", Detail::Nothing),
+        Refusal::RatingExists => told(409, "RatingExists", Detail::Nothing),
+        Refusal::PeriodOverlap(from) => told(409, "PeriodOverlap", Detail::From(from)),
+        Refusal::NoEntry => told(409, "NoEntry", Detail::Nothing),
+        Refusal::NotInReview(day) => told(409, "NotInReview", Detail::Day(day)),
+        Refusal::SamePerson(day) => told(409, "SamePerson", Detail::Day(day)),
+        Refusal::Awaits(day, edit) => told(409, "Awaits", Detail::Awaits(day, edit)),
+        Refusal::NotApproved(day) => told(409, "NotApproved", Detail::Day(day)),
+        Refusal::AlreadyApproved(day) => told(409, "AlreadyApproved", Detail::Day(day)),
+        Refusal::Locked(day) => told(423, "Locked", Detail::Day(day)),
+        Refusal::HistoryFull(full) => told(409, "HistoryFull", Detail::Full(full)),
+        Refusal::JournalFull => told(409, "JournalFull", Detail::Nothing),
+        Refusal::NoMemory => told(507, "NoMemory", Detail::Nothing),
+        Refusal::JournalFault(in_doubt) => { told(503, "JournalFault", Detail::InDoubt(in_doubt)) }
     }
 }
 
@@ -149,7 +157,7 @@ impl Failure {
         ensures err { OnErr result (take (length out.old) out.new ≡ out.old) }
     {
         out.push_slice(b"{\"code\":\"")?;
-        out.push_slice(self.code)?;
+        out.push_slice(self.code.as_bytes())?;
         out.push_slice(b"\"")?;
         write_detail(self.detail, out)?;
         out.push_slice(b"}")

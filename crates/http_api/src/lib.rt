@@ -15,5 +15,6 @@ mod tables;
 
 pub use asks::{Ask, Denied};
 pub use days::{DayAnswer, DayReply};
+pub use failures::code_name;
 pub use replies::{Reply, reply_text, write_reply};
 pub use routes::Router;

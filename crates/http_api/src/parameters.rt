@@ -11,10 +11,10 @@ ghost use Rattle.edits.specs.Lawful.{IsRatingNumber};
 ghost use Rattle.http_api.specs.Parameters.{by_in, count_in, count_of, day_in, from_in, is_number, is_table_span, measurement_in, measurement_of, number_of, rating_in, rating_of, reference_in, site_in, to_in, turns_of};
 
 use civil_days::read_day;
-use edit_bodies::read_site;
 use edits::{By, Ref, is_rating_number};
 use fixed_units::{Day, Site};
 use matchit::Params;
+use site_texts::read_site;
 
 /// The number of turns among the parameters.
 pub(crate) fn count_in(params: &Params<'_, '_>) -> Option<u32>

@@ -6,7 +6,7 @@ ghost use Rattle.http_api.specs.Stations.{station_text, gap_members, name_member
 use crate::json_texts::write_quoted;
 use fixed_units::{NoMemory, RoundingArray, Text};
 use office_inputs::Station;
-use sheets::write_site;
+use site_texts::write_site;
 
 /// Adds the body for a station, of which a part may be added where memory runs out.
 pub(crate) fn write_station(station: &Station, out: &mut Text) -> Result<(), NoMemory>

@@ -7,7 +7,8 @@ use Rattle.std.proofs.lemmas.Int.{ints}
 use Rattle.std.proofs.lemmas.List.{length-replicate, length-take-le}
 use Rattle.fixed_units.specs.PublishedText.{with_zeros, decimals_text, pointed_text, sign_text, published_text, micro_text}
 use Rattle.fixed_units.specs.Quantities.{SiteNumber, IsSite, IsMicro}
-use Rattle.sheets.specs.SiteText.{site_text}
+use Rattle.site_texts.proofs.WrittenLemmas.{site-few}
+use Rattle.site_texts.specs.SiteText.{site_text}
 use Rattle.fixed_units.specs.declared.published.Published.{Published}
 use Rattle.civil_days.specs.Texts.{day_text, instant_text}
 use Rattle.unit_discharge.specs.declared.unit_values.Unit.{Unit}
@@ -55,15 +56,6 @@ pub micro-few : (n : ℤ) → IsMicro n → length (micro_text n) ≤ 20
 micro-few n h =
     let small : unsigned_abs n ≤ 10 ^ 17 = omega (arith, ints, h.low, h.high) in
     published-few (record { units = n; places = 6 }) 18 (omega arith) (length-decimal-le_wide 18 (unsigned_abs n) (omega arith) (omega arith) (omega arith))
-
--- a site number
-pub site-few : (site : SiteNumber) → IsSite site → length (site_text site) ≤ 15
-site-few site h =
-    let wide : 10 ^ site.digits ≤ 10 ^ 15 = pow-le-pow_right (omega arith) h.longest in
-    let digits = length-decimal-le_wide site.digits site.value (omega (arith, h.shortest)) h.written (omega (arith, h.written)) in
-    let zeros : length {A = ℕ} (replicate (site.digits - length (decimal site.value)) 48) ≡ site.digits - length (decimal site.value) =
-    length-replicate (site.digits - length (decimal site.value)) 48 in
-    omega (arith, zeros, digits, h.longest, length-append (replicate (site.digits - length (decimal site.value)) 48) (decimal site.value))
 
 -- a day, and an instant
 pub day-length : (day : ℤ) → length (day_text day) ≡ 10

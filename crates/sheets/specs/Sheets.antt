@@ -3,7 +3,7 @@ use Rattle.std.specs.Prelude.{ℕ, ◌≤◌, ℤ, Bool, true, false, List, [], 
 use Rattle.std.specs.List.{flat_map}
 use Rattle.fixed_units.specs.PublishedText.{micro_text, published_text}
 use Rattle.fixed_units.specs.Quantities.{SiteNumber}
-use Rattle.sheets.specs.SiteText.{site_text}
+use Rattle.site_texts.specs.SiteText.{site_text}
 use Rattle.fixed_units.specs.declared.published.Published.{Published}
 use Rattle.civil_days.specs.Texts.{day_text, instant_text}
 use Rattle.unit_discharge.specs.declared.unit_values.Unit.{Unit}

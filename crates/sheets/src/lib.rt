@@ -3,7 +3,5 @@
 
 mod parts;
 mod sheets;
-pub mod site_texts;
 
 pub use sheets::sheet_text;
-pub use site_texts::write_site;

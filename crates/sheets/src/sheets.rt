@@ -5,10 +5,10 @@ ghost use Rattle.std.specs.List.{flat_map};
 ghost use Rattle.sheets.specs.Sheets.{IsSheetSize, counts_lines, ended, estimate_mark, extremes_lines, figures_lines, means_lines, missing_line, published_line, published_or_dash, sheet, state_line, title_line, unit_or_dash, value_lines};
 
 use crate::parts::{write_count, write_published_or_dash, write_unit_or_dash};
-use crate::site_texts::write_site;
 use civil_days::write_day;
 use daily_values::{Counts, DayValue, Extremes, Figures, Unit};
 use fixed_units::{Day, NoMemory, Published, Site, Text};
+use site_texts::write_site;
 use std::alloc::Global;
 
 /// The text of the primary computation sheet of a day of a site: what the day's value says, and whether the day is approved

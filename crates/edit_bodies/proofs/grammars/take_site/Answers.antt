@@ -5,8 +5,8 @@ use Rattle.edit_bodies.proofs.grammars.take_site.Goals as goal
 use Rattle.edit_bodies.specs.Grammars.{site_of}
 use Rattle.edit_bodies.specs.Members.{required}
 use Rattle.edit_bodies.specs.Trees.{left}
-use Rattle.edit_bodies.specs.Texts.{site_of_text}
 use Rattle.edit_bodies.specs.declared.members.Member.TheVariants.{Site}
+use Rattle.site_texts.specs.SiteText.{site_of_text}
 
 pub returns-in_err-text : goal.returns-in_err-text
 returns-in_err-text c =

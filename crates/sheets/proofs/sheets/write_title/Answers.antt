@@ -1,7 +1,7 @@
 use Rattle.std.proofs.Common.{codes}
 use Rattle.std.proofs.lemmas.Result.{on_ok_weaker}
 use Rattle.civil_days.specs.Texts.{day_text}
-use Rattle.sheets.specs.SiteText.{site_text}
+use Rattle.site_texts.specs.SiteText.{site_text}
 use Rattle.sheets.specs.Sheets.{title_line}
 use Rattle.sheets.proofs.JoinLemmas.{five_joined}
 use Rattle.sheets.proofs.SizeLemmas.{title-few}

@@ -4,7 +4,7 @@ ghost use Rattle.std.specs.Prelude.{◌≡◌, ◌≤◌, length, true};
 ghost use Rattle.std.specs.List.{list_all};
 ghost use Rattle.std.specs.Char.{is_ascii_digit};
 ghost use Rattle.std.specs.Str.Parse.{digits_value};
-ghost use Rattle.edit_bodies.specs.Texts.{site_of_text};
+ghost use Rattle.site_texts.specs.SiteText.{site_of_text};
 
 use fixed_units::Site;
 

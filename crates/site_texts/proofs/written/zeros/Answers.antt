@@ -1,7 +1,7 @@
 -- Of fifteen zeros the first few are zeros.
 use Rattle.std.proofs.Common.{◌≡◌, ◌∙◌, ap, ◌-◌, ◌≤◌, replicate, arith}
 use Rattle.std.proofs.lemmas.List.{take-replicate}
-use Rattle.sheets.proofs.site_texts.zeros.Goals as goal
+use Rattle.site_texts.proofs.written.zeros.Goals as goal
 
 pub returns : goal.returns
 returns c =

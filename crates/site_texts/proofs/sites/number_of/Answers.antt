@@ -1,6 +1,6 @@
 use Rattle.std.proofs.Common.{arith}
-use Rattle.edit_bodies.proofs.SiteLemmas.{one_digit_more}
-use Rattle.edit_bodies.proofs.sites.number_of.Goals as goal
+use Rattle.site_texts.proofs.SiteLemmas.{one_digit_more}
+use Rattle.site_texts.proofs.sites.number_of.Goals as goal
 
 pub overflow_mul-value : goal.overflow_mul-value
 overflow_mul-value c =

@@ -1,0 +1,4 @@
+pub mod LawLemmas
+pub mod OptionLemmas
+pub mod ReadLemmas
+pub mod WordLemmas

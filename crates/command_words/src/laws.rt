@@ -1,0 +1,14 @@
+//! What the grammar of the words promises as a whole.
+
+ghost use Rattle.command_words.specs.Laws.{EachIsAsked, NothingElseIsAsked, OneIsAsked};
+
+/// Words ask one thing at most.
+pub fn one_thing_is_asked()
+    ensures { OneIsAsked }
+{}
+
+/// What can be asked is a journal of any name but the empty one, and a trial of any number below a thousand million.
+pub fn what_can_be_asked()
+    ensures nothing_else { NothingElseIsAsked }
+    ensures each { EachIsAsked }
+{}

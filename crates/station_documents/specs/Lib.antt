@@ -1,0 +1,4 @@
+pub mod Answers
+pub mod Documents
+pub mod Members
+pub mod Stations

@@ -1,0 +1,4 @@
+pub mod InputLemmas
+pub mod LineLemmas
+pub mod PassingLemmas
+pub mod TellingLemmas

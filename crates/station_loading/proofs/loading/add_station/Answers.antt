@@ -1,0 +1,8 @@
+use Rattle.station_loading.proofs.PassingLemmas.{passes_told}
+use Rattle.station_loading.proofs.loading.add_station.Goals as goal
+
+pub returns-clause-passed : goal.returns-clause-passed
+returns-clause-passed g c =
+    passes_told g.D.Disk c.args.office.now.register.history c.take-told.new.self.register.history c.args.edit c.take-told.result
+    c.args.office.now.disk c.take-told.new.self.disk c.take-told.ensures.edited c.take-told.ensures.counted c.take-told.ensures.cause
+    c.take-told.ensures.any_moment c.take-told.ensures.told

@@ -1,0 +1,43 @@
+use Rattle.std.proofs.Common.{◌++◌, ◌∷◌, [], arith}
+use Rattle.desk.proofs.SessionLemmas.{wrote_reply}
+use Rattle.desk.proofs.StretchLemmas.{passes_more}
+use Rattle.station_loading.proofs.LineLemmas.{added_more}
+use Rattle.station_loading.proofs.TellingLemmas.{one_more, told_short}
+use Rattle.station_loading.proofs.loading.add_stations.Goals as goal
+
+pub returns-then-not-add_station-clause-told : goal.returns-then-not-add_station-clause-told
+returns-then-not-add_station-clause-told g c =
+    let kept = c.loop-edit.invariant.2 in
+    let line = c.if-not-add_station.ensures.told in
+    let more = one_more c.args.edits.items c.loop-edit.yielded c.loop-edit.edit-iterator c.next.new.self c.next.result c.in-Some.edit c.in-Some.is c.next.ensures.steps kept.whole kept.count in
+    told_short c.args.office.now.register.history c.loop-edit.office.register.history c.add_station.new.office.register.history
+    c.args.edits.items c.loop-edit.yielded _ c.in-Some.edit kept.lines line.0
+    (g.K.Sink.written c.args.sink.now) (g.K.Sink.written c.loop-edit.sink) (g.K.Sink.written c.add_station.new.sink)
+    kept.added line.1 more.0 kept.wrote line.2
+
+pub returns-then-not-add_station-clause-passed : goal.returns-then-not-add_station-clause-passed
+returns-then-not-add_station-clause-passed g c =
+    passes_more g.D.Disk c.args.office.now.register.history c.loop-edit.office.register.history c.add_station.new.office.register.history
+    c.args.office.now.disk c.loop-edit.office.disk c.add_station.new.office.disk c.loop-edit.invariant.2.passed c.add_station.ensures.passed
+
+pub loop-edit-preserved : goal.loop-edit-preserved
+loop-edit-preserved g c =
+    let kept = c.loop-edit.invariant.2 in
+    let line = c.if-not-add_station.ensures.told in
+    let more = one_more c.args.edits.items c.loop-edit.yielded c.loop-edit.edit-iterator c.next.new.self c.next.result c.in-Some.edit c.in-Some.is c.next.ensures.steps kept.whole kept.count in (
+      tt,
+      tt,
+      record {
+        whole = more.0;
+        count = more.1;
+        lines = kept.lines ++ line.0 ∷ [];
+        added = added_more c.args.office.now.register.history c.loop-edit.office.register.history c.add_station.new.office.register.history
+            c.loop-edit.yielded kept.lines c.in-Some.edit line.0 kept.added line.1;
+        wrote = wrote_reply (g.K.Sink.written c.args.sink.now) (g.K.Sink.written c.loop-edit.sink) (g.K.Sink.written c.add_station.new.sink)
+            kept.lines line.0 kept.wrote line.2;
+        passed = passes_more g.D.Disk c.args.office.now.register.history c.loop-edit.office.register.history c.add_station.new.office.register.history
+            c.args.office.now.disk c.loop-edit.office.disk c.add_station.new.office.disk kept.passed c.add_station.ensures.passed;
+        disk_counted = omega (arith, kept.disk_counted, c.add_station.ensures.disk_counted);
+        output_counted = omega (arith, kept.output_counted, c.add_station.ensures.output_counted);
+      },
+    )

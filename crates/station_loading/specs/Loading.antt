@@ -1,0 +1,82 @@
+-- How the loading of a document of stations ends.
+use Rattle.std.specs.Prelude.{◌≡◌, ℕ, ◌+◌, Bool, true, false, List, [], ◌∷◌, ◌++◌, Option, Some, IfSome, IsSomeAnd, ⊤}
+use Rattle.std.specs.List.{concat}
+use Rattle.desk.specs.Endings.{StopsWithin}
+use Rattle.devices.specs.Faults.{Rose}
+use Rattle.edits.specs.declared.content.Edit.{Edit}
+use Rattle.history.specs.Events.{History}
+use Rattle.station_documents.specs.Documents.{StatesStations, most_bytes}
+use Rattle.station_documents.specs.declared.faults.DocumentFault.{DocumentFault}
+use Rattle.station_documents.specs.declared.faults.DocumentFault.TheVariants as unstated
+use Rattle.station_loading.specs.Inputs.{IsTakenAtMost}
+use Rattle.station_loading.specs.Lines.{AreAdded}
+use Rattle.station_loading.specs.declared.inputs.NotRead.{NotRead}
+use Rattle.station_loading.specs.declared.inputs.NotRead.TheVariants as unread
+use Rattle.station_loading.specs.declared.loading.LoadingEnd.{LoadingEnd}
+use Rattle.station_loading.specs.declared.loading.LoadingEnd.TheVariants.{Done, InputFault, OutputFault, NotADocument, NoMemory}
+
+-- The office was asked these edits, and the line of each was written; or the sink failed within the line of one, and the office was
+-- asked none of those behind it.
+abbrev pub AreTold : Bool → History → List Edit → History → List ℕ → Type 0
+AreTold true h edits after written = (lines : List (List ℕ)) × AreAdded h edits lines after × (written ≡ concat lines)
+AreTold false h edits after written =
+    (sent behind : List Edit) × (edits ≡ sent ++ behind) × ((front : List (List ℕ)) × (last : List ℕ)
+    × AreAdded h sent (front ++ last ∷ []) after × StopsWithin (concat front) last written)
+
+-- no edit was asked, and nothing was written
+abbrev pub NothingDone : History → History → List ℕ → Type 0
+NothingDone h after written = (after ≡ h) × (written ≡ [])
+
+-- what was written and has happened at each end, by the input
+abbrev pub LoadsBy : LoadingEnd → History → List ℕ → List ℕ → History → List ℕ → Type 0
+LoadsBy Done h input left after written = (left ≡ []) × ((edits : List Edit) × StatesStations input edits × AreTold true h edits after written)
+LoadsBy OutputFault h input left after written = (left ≡ []) × ((edits : List Edit) × StatesStations input edits × AreTold false h edits after written)
+LoadsBy NotADocument h input left after written = ((edits : List Edit) → ¬ StatesStations input edits) × NothingDone h after written
+LoadsBy InputFault h input left after written = NothingDone h after written
+LoadsBy NoMemory h input left after written = NothingDone h after written
+
+-- A document of stations was loaded, from one history to another. No more of the input was taken than tells whether it is too long for
+-- a document.
+pub record Loads (h after : History) (end : LoadingEnd) (input left written : List ℕ) : Type 0 where
+  pub ends : LoadsBy end h input left after written
+  pub taken : IsTakenAtMost (most_bytes + 1) input left
+
+-- the same, where the source and the sink tell their bytes
+abbrev pub IsLoaded : History → History → LoadingEnd → Option (List ℕ) → Option (List ℕ) → Option (List ℕ) → Option (List ℕ) → Type 0
+IsLoaded h after end left_before left_after written_before written_after =
+    IfSome left_before (λ input. IsSomeAnd left_after (λ left. IfSome written_before (λ before.
+    (written : List ℕ) × (written_after ≡ Some (before ++ written)) × Loads h after end input left written)))
+
+-- all of the input was taken, and states these edits
+abbrev pub IsReadAs : Option (List ℕ) → List Edit → Option (List ℕ) → Type 0
+IsReadAs before edits after = IfSome before (λ input. IsSomeAnd after (λ left. StatesStations input edits × (left ≡ [])))
+
+-- it states none
+abbrev pub StatesNone : Option (List ℕ) → Type 0
+StatesNone before = IfSome before (λ input. (edits : List Edit) → ¬ StatesStations input edits)
+
+-- how the loading ends of an input that was not read, and of a text that states no stations
+abbrev pub end_unread : NotRead → LoadingEnd
+end_unread unread.Failed = InputFault
+end_unread unread.TooLong = NotADocument
+end_unread unread.NoMemory = NoMemory
+
+abbrev pub end_unstated : DocumentFault → LoadingEnd
+end_unstated unstated.NoDocument = NotADocument
+end_unstated unstated.NoMemory = NoMemory
+
+-- a fault of the source or of the sink is told only where the count of that object rose
+abbrev pub LoadingCause : LoadingEnd → ℕ → ℕ → ℕ → ℕ → Type 0
+LoadingCause Done source_before source_now sink_before sink_now = ⊤
+LoadingCause InputFault source_before source_now sink_before sink_now = Rose source_before source_now
+LoadingCause OutputFault source_before source_now sink_before sink_now = Rose sink_before sink_now
+LoadingCause NotADocument source_before source_now sink_before sink_now = ⊤
+LoadingCause NoMemory source_before source_now sink_before sink_now = ⊤
+
+-- the office was asked nothing
+abbrev pub IsUnasked : LoadingEnd → Type 0
+IsUnasked Done = ⊥
+IsUnasked InputFault = ⊤
+IsUnasked OutputFault = ⊥
+IsUnasked NotADocument = ⊤
+IsUnasked NoMemory = ⊤

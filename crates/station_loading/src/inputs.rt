@@ -1,0 +1,83 @@
+//! An input is read whole, as far as a document may be long.
+
+ghost use Rattle.std.specs.Prelude.{◌≡◌, ◌≢◌, ◌≤◌, ◌+◌, ◌<◌, [], length, IfSome, IfOk, Ok, Err, true, false};
+ghost use Rattle.devices.specs.Faults.{Rose};
+ghost use Rattle.station_documents.specs.Documents.{most_bytes};
+ghost use Rattle.station_loading.specs.Inputs.{Grows, IsTakenWithin, IsWhole};
+
+use devices::{Source, Took};
+use fixed_units::{NoMemory, Text};
+use station_documents::MOST_BYTES;
+use std::alloc::Global;
+
+/// How many bytes are asked of a source at once.
+const BLOCK_BYTES: usize = 65_536;
+
+/// Why an input was not read whole.
+#[derive(Clone, Copy, Debug, PartialEq, Eq)]
+pub(crate) enum NotRead {
+    /// The source failed.
+    Failed,
+    /// It is longer than a document may be.
+    TooLong,
+    /// There was no memory for it.
+    NoMemory,
+}
+
+impl From<NoMemory> for NotRead {
+    ghost use Rattle.std.specs.Prelude.{◌≡◌};
+    ghost use Rattle.station_loading.specs.declared.inputs.NotRead.TheVariants as NotReads;
+
+    ghost from_gives = { λ _ unread. unread ≡ NotReads.NoMemory };
+
+    fn from(_error: NoMemory) -> NotRead {
+        NotRead::NoMemory
+    }
+}
+
+/// Takes a whole input, or where it is longer than a document may be one byte more than that.
+pub(crate) fn read_input<S: Source>(alloc: Global, source: &mut S) -> Result<Text, NotRead>
+    ensures whole { IfOk result (λ text. IsWhole (S.left source.old) text (S.left source.new)) }
+    ensures too_long { result ≡ Err NotRead.TooLong → IfSome (S.left source.old) (λ input. most_bytes < length input) }
+    ensures taken { IsTakenWithin (most_bytes + 1) (S.left source.old) (S.left source.new) }
+    ensures counted { S.faults source.old ≤ S.faults source.new }
+    ensures cause { result ≡ Err NotRead.Failed → Rose (S.faults source.old) (S.faults source.new) }
+{
+    let mut block = zeros(alloc)?;
+    let mut text = Text::new(alloc);
+    while text.len() <= MOST_BYTES {
+        let room = BLOCK_BYTES.min(MOST_BYTES + 1 - text.len());
+        if !take_more(source, &mut block[..room], &mut text)? {
+            return Ok(text);
+        }
+    }
+    Err(NotRead::TooLong)
+}
+
+/// A block for what a source gives.
+fn zeros(alloc: Global) -> Result<Vec<u8>, NoMemory>
+    ensures { IfOk result (λ block. length block.items ≡ 65_536) }
+{
+    Ok(vec![in alloc; 0; BLOCK_BYTES]?)
+}
+
+/// Takes what the source gives by way of the block, and adds it to the text; `false` at the source's end.
+fn take_more<S: Source>(source: &mut S, block: &mut [u8], text: &mut Text) -> Result<bool, NotRead>
+    requires { 0 < length block.old }
+    ensures more { result ≡ Ok true → Grows (S.left source.old) text.old text.new (S.left source.new) }
+    ensures proceeds { result ≡ Ok true → (length text.old < length text.new) × (length text.new ≤ length text.old + length block.old) }
+    ensures ended { result ≡ Ok false → (text.new ≡ text.old) × IsWhole (S.left source.old) [] (S.left source.new) }
+    ensures taken { IsTakenWithin (length block.old) (S.left source.old) (S.left source.new) }
+    ensures counted { S.faults source.old ≤ S.faults source.new }
+    ensures cause { result ≡ Err NotRead.Failed → Rose (S.faults source.old) (S.faults source.new) }
+    ensures only { result ≢ Err NotRead.TooLong }
+{
+    match source.take(block) {
+        Took::Bytes(count) => {
+            text.push_slice(&block[..count])?;
+            Ok(true)
+        }
+        Took::End => Ok(false),
+        Took::Failed => Err(NotRead::Failed),
+    }
+}

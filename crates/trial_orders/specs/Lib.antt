@@ -1,0 +1,4 @@
+pub mod Draws
+pub mod Orders
+pub mod Questions
+pub mod References

@@ -1,5 +1,6 @@
 #!/usr/bin/env python3
-"""Runs every command to each of its statuses, and looks at all three standard streams.
+"""Runs the commands to each of their statuses, and looks at all three standard streams; status 6 of `init` is not among
+them.
 
     python3 tests/statuses.py PROGRAM [--long]
 
@@ -23,6 +24,7 @@ USAGE = b"streamoffice: usage: init, batch, serve, stations or trial\n"
 INPUT_FAULT, OUTPUT_FAULT = b"streamoffice: input fault\n", b"streamoffice: output fault\n"
 DISK_FAULT = b"streamoffice: disk fault\n"
 NOT_A_JOURNAL, EXISTS = b"streamoffice: not a journal\n", b"streamoffice: journal exists\n"
+NO_DOCUMENT = b"streamoffice: not a station document\n"
 # Journals of no edits, of a station, and of a station with a reading.
 EMPTY, STATION, READING = (journals.journal(range(1, edits + 1)) for edits in range(3))
 
@@ -84,6 +86,11 @@ def usage(place):
         ["init", "--journal", name, "--journal", name],
         ["init", "--journal", name, "more"],
         ["serve", "--journal", name],
+        ["batch", "--journal", name, "--workers", "2"],
+        ["stations"],
+        ["stations", "--number", "1"],
+        ["stations", "--journal", name, "--"],
+        ["trial", "--number", "1"],
         ["--help"],
         [b"init", b"--journal", b"\xff"],
     ]:
@@ -118,6 +125,50 @@ def ends(place):
     ]:
         expect(what, wanted, place.on_journal(command, before, data))
         expect("    what is left", after, place.content())
+
+
+def document(*tables):
+    """A document of stations by AB: of each its site and its reference."""
+    lines = ["by = 'AB'"]
+    for site, reference in tables:
+        lines += ["[[station]]", f"site = '{site}'", f"ref = '{reference}'", "name = 'POTOMAC'", "zone = '-05:00'"]
+        lines += ["gap = 720", "stage_array = '9999999992'", "discharge_array = '0222233332'"]
+    return "\n".join(lines).encode()
+
+
+def stations(place):
+    """Documents of stations over real files, with every stream."""
+    two = document(("01646500", "s-1"), ("01638500", "s-2"))
+    added = b"edit 1 01646500\nedit 2 01638500\n"
+    expect("stations", (0, added, b""), place.on_journal("stations", EMPTY, two))
+    kept = place.content()
+    expect("stations again", (0, added, b""), place.on_journal("stations", kept, two))
+    expect("    what is left", kept, place.content())
+    again = document(("01646500", "s-1"), ("01646500", "s-3"))
+    told = b"edit 1 01646500\nrefused StationExists 01646500\n"
+    expect("stations, one of them twice", (0, told, b""), place.on_journal("stations", EMPTY, again))
+    for what, data in [
+        ("no document", b"x"),
+        ("a document with a bad station", document(("01646500", "s-1"), ("1", "s-2"))),
+        ("a document that is too long", two + b" " * 4_194_305),
+        ("nothing", b""),
+    ]:
+        expect(f"stations of {what}", (9, b"", NO_DOCUMENT), place.on_journal("stations", EMPTY, data))
+        expect("    what is left", EMPTY, place.content())
+    expect("stations on nothing", (5, b"", NOT_A_JOURNAL), place.on_journal("stations", None, b"x"))
+    expect("    what is left", None, place.content())
+    cut = kept[:-1]
+    damaged = (5, b"", b"streamoffice: damaged at %d\n" % len(cut))
+    expect("stations on a damaged one", damaged, place.on_journal("stations", cut, two))
+    expect("    what is left", cut, place.content())
+    got = place.on_journal("stations", EMPTY, before=closed(0))
+    expect("stations, stream 0 closed", (2, b"", INPUT_FAULT), got)
+    expect("    what is left", EMPTY, place.content())
+    place.on_journal("stations", EMPTY, document(("01646500", "s-1")))
+    one = place.content()
+    got = place.on_journal("stations", EMPTY, two, before=closed(1))
+    expect("stations, stream 1 closed", (3, b"", OUTPUT_FAULT), got)
+    expect("    what is left: the one whose line was being written", one, place.content())
 
 
 def post(target, body=b""):
@@ -225,7 +276,7 @@ def another_run(place):
         first.stdin.write(request(2))
         first.stdin.flush()
         first.stdout.read(len(reply(2)))
-        for command in ["init", "batch"]:
+        for command in ["init", "batch", "stations"]:
             got = place.run([command, "--journal", str(place.journal)], request(2))
             expect(f"{command} beside another run", (4, b"", DISK_FAULT), got)
             expect("    what is left", READING, place.content())
@@ -243,8 +294,10 @@ def limit_memory():
 def little_memory(place):
     """A long journal where there is memory for few readings alone."""
     content = journals.journal(range(1, 400_001))
-    got = place.on_journal("batch", content, request(2), before=limit_memory)
-    expect("batch with little memory", (6, b"", b"streamoffice: out of memory\n"), got)
+    for command, data in [("batch", request(2)), ("stations", document(("01646500", "s-1")))]:
+        got = place.on_journal(command, content, data, before=limit_memory)
+        expect(f"{command} with little memory", (6, b"", b"streamoffice: out of memory\n"), got)
+        expect("    what is left", content, place.content())
 
 
 def long_input(place):
@@ -267,7 +320,7 @@ def main():
     if len(sys.argv) not in (2, 3):
         raise SystemExit(__doc__)
     program = str(pathlib.Path(sys.argv[1]).resolve())
-    cases = [usage, ends, replies, closed_streams, failing_streams, another_run, little_memory]
+    cases = [usage, ends, stations, replies, closed_streams, failing_streams, another_run, little_memory]
     for case in cases + [long_input] * ("--long" in sys.argv):
         with tempfile.TemporaryDirectory() as folder:
             case(Place(program, folder))

@@ -3,4 +3,3 @@ pub mod PlaceLemmas
 pub mod ReopenLemmas
 pub mod ServingLemmas
 pub mod TopLemmas
-pub mod WordLemmas

@@ -57,8 +57,10 @@ more_images g bytes few many ends.NotAJournal disk wider h = (h.0, (h.1.0, λ im
 more_images g bytes few many ends.DiskFault disk wider h =
     (h.0, λ occupied. let kept = h.1 occupied in (kept.0, λ image left. wider image (kept.1 image left)))
 more_images g bytes few many (ends.Served end) disk wider h = absurd h
+more_images g bytes few many (ends.Loaded end) disk wider h = absurd h
 more_images g bytes few many (ends.Damaged at) disk wider h = absurd h
 more_images g bytes few many ends.NoMemory disk wider h = absurd h
+more_images g bytes few many ends.Usage disk wider h = absurd h
 
 more_images_if : {D : Type 0} (g : Ghosts D) (o : Option (List ℕ))
     (few many : List ℕ → Type 0) (end : RunEnd) (disk : D) → NothingNew many few
@@ -89,8 +91,10 @@ left_more content few many ends.Exists image wider h = wider image h
 left_more content few many ends.NotAJournal image wider h = wider image h
 left_more content few many ends.DiskFault image wider h = ((h.0.0, wider h.0.0 h.0.1, h.0.2), λ occupied. wider image (h.1 occupied))
 left_more content few many (ends.Served end) image wider h = absurd h
+left_more content few many (ends.Loaded end) image wider h = absurd h
 left_more content few many (ends.Damaged at) image wider h = absurd h
 left_more content few many ends.NoMemory image wider h = absurd h
+left_more content few many ends.Usage image wider h = absurd h
 
 -- what might have been left before may be left at each end that a making has
 left_before : {D : Type 0} (g : Ghosts D) (content : Option (List ℕ)) (bytes : List ℕ) (images all : List ℕ → Type 0)
@@ -100,8 +104,10 @@ left_before g content bytes images all ends.Exists left image makes h = h
 left_before g content bytes images all ends.NotAJournal left image makes h = h
 left_before g content bytes images all ends.DiskFault left image makes h = ((image, h, whole 0 17 image), λ occupied. h)
 left_before g content bytes images all (ends.Served end) left image makes h = absurd makes
+left_before g content bytes images all (ends.Loaded end) left image makes h = absurd makes
 left_before g content bytes images all (ends.Damaged at) left image makes h = absurd makes
 left_before g content bytes images all ends.NoMemory left image makes h = absurd makes
+left_before g content bytes images all ends.Usage left image makes h = absurd makes
 
 -- a disk that was made left no bytes before
 leaves_made : {D : Type 0} (g : Ghosts D) (end : RunEnd) (disk left : D) → IsEmptyDisk g disk
@@ -155,8 +161,10 @@ ends_kept ends.Exists f f' c0 c1 c2 h fresh later counted = tt
 ends_kept ends.NotAJournal f f' c0 c1 c2 h fresh later counted = tt
 ends_kept ends.DiskFault f f' c0 c1 c2 h fresh later counted = rose_kept f f' c0 c1 c2 fresh h later counted
 ends_kept (ends.Served end) f f' c0 c1 c2 h fresh later counted = absurd h
+ends_kept (ends.Loaded end) f f' c0 c1 c2 h fresh later counted = absurd h
 ends_kept (ends.Damaged at) f f' c0 c1 c2 h fresh later counted = absurd h
-ends_kept ends.NoMemory f f' c0 c1 c2 h fresh later counted = absurd h
+ends_kept ends.NoMemory f f' c0 c1 c2 h fresh later counted = tt
+ends_kept ends.Usage f f' c0 c1 c2 h fresh later counted = absurd h
 
 -- the cabinet failed
 pub makes_failed : {D : Type 0} (g : Ghosts D)
@@ -165,4 +173,9 @@ pub makes_failed : {D : Type 0} (g : Ghosts D)
 makes_failed g name None p1 opened = tt
 makes_failed g name (Some b) None opened = absurd opened
 makes_failed g name (Some b) (Some a) opened =
-    all_stay name b a (λ before after. MakesAt g ends.DiskFault before after) opened (inl (refl, refl))
+    all_stay name b a (λ before after. MakesAt g ends.DiskFault before after) opened (inl (inl refl, refl))
+
+-- there was no memory for the words, and nothing was done
+pub makes_nothing : {D : Type 0} (g : Ghosts D) (name : List ℕ) (places : Option (List ℕ → Place D)) → Makes g ends.NoMemory name places places
+makes_nothing g name None = tt
+makes_nothing g name (Some b) = (inl (inr refl, refl), λ other apart. refl)

@@ -10,8 +10,9 @@ use Rattle.commands.proofs.PlaceLemmas.{opened_and_kept, was_kept, leaves_kept, 
 use Rattle.commands.proofs.ReopenLemmas.{count_reopened, found_left}
 use Rattle.commands.specs.Places.{HasKept, IfKept, IsLeftAlone, HasTheSame}
 use Rattle.commands.specs.RunEnds.{opening_end}
-use Rattle.commands.specs.Serving.{usual, IsLeftOn, Carries, ServesDisk, CarriesAt, StaysWith, ServesUnder}
+use Rattle.commands.specs.Serving.{usual, IsLeftOn, Carries, ServesDisk, CarriesAt, StaysWith, ServesUnder, WorksOn, WorksUnder}
 use Rattle.commands.specs.declared.runs.RunEnd.{RunEnd}
+use Rattle.commands.specs.declared.runs.Work.{Work}
 use Rattle.commands.specs.declared.runs.RunEnd.TheVariants as ends
 use Rattle.desk.specs.Passing.{Passes, RoseBy, fault_count}
 use Rattle.history.specs.After.{go_on, reopen}
@@ -81,14 +82,14 @@ carries g pieces after found opened left journal same first passed now images le
     }
 
 -- a journal that was not opened
-pub not_opened : {D : Type 0} (g : Ghosts D) (fault : OpenFault)
+pub not_opened : {D : Type 0} (g : Ghosts D) (work : Work) (fault : OpenFault)
     (end : RunEnd) (found left : D) (l0 l w0 w : Option (List ℕ))
     → ((disk : D) (from : ℕ) (image : List ℕ) → from ≤ g.moment disk → g.may_leave disk image → g.left_since disk from image)
     → end ≡ opening_end fault → IsNotOpened (g.content found) usual fault (g.faults found) (g.faults left)
     → IsUnchanged (g.content found) (g.content left) → LeavesOnly g found left (g.may_leave found)
-    → ServesDisk g end found left l0 l w0 w
-not_opened g fault end found left l0 l w0 w counts is refused same leaves =
-    subst (λ (e : RunEnd). ServesDisk g e found left l0 l w0 w) (sym is) (by_fault fault refused)
+    → ServesDisk g work end found left l0 l w0 w
+not_opened g work fault end found left l0 l w0 w counts is refused same leaves =
+    subst (λ (e : RunEnd). ServesDisk g work e found left l0 l w0 w) (sym is) (by_fault fault refused)
   where
     alone : IsLeftAlone g found left
     alone = record {
@@ -98,7 +99,7 @@ not_opened g fault end found left l0 l w0 w counts is refused same leaves =
     }
 
     by_fault : (fault : OpenFault) → IsNotOpened (g.content found) usual fault (g.faults found) (g.faults left)
-        → ServesDisk g (opening_end fault) found left l0 l w0 w
+        → ServesDisk g work (opening_end fault) found left l0 l w0 w
     by_fault opening.Fault refused = (refused, alone)
     by_fault opening.NotAJournal refused = (refused, alone)
     by_fault (opening.Damaged at) refused = (refused, alone)
@@ -159,12 +160,12 @@ stays_kept {D} g name p0 p1 p2 disk left P opened kept same follows =
     regroup (Some b) None h = absurd h
     regroup (Some b) (Some a) h = (h.0.0, (h.0.1, h.1))
 
-pub serves_kept : {D : Type 0} (g : Ghosts D)
+works_kept : {D : Type 0} (g : Ghosts D) (work : Work)
     (end : RunEnd) (name : List ℕ) (p0 p1 p2 : Option (List ℕ → Place D)) (disk left : D) (c0 c1 c2 : ℕ) (l0 l w0 w : Option (List ℕ))
-    → IsOpened g name false p0 p1 (opens.Disk disk) → IsKept name left p1 p2 → g.faults disk ≡ 0 → c0 ≤ c1
-    → IsCounted (g.faults left) c1 c2 → ServesDisk g end disk left l0 l w0 w
-    → ServesUnder g name end p0 p2 c0 c2 l0 l w0 w
-serves_kept g (ends.Served end) name p0 p1 p2 disk left c0 c1 c2 l0 l w0 w opened kept fresh later count h = (
+    → IsOpened g name false p0 p1 (opens.Disk disk) → IsKept name left p1 p2 → c0 ≤ c1
+    → IsCounted (g.faults left) c1 c2 → WorksOn g work end disk left l0 l w0 w
+    → WorksUnder g work name end p0 p2 c0 c2 l0 l w0 w
+works_kept g work end name p0 p1 p2 disk left c0 c1 c2 l0 l w0 w opened kept later count h = (
   h.0,
   h.1,
   h.2,
@@ -175,20 +176,31 @@ serves_kept g (ends.Served end) name p0 p1 p2 disk left c0 c1 c2 l0 l w0 w opene
     counted (fault_count h.1.events) (g.faults left) c0 c1 c2 h.3.causes later count,
   ),
 )
-serves_kept g ends.NotAJournal name p0 p1 p2 disk left c0 c1 c2 l0 l w0 w opened kept fresh later count h =
+
+pub serves_kept : {D : Type 0} (g : Ghosts D) (work : Work)
+    (end : RunEnd) (name : List ℕ) (p0 p1 p2 : Option (List ℕ → Place D)) (disk left : D) (c0 c1 c2 : ℕ) (l0 l w0 w : Option (List ℕ))
+    → IsOpened g name false p0 p1 (opens.Disk disk) → IsKept name left p1 p2 → g.faults disk ≡ 0 → c0 ≤ c1
+    → IsCounted (g.faults left) c1 c2 → ServesDisk g work end disk left l0 l w0 w
+    → ServesUnder g work name end p0 p2 c0 c2 l0 l w0 w
+serves_kept g work (ends.Served end) name p0 p1 p2 disk left c0 c1 c2 l0 l w0 w opened kept fresh later count h =
+    works_kept g work (ends.Served end) name p0 p1 p2 disk left c0 c1 c2 l0 l w0 w opened kept later count h
+serves_kept g work (ends.Loaded end) name p0 p1 p2 disk left c0 c1 c2 l0 l w0 w opened kept fresh later count h =
+    works_kept g work (ends.Loaded end) name p0 p1 p2 disk left c0 c1 c2 l0 l w0 w opened kept later count h
+serves_kept g work ends.NotAJournal name p0 p1 p2 disk left c0 c1 c2 l0 l w0 w opened kept fresh later count h =
     stays_kept g name p0 p1 p2 disk left (IfKept (λ disk. IfSome (g.content disk) (λ bytes. ¬ HasHeader bytes))) opened kept h.1
     (λ held is. subst (λ (o : Option (List ℕ)). IfSome o (λ bytes. ¬ HasHeader bytes)) is h.0)
-serves_kept g (ends.Damaged at) name p0 p1 p2 disk left c0 c1 c2 l0 l w0 w opened kept fresh later count h =
+serves_kept g work (ends.Damaged at) name p0 p1 p2 disk left c0 c1 c2 l0 l w0 w opened kept fresh later count h =
     stays_kept g name p0 p1 p2 disk left (HasKept (λ disk. IfSome (g.content disk) (IsDamagedFor usual at))) opened kept h.1
     (λ held is. subst (λ (o : Option (List ℕ)). IfSome o (IsDamagedFor usual at)) is h.0)
-serves_kept g ends.DiskFault name p0 p1 p2 disk left c0 c1 c2 l0 l w0 w opened kept fresh later count h = (
+serves_kept g work ends.DiskFault name p0 p1 p2 disk left c0 c1 c2 l0 l w0 w opened kept fresh later count h = (
   stays_kept g name p0 p1 p2 disk left (λ place. ⊤) opened kept h.1 (λ held is. tt),
   rose_kept (g.faults disk) (g.faults left) c0 c1 c2 fresh h.0 later count,
 )
-serves_kept g ends.NoMemory name p0 p1 p2 disk left c0 c1 c2 l0 l w0 w opened kept fresh later count h =
+serves_kept g work ends.NoMemory name p0 p1 p2 disk left c0 c1 c2 l0 l w0 w opened kept fresh later count h =
     stays_kept g name p0 p1 p2 disk left (λ place. ⊤) opened kept h (λ held is. tt)
-serves_kept g ends.Made name p0 p1 p2 disk left c0 c1 c2 l0 l w0 w opened kept fresh later count h = absurd h
-serves_kept g ends.Exists name p0 p1 p2 disk left c0 c1 c2 l0 l w0 w opened kept fresh later count h = absurd h
+serves_kept g work ends.Made name p0 p1 p2 disk left c0 c1 c2 l0 l w0 w opened kept fresh later count h = absurd h
+serves_kept g work ends.Exists name p0 p1 p2 disk left c0 c1 c2 l0 l w0 w opened kept fresh later count h = absurd h
+serves_kept g work ends.Usage name p0 p1 p2 disk left c0 c1 c2 l0 l w0 w opened kept fresh later count h = absurd h
 
 -- a place has what it had
 has_the_same : {D : Type 0} (g : Ghosts D) (place : Place D)
@@ -230,3 +242,23 @@ serves_failed g name (Some b) None only opened = absurd opened
 serves_failed g name (Some b) (Some a) only opened =
     let all = all_stay name b a (λ before after. HasTheSame g before after) opened (has_the_same g (b name) only) in
     (tt, (all.0, all.1))
+
+-- there was no memory for the words, and nothing was done
+pub serves_nothing : {D : Type 0} (g : Ghosts D) (work : Work) (name : List ℕ) (places : Option (List ℕ → Place D)) (count : ℕ) (l w : Option (List ℕ))
+    → ((disk : D) (image : List ℕ) → g.left_since disk (g.moment disk) image → g.may_leave disk image)
+    → ServesUnder g work name ends.NoMemory places places count count l l w w
+serves_nothing g work name None count l w only = tt
+serves_nothing g work name (Some b) count l w only = (tt, (has_the_same g (b name) only, λ other apart. refl))
+
+-- what was done over the office is what the work over the disk comes to
+pub worked_on : {D : Type 0} (g : Ghosts D) (work : Work) (end : RunEnd) (found left : D) (l0 l w0 w : Option (List ℕ))
+    → WorksOn g work end found left l0 l w0 w → ServesDisk g work end found left l0 l w0 w
+worked_on g work ends.Made found left l0 l w0 w h = absurd h.2
+worked_on g work ends.Exists found left l0 l w0 w h = absurd h.2
+worked_on g work ends.Usage found left l0 l w0 w h = absurd h.2
+worked_on g work (ends.Served end) found left l0 l w0 w h = h
+worked_on g work (ends.Loaded end) found left l0 l w0 w h = h
+worked_on g work ends.DiskFault found left l0 l w0 w h = absurd h.2
+worked_on g work ends.NotAJournal found left l0 l w0 w h = absurd h.2
+worked_on g work (ends.Damaged at) found left l0 l w0 w h = absurd h.2
+worked_on g work ends.NoMemory found left l0 l w0 w h = absurd h.2

@@ -1,5 +1,5 @@
 -- What the end of a run says of the status.
-use Rattle.std.proofs.Common.{◌≡◌, ◌≢◌, ◌⊎◌, ℕ, ◌+◌, ◌<◌, List, length, Option, Some, None, IfSome, IsSome, IsSomeAnd, refl, ap, subst, inl, inr, arith}
+use Rattle.std.proofs.Common.{◌≡◌, ◌≢◌, ◌⊎◌, ℕ, ◌+◌, ◌<◌, List, length, Option, Some, None, IfSome, IsSome, IsSomeAnd, refl, sym, ap, subst, inl, inr, arith}
 use Rattle.devices.specs.declared.disks.Disk.{Ghosts}
 use Rattle.devices.specs.Cabinets.{Place, Free, Kept, Out}
 use Rattle.devices.specs.Faults.{Rose}
@@ -8,19 +8,24 @@ use Rattle.history.specs.Events.{History}
 use Rattle.office.specs.Openings.{IsDamagedFor}
 use Rattle.wire.specs.declared.limits.TheConstants.{STREAM_BYTES}
 use Rattle.journal.specs.JournalBytes.{HasHeader, IsTaken, IsForeign}
-use Rattle.commands.specs.Statuses.{session_status, status_of}
+use Rattle.commands.specs.Statuses.{loading_status, session_status, status_of}
 use Rattle.commands.specs.Making.{MakesOn, MakesAt, Makes, IsMakingEnd}
 use Rattle.commands.specs.Places.{HasKept, IfKept, bytes_found, images_found}
-use Rattle.commands.specs.RunEnds.{IsEarly, RunCause}
-use Rattle.commands.specs.Serving.{usual, ServesUnder, StaysWith}
+use Rattle.commands.specs.RunEnds.{IsEarly, IsUnwritten, RunCause}
+use Rattle.commands.specs.Serving.{usual, IsWorked, ServesUnder, StaysWith}
 use Rattle.desk.specs.Sessions.{HasCause, IsServed}
-use Rattle.commands.specs.Top.{IsWellFormed, IsSound, HasSound, HasRoom}
+use Rattle.commands.specs.Top.{IsDocument, IsWellFormed, IsSound, HasSound, HasRoom}
 use Rattle.desk.specs.declared.sessions.SessionEnd.{SessionEnd}
 use Rattle.desk.specs.declared.sessions.SessionEnd.TheVariants as sessions
 use Rattle.commands.specs.declared.runs.RunEnd.{RunEnd}
 use Rattle.commands.specs.declared.runs.RunEnd.TheVariants as ends
+use Rattle.commands.specs.declared.runs.Work.{Work}
+use Rattle.commands.specs.declared.runs.Work.TheVariants.{Session, Loading}
+use Rattle.station_loading.specs.Loading.{IsLoaded, IsUnasked, LoadingCause}
+use Rattle.station_loading.specs.declared.loading.LoadingEnd.{LoadingEnd}
+use Rattle.station_loading.specs.declared.loading.LoadingEnd.TheVariants as loadings
 
--- no end has the status of wrong words
+-- wrong words have their status alone
 session_not_usage : (end : SessionEnd) → session_status end ≢ 1
 session_not_usage sessions.End h = absurd (cc)
 session_not_usage (sessions.Malformed at) h = absurd (cc)
@@ -29,14 +34,32 @@ session_not_usage sessions.InputFault h = absurd (cc)
 session_not_usage sessions.OutputFault h = absurd (cc)
 session_not_usage sessions.NoMemory h = absurd (cc)
 
-pub not_usage : (end : RunEnd) → status_of end ≢ 1
-not_usage ends.Made h = absurd (cc)
-not_usage ends.Exists h = absurd (cc)
-not_usage (ends.Served end) h = session_not_usage end h
-not_usage ends.DiskFault h = absurd (cc)
-not_usage ends.NotAJournal h = absurd (cc)
-not_usage (ends.Damaged at) h = absurd (cc)
-not_usage ends.NoMemory h = absurd (cc)
+loading_not_usage : (end : LoadingEnd) → loading_status end ≢ 1
+loading_not_usage loadings.Done h = absurd (cc)
+loading_not_usage loadings.InputFault h = absurd (cc)
+loading_not_usage loadings.OutputFault h = absurd (cc)
+loading_not_usage loadings.NotADocument h = absurd (cc)
+loading_not_usage loadings.NoMemory h = absurd (cc)
+
+pub usage_status : (end : RunEnd) → status_of end ≡ 1 → end ≡ ends.Usage
+usage_status ends.Made h = absurd (cc)
+usage_status ends.Exists h = absurd (cc)
+usage_status (ends.Served end) h = absurd (session_not_usage end h)
+usage_status (ends.Loaded end) h = absurd (loading_not_usage end h)
+usage_status ends.DiskFault h = absurd (cc)
+usage_status ends.NotAJournal h = absurd (cc)
+usage_status (ends.Damaged at) h = absurd (cc)
+usage_status ends.NoMemory h = absurd (cc)
+usage_status ends.Usage h = refl
+
+-- no making of a journal ends so, and no work over one
+pub not_making : (end : RunEnd) (a b : ℕ) → IsMakingEnd end a b → end ≡ ends.Usage → ⊥
+not_making end a b h e = subst (λ (x : RunEnd). IsMakingEnd x a b) e h
+
+pub not_serving : {D : Type 0} (g : Ghosts D) (work : Work) (end : RunEnd)
+    (name : List ℕ) (p0 p2 : Option (List ℕ → Place D)) (c0 c2 : ℕ) (l0 l w0 w : Option (List ℕ))
+    → ServesUnder g work name end p0 p2 c0 c2 l0 l w0 w → end ≡ ends.Usage → ⊥
+not_serving g work end name p0 p2 c0 c2 l0 l w0 w h e = subst (λ (x : RunEnd). ServesUnder g work name x p0 p2 c0 c2 l0 l w0 w) e h
 
 -- an input fault has its cause, and so has an output fault
 session_input : (end : SessionEnd) (a b c d : ℕ) → HasCause end a b c d → session_status end ≡ 2 → Rose a b
@@ -47,14 +70,23 @@ session_input sessions.InputFault a b c d h e = h
 session_input sessions.OutputFault a b c d h e = absurd (cc)
 session_input sessions.NoMemory a b c d h e = absurd (cc)
 
+loading_input : (end : LoadingEnd) (a b c d : ℕ) → LoadingCause end a b c d → loading_status end ≡ 2 → Rose a b
+loading_input loadings.Done a b c d h e = absurd (cc)
+loading_input loadings.InputFault a b c d h e = h
+loading_input loadings.OutputFault a b c d h e = absurd (cc)
+loading_input loadings.NotADocument a b c d h e = absurd (cc)
+loading_input loadings.NoMemory a b c d h e = absurd (cc)
+
 pub input_cause : (end : RunEnd) (a b c d : ℕ) → RunCause end a b c d → status_of end ≡ 2 → Rose a b
 input_cause ends.Made a b c d h e = absurd (cc)
 input_cause ends.Exists a b c d h e = absurd (cc)
 input_cause (ends.Served end) a b c d h e = session_input end a b c d h e
+input_cause (ends.Loaded end) a b c d h e = loading_input end a b c d h e
 input_cause ends.DiskFault a b c d h e = absurd (cc)
 input_cause ends.NotAJournal a b c d h e = absurd (cc)
 input_cause (ends.Damaged at) a b c d h e = absurd (cc)
 input_cause ends.NoMemory a b c d h e = absurd (cc)
+input_cause ends.Usage a b c d h e = absurd (cc)
 
 session_output : (end : SessionEnd) (a b c d : ℕ) → HasCause end a b c d → session_status end ≡ 3 → Rose c d
 session_output sessions.End a b c d h e = absurd (cc)
@@ -64,14 +96,23 @@ session_output sessions.InputFault a b c d h e = absurd (cc)
 session_output sessions.OutputFault a b c d h e = h
 session_output sessions.NoMemory a b c d h e = absurd (cc)
 
+loading_output : (end : LoadingEnd) (a b c d : ℕ) → LoadingCause end a b c d → loading_status end ≡ 3 → Rose c d
+loading_output loadings.Done a b c d h e = absurd (cc)
+loading_output loadings.InputFault a b c d h e = absurd (cc)
+loading_output loadings.OutputFault a b c d h e = h
+loading_output loadings.NotADocument a b c d h e = absurd (cc)
+loading_output loadings.NoMemory a b c d h e = absurd (cc)
+
 pub output_cause : (end : RunEnd) (a b c d : ℕ) → RunCause end a b c d → status_of end ≡ 3 → Rose c d
 output_cause ends.Made a b c d h e = absurd (cc)
 output_cause ends.Exists a b c d h e = absurd (cc)
 output_cause (ends.Served end) a b c d h e = session_output end a b c d h e
+output_cause (ends.Loaded end) a b c d h e = loading_output end a b c d h e
 output_cause ends.DiskFault a b c d h e = absurd (cc)
 output_cause ends.NotAJournal a b c d h e = absurd (cc)
 output_cause (ends.Damaged at) a b c d h e = absurd (cc)
 output_cause ends.NoMemory a b c d h e = absurd (cc)
+output_cause ends.Usage a b c d h e = absurd (cc)
 
 -- a disk fault has its status alone
 session_not_disk : (end : SessionEnd) → session_status end ≢ 4
@@ -82,42 +123,99 @@ session_not_disk sessions.InputFault h = absurd (cc)
 session_not_disk sessions.OutputFault h = absurd (cc)
 session_not_disk sessions.NoMemory h = absurd (cc)
 
+loading_not_disk : (end : LoadingEnd) → loading_status end ≢ 4
+loading_not_disk loadings.Done h = absurd (cc)
+loading_not_disk loadings.InputFault h = absurd (cc)
+loading_not_disk loadings.OutputFault h = absurd (cc)
+loading_not_disk loadings.NotADocument h = absurd (cc)
+loading_not_disk loadings.NoMemory h = absurd (cc)
+
 pub disk_status : (end : RunEnd) → status_of end ≡ 4 → end ≡ ends.DiskFault
 disk_status ends.Made e = absurd (cc)
 disk_status ends.Exists e = absurd (cc)
 disk_status (ends.Served end) e = absurd (session_not_disk end e)
+disk_status (ends.Loaded end) e = absurd (loading_not_disk end e)
 disk_status ends.DiskFault e = refl
 disk_status ends.NotAJournal e = absurd (cc)
 disk_status (ends.Damaged at) e = absurd (cc)
 disk_status ends.NoMemory e = absurd (cc)
+disk_status ends.Usage e = absurd (cc)
 
--- these statuses come before the first request
+-- these statuses come before the input is read
 abbrev IsEarlyStatus : ℕ → Type 0
-IsEarlyStatus n = (n ≡ 4) ⊎ ((n ≡ 5) ⊎ ((n ≡ 6) ⊎ (n ≡ 8)))
+IsEarlyStatus n = (n ≡ 4) ⊎ ((n ≡ 5) ⊎ (n ≡ 8))
 
 -- one of these is none of those
-neither : (n : ℕ) → IsEarlyStatus n → (n ≢ 0) × ((n ≢ 2) × ((n ≢ 3) × ((n ≢ 9) × (n ≢ 10))))
-neither n (inl e) = (λ h. absurd (cc), (λ h. absurd (cc), (λ h. absurd (cc), (λ h. absurd (cc), λ h. absurd (cc)))))
-neither n (inr (inl e)) = (λ h. absurd (cc), (λ h. absurd (cc), (λ h. absurd (cc), (λ h. absurd (cc), λ h. absurd (cc)))))
-neither n (inr (inr (inl e))) = (λ h. absurd (cc), (λ h. absurd (cc), (λ h. absurd (cc), (λ h. absurd (cc), λ h. absurd (cc)))))
-neither n (inr (inr (inr e))) = (λ h. absurd (cc), (λ h. absurd (cc), (λ h. absurd (cc), (λ h. absurd (cc), λ h. absurd (cc)))))
+neither : (n : ℕ) → IsEarlyStatus n → (n ≢ 0) × ((n ≢ 2) × ((n ≢ 3) × ((n ≢ 6) × ((n ≢ 9) × (n ≢ 10)))))
+neither n (inl e) = (λ h. absurd (cc), (λ h. absurd (cc), (λ h. absurd (cc), (λ h. absurd (cc), (λ h. absurd (cc), λ h. absurd (cc))))))
+neither n (inr (inl e)) = (λ h. absurd (cc), (λ h. absurd (cc), (λ h. absurd (cc), (λ h. absurd (cc), (λ h. absurd (cc), λ h. absurd (cc))))))
+neither n (inr (inr e)) = (λ h. absurd (cc), (λ h. absurd (cc), (λ h. absurd (cc), (λ h. absurd (cc), (λ h. absurd (cc), λ h. absurd (cc))))))
 
-session_early : (end : SessionEnd) → IsEarlyStatus (session_status end) → IsEarly (ends.Served end)
-session_early sessions.End h = absurd ((neither 0 h).0 refl)
-session_early (sessions.Malformed at) h = absurd ((neither 9 h).1.1.1.0 refl)
-session_early sessions.Long h = absurd ((neither 10 h).1.1.1.1 refl)
-session_early sessions.InputFault h = absurd ((neither 2 h).1.0 refl)
-session_early sessions.OutputFault h = absurd ((neither 3 h).1.1.0 refl)
-session_early sessions.NoMemory h = tt
+session_early : (end : SessionEnd) → IsEarlyStatus (session_status end) → ⊥
+session_early sessions.End h = (neither 0 h).0 refl
+session_early sessions.InputFault h = (neither 2 h).1.0 refl
+session_early sessions.OutputFault h = (neither 3 h).1.1.0 refl
+session_early sessions.NoMemory h = (neither 6 h).1.1.1.0 refl
+session_early (sessions.Malformed at) h = (neither 9 h).1.1.1.1.0 refl
+session_early sessions.Long h = (neither 10 h).1.1.1.1.1 refl
+
+loading_early : (end : LoadingEnd) → IsEarlyStatus (loading_status end) → ⊥
+loading_early loadings.Done h = (neither 0 h).0 refl
+loading_early loadings.InputFault h = (neither 2 h).1.0 refl
+loading_early loadings.OutputFault h = (neither 3 h).1.1.0 refl
+loading_early loadings.NoMemory h = (neither 6 h).1.1.1.0 refl
+loading_early loadings.NotADocument h = (neither 9 h).1.1.1.1.0 refl
 
 pub early : (end : RunEnd) → IsEarlyStatus (status_of end) → IsEarly end
 early ends.Made h = tt
 early ends.Exists h = tt
-early (ends.Served end) h = session_early end h
+early (ends.Served end) h = absurd (session_early end h)
+early (ends.Loaded end) h = absurd (loading_early end h)
 early ends.DiskFault h = tt
 early ends.NotAJournal h = tt
 early (ends.Damaged at) h = tt
 early ends.NoMemory h = tt
+early ends.Usage h = tt
+
+-- where there was no memory nothing was written, and where none of the input was either it was a session's
+session_memory : (end : SessionEnd) → session_status end ≡ 6 → end ≡ sessions.NoMemory
+session_memory sessions.End e = absurd (cc)
+session_memory sessions.InputFault e = absurd (cc)
+session_memory sessions.OutputFault e = absurd (cc)
+session_memory sessions.NoMemory e = refl
+session_memory (sessions.Malformed at) e = absurd (cc)
+session_memory sessions.Long e = absurd (cc)
+
+loading_memory : (end : LoadingEnd) → loading_status end ≡ 6 → IsUnasked end
+loading_memory loadings.Done e = absurd (cc)
+loading_memory loadings.InputFault e = tt
+loading_memory loadings.OutputFault e = absurd (cc)
+loading_memory loadings.NoMemory e = tt
+loading_memory loadings.NotADocument e = tt
+
+pub unwritten : (end : RunEnd) → status_of end ≡ 6 → IsUnwritten end
+unwritten ends.Made e = tt
+unwritten ends.Exists e = tt
+unwritten (ends.Served end) e = subst (λ (x : SessionEnd). IsUnwritten (ends.Served x)) (sym (session_memory end e)) tt
+unwritten (ends.Loaded end) e = loading_memory end e
+unwritten ends.DiskFault e = tt
+unwritten ends.NotAJournal e = tt
+unwritten (ends.Damaged at) e = tt
+unwritten ends.NoMemory e = tt
+unwritten ends.Usage e = tt
+
+pub unserved : {D : Type 0} (g : Ghosts D) (end : RunEnd)
+    (name : List ℕ) (p0 p2 : Option (List ℕ → Place D)) (c0 c2 : ℕ) (l0 l w0 w : Option (List ℕ))
+    → ServesUnder g Session name end p0 p2 c0 c2 l0 l w0 w → status_of end ≡ 6 → IsEarly end
+unserved g ends.Made name p0 p2 c0 c2 l0 l w0 w h e = tt
+unserved g ends.Exists name p0 p2 c0 c2 l0 l w0 w h e = tt
+unserved g (ends.Served end) name p0 p2 c0 c2 l0 l w0 w h e = subst (λ (x : SessionEnd). IsEarly (ends.Served x)) (sym (session_memory end e)) tt
+unserved g (ends.Loaded end) name p0 p2 c0 c2 l0 l w0 w h e = absurd h.2
+unserved g ends.DiskFault name p0 p2 c0 c2 l0 l w0 w h e = tt
+unserved g ends.NotAJournal name p0 p2 c0 c2 l0 l w0 w h e = tt
+unserved g (ends.Damaged at) name p0 p2 c0 c2 l0 l w0 w h e = tt
+unserved g ends.NoMemory name p0 p2 c0 c2 l0 l w0 w h e = tt
+unserved g ends.Usage name p0 p2 c0 c2 l0 l w0 w h e = tt
 
 -- two facts of what is there
 both : (o : Option (List ℕ)) (P Q : List ℕ → Type 0) → IfSome o P → IsSomeAnd o Q → (bytes : List ℕ) × P bytes × Q bytes
@@ -127,7 +225,7 @@ both (Some bytes) P Q p q = (bytes, p, q)
 -- where a journal may be made, none stands there already, and nothing that is none
 at_kept : {D : Type 0} (g : Ghosts D) (end : RunEnd) (before after : Place D)
     → MakesAt g end before after → IsSomeAnd (bytes_found g before) (λ bytes. (¬ IsTaken bytes) × (¬ IsForeign bytes))
-    → (end ≡ ends.DiskFault) ⊎ ((bytes : List ℕ) × (disk : D)
+    → ((end ≡ ends.DiskFault) ⊎ (end ≡ ends.NoMemory)) ⊎ ((bytes : List ℕ) × (disk : D)
     × MakesOn g bytes (images_found g before) end disk × ((¬ IsTaken bytes) × (¬ IsForeign bytes)))
 at_kept g end before after (inl h) room = inl h.0
 at_kept g end before Free (inr h) room = absurd h
@@ -139,41 +237,41 @@ at_kept g end before (Kept disk) (inr h) room =
 
 makes_there : {D : Type 0} (g : Ghosts D) (end : RunEnd) (name : List ℕ)
     (p0 p2 : Option (List ℕ → Place D)) → Makes g end name p0 p2 → HasRoom g name p0
-    → (images : List ℕ → Type 0) × ((end ≡ ends.DiskFault) ⊎ ((bytes : List ℕ) × (disk : D)
+    → (images : List ℕ → Type 0) × (((end ≡ ends.DiskFault) ⊎ (end ≡ ends.NoMemory)) ⊎ ((bytes : List ℕ) × (disk : D)
     × MakesOn g bytes images end disk × ((¬ IsTaken bytes) × (¬ IsForeign bytes))))
 makes_there g end name None p2 makes room = absurd room
 makes_there g end name (Some b) None makes room = absurd makes
 makes_there g end name (Some b) (Some a) makes room =
     (images_found g (b name), at_kept g end (b name) (a name) makes.0 room)
 
+-- so it is made, or the disk failed
 made_there : {D : Type 0} (g : Ghosts D) (end : RunEnd) (bytes : List ℕ)
-    (images : List ℕ → Type 0) (disk : D) → MakesOn g bytes images end disk
-    → (¬ IsTaken bytes) × (¬ IsForeign bytes) → (end ≡ ends.Made) ⊎ (end ≡ ends.DiskFault)
-made_there g ends.Made bytes images disk h room = inl refl
-made_there g ends.Exists bytes images disk h room = absurd (room.0 h.0)
-made_there g ends.NotAJournal bytes images disk h room = absurd (room.1 h.0)
-made_there g ends.DiskFault bytes images disk h room = inr refl
-made_there g (ends.Served end) bytes images disk h room = absurd h
-made_there g (ends.Damaged at) bytes images disk h room = absurd h
-made_there g ends.NoMemory bytes images disk h room = absurd h
+    (images : List ℕ → Type 0) (disk : D) (c0 c2 : ℕ) → MakesOn g bytes images end disk
+    → (¬ IsTaken bytes) × (¬ IsForeign bytes) → IsMakingEnd end c0 c2 → ¬ (Rose c0 c2) → status_of end ≡ 0
+made_there g ends.Made bytes images disk c0 c2 h room cause calm = refl
+made_there g ends.Exists bytes images disk c0 c2 h room cause calm = absurd (room.0 h.0)
+made_there g ends.NotAJournal bytes images disk c0 c2 h room cause calm = absurd (room.1 h.0)
+made_there g ends.DiskFault bytes images disk c0 c2 h room cause calm = absurd (calm cause)
+made_there g (ends.Served end) bytes images disk c0 c2 h room cause calm = absurd h
+made_there g (ends.Loaded end) bytes images disk c0 c2 h room cause calm = absurd h
+made_there g (ends.Damaged at) bytes images disk c0 c2 h room cause calm = absurd h
+made_there g ends.NoMemory bytes images disk c0 c2 h room cause calm = absurd h
+made_there g ends.Usage bytes images disk c0 c2 h room cause calm = absurd h
 
-made_or_failed : {D : Type 0} (g : Ghosts D) (end : RunEnd) (images : List ℕ → Type 0)
-    → (end ≡ ends.DiskFault) ⊎ ((bytes : List ℕ) × (disk : D)
+made_or_not : {D : Type 0} (g : Ghosts D) (end : RunEnd) (images : List ℕ → Type 0) (c0 c2 : ℕ)
+    → ((end ≡ ends.DiskFault) ⊎ (end ≡ ends.NoMemory)) ⊎ ((bytes : List ℕ) × (disk : D)
     × MakesOn g bytes images end disk × ((¬ IsTaken bytes) × (¬ IsForeign bytes)))
-    → (end ≡ ends.Made) ⊎ (end ≡ ends.DiskFault)
-made_or_failed g end images (inl e) = inr e
-made_or_failed g end images (inr h) = made_there g end h.0 images h.1 h.2 h.3
-
-by_cause : (end : RunEnd) (c0 c2 : ℕ) → (end ≡ ends.Made) ⊎ (end ≡ ends.DiskFault) → IsMakingEnd end c0 c2 → ¬ (Rose c0 c2) → status_of end ≡ 0
-by_cause end c0 c2 (inl e) h calm = ap status_of e
-by_cause end c0 c2 (inr e) h calm = absurd (calm (subst (λ (x : RunEnd). IsMakingEnd x c0 c2) e h))
+    → IsMakingEnd end c0 c2 → ¬ (Rose c0 c2) → (status_of end ≡ 0) ⊎ (status_of end ≡ 6)
+made_or_not g end images c0 c2 (inl (inl e)) cause calm = absurd (calm (subst (λ (x : RunEnd). IsMakingEnd x c0 c2) e cause))
+made_or_not g end images c0 c2 (inl (inr e)) cause calm = inr (ap status_of e)
+made_or_not g end images c0 c2 (inr h) cause calm = inl (made_there g end h.0 images h.1 c0 c2 h.2 h.3 cause calm)
 
 pub completes_init : {D : Type 0} (g : Ghosts D) (end : RunEnd) (name : List ℕ)
     (p0 p2 : Option (List ℕ → Place D)) (c0 c2 : ℕ)
-    → Makes g end name p0 p2 → IsMakingEnd end c0 c2 → HasRoom g name p0 → ¬ (Rose c0 c2) → status_of end ≡ 0
+    → Makes g end name p0 p2 → IsMakingEnd end c0 c2 → HasRoom g name p0 → ¬ (Rose c0 c2) → (status_of end ≡ 0) ⊎ (status_of end ≡ 6)
 completes_init g end name p0 p2 c0 c2 makes h room calm =
     let there = makes_there g end name p0 p2 makes room in
-    by_cause end c0 c2 (made_or_failed g end there.0 there.1) h calm
+    made_or_not g end there.0 c0 c2 there.1 h calm
 
 -- no input that is well formed ends as malformed or too long
 not_malformed : (h after : History) (at : ℕ) (l0 l w0 w : Option (List ℕ))
@@ -229,18 +327,87 @@ not_stays g name P None p2 sound stays never = sound
 not_stays g name P (Some b) None sound stays never = stays
 not_stays g name P (Some b) (Some a) sound stays never = never (b name) sound stays.0
 
-pub completes : {D : Type 0} (g : Ghosts D) (end : RunEnd)
-    (name : List ℕ) (p0 p2 : Option (List ℕ → Place D)) (c0 c2 : ℕ) (l0 l w0 w : Option (List ℕ)) (a b c d : ℕ)
-    → ServesUnder g name end p0 p2 c0 c2 l0 l w0 w → RunCause end a b c d → HasSound g name p0
-    → IsSomeAnd l0 IsWellFormed → IsSome w0 → ¬ (Rose a b) → ¬ (Rose c d) → ¬ (Rose c0 c2)
-    → (status_of end ≡ 0) ⊎ (status_of end ≡ 6)
-completes g ends.Made name p0 p2 c0 c2 l0 l w0 w a b c d h cause sound formed told calm still quiet = absurd h
-completes g ends.Exists name p0 p2 c0 c2 l0 l w0 w a b c d h cause sound formed told calm still quiet = absurd h
-completes g (ends.Served end) name p0 p2 c0 c2 l0 l w0 w a b c d h cause sound formed told calm still quiet =
-    session_completes end (reopen usual h.0) h.1 l0 l w0 w a b c d h.2 cause formed told calm still
-completes g ends.DiskFault name p0 p2 c0 c2 l0 l w0 w a b c d h cause sound formed told calm still quiet = absurd (quiet h.1)
-completes g ends.NotAJournal name p0 p2 c0 c2 l0 l w0 w a b c d h cause sound formed told calm still quiet =
+-- no document is none
+not_no_document : (h after : History) (l0 l w0 w : Option (List ℕ))
+    → IsLoaded h after loadings.NotADocument l0 l w0 w → IsSomeAnd l0 IsDocument → IsSome w0 → ⊥
+not_no_document h after None l w0 w loaded stated told = stated
+not_no_document h after (Some input) None w0 w loaded stated told = loaded
+not_no_document h after (Some input) (Some left) None w loaded stated told = absurd (cc)
+not_no_document h after (Some input) (Some left) (Some before) w loaded stated told = loaded.2.ends.0 stated.0 stated.1
+
+loading_completes : (end : LoadingEnd) (h after : History) (l0 l w0 w : Option (List ℕ)) (a b c d : ℕ)
+    → IsLoaded h after end l0 l w0 w → LoadingCause end a b c d → IsSomeAnd l0 IsDocument → IsSome w0
+    → ¬ (Rose a b) → ¬ (Rose c d) → (loading_status end ≡ 0) ⊎ (loading_status end ≡ 6)
+loading_completes loadings.Done h after l0 l w0 w a b c d loaded cause stated told calm still = inl refl
+loading_completes loadings.InputFault h after l0 l w0 w a b c d loaded cause stated told calm still = absurd (calm cause)
+loading_completes loadings.OutputFault h after l0 l w0 w a b c d loaded cause stated told calm still = absurd (still cause)
+loading_completes loadings.NotADocument h after l0 l w0 w a b c d loaded cause stated told calm still =
+    absurd (not_no_document h after l0 l w0 w loaded stated told)
+loading_completes loadings.NoMemory h after l0 l w0 w a b c d loaded cause stated told calm still = inr refl
+
+-- a run over a sound journal ends as what is done over the office does, or for want of memory
+opens_sound : {D : Type 0} (g : Ghosts D) (work : Work) (end : RunEnd)
+    (name : List ℕ) (p0 p2 : Option (List ℕ → Place D)) (c0 c2 : ℕ) (l0 l w0 w : Option (List ℕ))
+    → ServesUnder g work name end p0 p2 c0 c2 l0 l w0 w → HasSound g name p0 → ¬ (Rose c0 c2)
+    → ((h after : History) × IsWorked end work h after l0 l w0 w) ⊎ (status_of end ≡ 6)
+opens_sound g work ends.Made name p0 p2 c0 c2 l0 l w0 w h sound quiet = absurd h
+opens_sound g work ends.Exists name p0 p2 c0 c2 l0 l w0 w h sound quiet = absurd h
+opens_sound g work (ends.Served end) name p0 p2 c0 c2 l0 l w0 w h sound quiet = inl (reopen usual h.0, h.1, h.2)
+opens_sound g work (ends.Loaded end) name p0 p2 c0 c2 l0 l w0 w h sound quiet = inl (reopen usual h.0, h.1, h.2)
+opens_sound g work ends.DiskFault name p0 p2 c0 c2 l0 l w0 w h sound quiet = absurd (quiet h.1)
+opens_sound g work ends.NotAJournal name p0 p2 c0 c2 l0 l w0 w h sound quiet =
     absurd (not_stays g name (IfKept (λ disk. IfSome (g.content disk) (λ bytes. ¬ HasHeader bytes))) p0 p2 sound h (sound_header g))
-completes g (ends.Damaged at) name p0 p2 c0 c2 l0 l w0 w a b c d h cause sound formed told calm still quiet =
+opens_sound g work (ends.Damaged at) name p0 p2 c0 c2 l0 l w0 w h sound quiet =
     absurd (not_stays g name (HasKept (λ disk. IfSome (g.content disk) (IsDamagedFor usual at))) p0 p2 sound h (λ place. sound_whole g place at))
-completes g ends.NoMemory name p0 p2 c0 c2 l0 l w0 w a b c d h cause sound formed told calm still quiet = inr refl
+opens_sound g work ends.NoMemory name p0 p2 c0 c2 l0 l w0 w h sound quiet = inr refl
+opens_sound g work ends.Usage name p0 p2 c0 c2 l0 l w0 w h sound quiet = absurd h
+
+session_worked : (end : RunEnd) (h after : History) (l0 l w0 w : Option (List ℕ)) (a b c d : ℕ)
+    → IsWorked end Session h after l0 l w0 w → RunCause end a b c d
+    → IsSomeAnd l0 IsWellFormed → IsSome w0 → ¬ (Rose a b) → ¬ (Rose c d)
+    → (status_of end ≡ 0) ⊎ (status_of end ≡ 6)
+session_worked ends.Made h after l0 l w0 w a b c d worked cause formed told calm still = absurd worked
+session_worked ends.Exists h after l0 l w0 w a b c d worked cause formed told calm still = absurd worked
+session_worked (ends.Served end) h after l0 l w0 w a b c d worked cause formed told calm still =
+    session_completes end h after l0 l w0 w a b c d worked cause formed told calm still
+session_worked (ends.Loaded end) h after l0 l w0 w a b c d worked cause formed told calm still = absurd worked
+session_worked ends.DiskFault h after l0 l w0 w a b c d worked cause formed told calm still = absurd worked
+session_worked ends.NotAJournal h after l0 l w0 w a b c d worked cause formed told calm still = absurd worked
+session_worked (ends.Damaged at) h after l0 l w0 w a b c d worked cause formed told calm still = absurd worked
+session_worked ends.NoMemory h after l0 l w0 w a b c d worked cause formed told calm still = absurd worked
+session_worked ends.Usage h after l0 l w0 w a b c d worked cause formed told calm still = absurd worked
+
+loading_worked : (end : RunEnd) (h after : History) (l0 l w0 w : Option (List ℕ)) (a b c d : ℕ)
+    → IsWorked end Loading h after l0 l w0 w → RunCause end a b c d
+    → IsSomeAnd l0 IsDocument → IsSome w0 → ¬ (Rose a b) → ¬ (Rose c d)
+    → (status_of end ≡ 0) ⊎ (status_of end ≡ 6)
+loading_worked ends.Made h after l0 l w0 w a b c d worked cause stated told calm still = absurd worked
+loading_worked ends.Exists h after l0 l w0 w a b c d worked cause stated told calm still = absurd worked
+loading_worked (ends.Served end) h after l0 l w0 w a b c d worked cause stated told calm still = absurd worked
+loading_worked (ends.Loaded end) h after l0 l w0 w a b c d worked cause stated told calm still =
+    loading_completes end h after l0 l w0 w a b c d worked cause stated told calm still
+loading_worked ends.DiskFault h after l0 l w0 w a b c d worked cause stated told calm still = absurd worked
+loading_worked ends.NotAJournal h after l0 l w0 w a b c d worked cause stated told calm still = absurd worked
+loading_worked (ends.Damaged at) h after l0 l w0 w a b c d worked cause stated told calm still = absurd worked
+loading_worked ends.NoMemory h after l0 l w0 w a b c d worked cause stated told calm still = absurd worked
+loading_worked ends.Usage h after l0 l w0 w a b c d worked cause stated told calm still = absurd worked
+
+module _ {D : Type 0} (g : Ghosts D) (end : RunEnd)
+    (name : List ℕ) (p0 p2 : Option (List ℕ → Place D)) (c0 c2 : ℕ) (l0 l w0 w : Option (List ℕ)) (a b c d : ℕ) where
+  pub completes : ServesUnder g Session name end p0 p2 c0 c2 l0 l w0 w → RunCause end a b c d → HasSound g name p0
+      → IsSomeAnd l0 IsWellFormed → IsSome w0 → ¬ (Rose a b) → ¬ (Rose c d) → ¬ (Rose c0 c2)
+      → (status_of end ≡ 0) ⊎ (status_of end ≡ 6)
+  completes serves cause sound formed told calm still quiet =
+      elim (opens_sound g Session end name p0 p2 c0 c2 l0 l w0 w serves sound quiet) [
+        | inl h ↦ session_worked end h.0 h.1 l0 l w0 w a b c d h.2 cause formed told calm still
+        | inr e ↦ inr e
+      ]
+
+  pub completes_loading : ServesUnder g Loading name end p0 p2 c0 c2 l0 l w0 w → RunCause end a b c d → HasSound g name p0
+      → IsSomeAnd l0 IsDocument → IsSome w0 → ¬ (Rose a b) → ¬ (Rose c d) → ¬ (Rose c0 c2)
+      → (status_of end ≡ 0) ⊎ (status_of end ≡ 6)
+  completes_loading serves cause sound stated told calm still quiet =
+      elim (opens_sound g Loading end name p0 p2 c0 c2 l0 l w0 w serves sound quiet) [
+        | inl h ↦ loading_worked end h.0 h.1 l0 l w0 w a b c d h.2 cause stated told calm still
+        | inr e ↦ inr e
+      ]

@@ -1,8 +1,6 @@
-pub mod Commands
 pub mod Making
 pub mod Places
 pub mod RunEnds
 pub mod Serving
 pub mod Statuses
 pub mod Top
-pub mod Words

@@ -9,7 +9,7 @@ use Rattle.journal.specs.declared.making.InitFault.{InitFault}
 use Rattle.journal.specs.declared.making.InitFault.TheVariants as making
 use Rattle.commands.specs.Places.{HasKept, bytes_found, images_found}
 use Rattle.commands.specs.declared.runs.RunEnd.{RunEnd}
-use Rattle.commands.specs.declared.runs.RunEnd.TheVariants.{Made, Served, Exists, DiskFault, NotAJournal, Damaged, NoMemory}
+use Rattle.commands.specs.declared.runs.RunEnd.TheVariants.{Made, Served, Loaded, Exists, DiskFault, NotAJournal, Damaged, NoMemory, Usage}
 
 module _ {D : Type 0} (g : Ghosts D) where
   -- the making of a journal answered so, and left the disk so
@@ -25,8 +25,10 @@ module _ {D : Type 0} (g : Ghosts D) where
   MakesOn bytes images DiskFault disk =
       InitLeaves {T = Unit {0}} bytes (g.content disk) images (g.may_leave disk) (Err making.Fault)
   MakesOn bytes images (Served end) disk = ⊥
+  MakesOn bytes images (Loaded end) disk = ⊥
   MakesOn bytes images (Damaged at) disk = ⊥
   MakesOn bytes images NoMemory disk = ⊥
+  MakesOn bytes images Usage disk = ⊥
 
 -- the ends that there are, and the cause of a fault
 abbrev pub IsMakingEnd : RunEnd → ℕ → ℕ → Type 0
@@ -35,8 +37,10 @@ IsMakingEnd Exists before now = ⊤
 IsMakingEnd NotAJournal before now = ⊤
 IsMakingEnd DiskFault before now = Rose before now
 IsMakingEnd (Served end) before now = ⊥
+IsMakingEnd (Loaded end) before now = ⊥
 IsMakingEnd (Damaged at) before now = ⊥
-IsMakingEnd NoMemory before now = ⊥
+IsMakingEnd NoMemory before now = ⊤
+IsMakingEnd Usage before now = ⊥
 
 -- what a stop at some moment of the making leaves, over this content, of which it might have left these images before, by the
 -- answer of the making
@@ -46,8 +50,10 @@ IsLeftByMaking content images Exists image = IsLeftByInit {T = Unit {0}} content
 IsLeftByMaking content images NotAJournal image = IsLeftByInit {T = Unit {0}} content images (Err making.NotAJournal) image
 IsLeftByMaking content images DiskFault image = IsLeftByInit {T = Unit {0}} content images (Err making.Fault) image
 IsLeftByMaking content images (Served end) image = ⊥
+IsLeftByMaking content images (Loaded end) image = ⊥
 IsLeftByMaking content images (Damaged at) image = ⊥
 IsLeftByMaking content images NoMemory image = ⊥
+IsLeftByMaking content images Usage image = ⊥
 
 module _ {D : Type 0} (g : Ghosts D) where
   -- a stop at any moment of a run leaves an image that has P: of a disk that was under the name, at any moment since then,
@@ -58,10 +64,10 @@ module _ {D : Type 0} (g : Ghosts D) where
   LeavesAt P Out disk = (image : List ℕ) → g.left_since disk 0 image → P image
 
   -- The disk that was found or made is under its name, as its end says, and so is what a stop at any moment of the run left.
-  -- But where the cabinet failed the place is as before.
+  -- But where the cabinet failed, or there was no memory for the words, the place is as before.
   abbrev pub MakesAt : RunEnd → Place D → Place D → Type 0
   MakesAt end before after =
-      ((end ≡ DiskFault) × (after ≡ before))
+      (((end ≡ DiskFault) ⊎ (end ≡ NoMemory)) × (after ≡ before))
       ⊎ HasKept (λ disk. IfSome (bytes_found g before) (λ bytes. MakesOn g bytes (images_found g before) end disk)
       × LeavesAt (IsLeftByMaking (bytes_found g before) (images_found g before) end) before disk) after
 

@@ -2,6 +2,7 @@
 use Rattle.std.specs.Prelude.{◌≡◌, ◌⊎◌, ℕ, ◌<◌, List, ◌++◌, length, Option, IfSome, IsSomeAnd}
 use Rattle.devices.specs.declared.disks.Disk.{Ghosts}
 use Rattle.devices.specs.Cabinets.{Place}
+use Rattle.command_words.specs.Words.{Asked, Trial}
 use Rattle.devices.specs.Faults.{Rose}
 use Rattle.journal.specs.JournalBytes.{HasHeader, IsTaken, IsForeign}
 use Rattle.office.specs.Openings.{IsDamagedFor}
@@ -14,6 +15,9 @@ use Rattle.commands.specs.Making.{IsMakingEnd, Makes}
 use Rattle.commands.specs.Serving.{ServesUnder, usual}
 use Rattle.commands.specs.Statuses.{status_of, line_of}
 use Rattle.commands.specs.declared.runs.RunEnd.{RunEnd}
+use Rattle.commands.specs.declared.runs.Work.{Work}
+use Rattle.edits.specs.declared.content.Edit.{Edit}
+use Rattle.station_documents.specs.Documents.{StatesStations}
 
 -- the sink of faults has the line at its end, or where it failed a front of it
 abbrev pub IsReported : List ℕ → Option (List ℕ) → Option (List ℕ) → ℕ → ℕ → Type 0
@@ -32,22 +36,30 @@ pub record RunsInit {D : Type 0} (g : Ghosts D) (name : List ℕ) (status : ℕ)
   pub ends : IsMakingEnd end before now
   pub makes : Makes g end name places_before places_after
 
--- A run of `batch`: how it ended, its status, its line, what was read and written, what is under the name then, and what
--- a stop at any moment of the run left there.
-pub record RunsBatch {D : Type 0} (g : Ghosts D)
+-- A run over a journal, as that of `batch` or of `stations`: how it ended, its status, its line, what was read and written, what is
+-- under the name then, and what a stop at any moment of the run left there.
+pub record RunsOver {D : Type 0} (g : Ghosts D) (work : Work)
     (name : List ℕ) (status : ℕ) (places_before places_after : Option (List ℕ → Place D)) (before now : ℕ)
     (left_before left_after written_before written_after : Option (List ℕ))
     (told_before told_after : Option (List ℕ)) (faults_before faults_now : ℕ) : Type 0 where
   pub end : RunEnd
   pub status_is : status ≡ status_of end
   pub line_is : IsReported (line_of end) told_before told_after faults_before faults_now
-  pub serves : ServesUnder g name end places_before places_after before now
+  pub serves : ServesUnder g work name end places_before places_after before now
       left_before left_after written_before written_after
 
 -- an input of fewer bytes than may be taken of a stream, in which no message is malformed
 pub record IsWellFormed (input : List ℕ) : Type 0 where
   pub short : length input < STREAM_BYTES
   pub whole : (messages : List Message) (rest : List ℕ) → AreMessages input messages rest → ¬ (IsMalformed rest)
+
+-- of all that words can ask, a trial is not run yet
+abbrev pub IsNotRun : Asked → Type 0
+IsNotRun asked = (number : ℕ) × (asked ≡ Trial number)
+
+-- the input is a document of stations
+abbrev pub IsDocument : List ℕ → Type 0
+IsDocument input = (edits : List Edit) × StatesStations input edits
 
 -- a journal that is not damaged: at no gate a record is missing, or stands that is not accepted behind those before it
 pub record IsSound (bytes : List ℕ) : Type 0 where

@@ -1,8 +1,7 @@
-//! The commands of the program: a journal is made, or the messages of an input are served over one.
+//! The commands of the program: a journal is made, or the messages of an input are served over one, or a document's stations are added.
 #![tactic(auto)]
 
 mod runs;
 pub mod top;
-mod words;
 
 pub use top::run_office;

@@ -1,13 +1,14 @@
 //! The commands, over a cabinet of disks. Each disk that the cabinet gives is kept under its name again.
 
 ghost use Rattle.std.specs.Prelude.{◌≡◌, ◌≢◌, ◌≤◌, ◌⊎◌, List, IfSome, IsSomeAnd, OnOk, Ok, Err, ⊤};
+ghost use Rattle.desk.specs.Passing.{Passes};
 ghost use Rattle.devices.specs.Faults.{Rose};
 ghost use Rattle.journal.specs.Moments.{LeavesOnly};
 ghost use Rattle.journal.specs.declared.making.InitFault.{InitFault};
-ghost use Rattle.desk.specs.Sessions.{HasCause};
+ghost use Rattle.register.specs.Registered.{NoneOut};
 ghost use Rattle.commands.specs.Making.{MakesOn, IsLeftByMaking, IsMakingEnd, Makes};
-ghost use Rattle.commands.specs.Serving.{ServesDisk, ServesUnder};
-ghost use Rattle.commands.specs.RunEnds.{making_end, opening_end, IsEarly, RunCause};
+ghost use Rattle.commands.specs.Serving.{IsWorked, ServesDisk, ServesUnder};
+ghost use Rattle.commands.specs.RunEnds.{making_end, opening_end, IsEarly, IsUnwritten, RunCause};
 
 use desk::{SessionEnd, session};
 use devices::{Cabinet, Disk, Opened, Sink, Source};
@@ -15,7 +16,17 @@ use journal::{InitFault, OpenFault};
 use office::Office;
 use office::laws::an_office_stands_on_its_disk;
 use office_inputs::Limits;
+use station_loading::{LoadingEnd, load_stations};
 use std::alloc::Global;
+
+/// What is done over an office.
+#[derive(Clone, Copy, Debug, PartialEq, Eq)]
+pub(crate) enum Work {
+    /// The messages of the input are replied to.
+    Session,
+    /// The stations of the document on the input are added.
+    Loading,
+}
 
 /// How a run ended.
 #[derive(Clone, Copy, Debug, PartialEq, Eq)]
@@ -26,14 +37,18 @@ pub enum RunEnd {
     Exists,
     /// A journal was opened, and the session over it ended so.
     Served(SessionEnd),
+    /// A journal was opened, and the loading of a document over it ended so.
+    Loaded(LoadingEnd),
     /// The cabinet or a disk failed while a journal was made or opened.
     DiskFault,
     /// What stands there is no journal, or nothing does.
     NotAJournal,
     /// The journal is damaged at this offset.
     Damaged(u64),
-    /// There was no memory to open the journal.
+    /// There was no memory to open the journal, or for the words.
     NoMemory,
+    /// The words are no command, or one that is not run yet.
+    Usage,
 }
 
 /// Makes a journal of no records under a name.
@@ -74,23 +89,25 @@ fn end_of_making(made: Result<(), InitFault>) -> RunEnd
     }
 }
 
-/// Serves the requests of an input over the journal under a name. The journal is opened before the input is read.
-pub(crate) fn serve_batch<C: Cabinet, S: Source, K: Sink>(
+/// Works over the journal under a name. The journal is opened before the input is read.
+pub(crate) fn work_under<C: Cabinet, S: Source, K: Sink>(
     alloc: Global,
     cabinet: &mut C,
     name: &str,
+    work: Work,
     input: &mut S,
     output: &mut K,
 ) -> RunEnd
-    ensures serves { ServesUnder C.Disk.Disk name.now result
+    ensures serves { ServesUnder C.Disk.Disk work name.now result
         (C.places cabinet.old) (C.places cabinet.new)
         (C.faults cabinet.old) (C.faults cabinet.new) (S.left input.old) (S.left input.new) (K.written output.old) (K.written output.new) }
     ensures cause { RunCause result (S.faults input.old) (S.faults input.new) (K.faults output.old) (K.faults output.new) }
     ensures unserved { IsEarly result → (input.new ≡ input.old) × (output.new ≡ output.old) }
+    ensures unwritten { IsUnwritten result → output.new ≡ output.old }
 {
     match cabinet.open(name, false) {
         Opened::Disk(disk) => {
-            let (end, left) = serve_disk(alloc, disk, input, output);
+            let (end, left) = work_on(alloc, disk, work, input, output);
             cabinet.keep(name, left);
             end
         }
@@ -99,26 +116,51 @@ pub(crate) fn serve_batch<C: Cabinet, S: Source, K: Sink>(
     }
 }
 
-/// Serves the requests of an input over the journal on a disk, which is given back.
-fn serve_disk<D: Disk, S: Source, K: Sink>(
+/// Works over the journal on a disk, which is given back.
+fn work_on<D: Disk, S: Source, K: Sink>(
     alloc: Global,
     disk: D,
+    work: Work,
     input: &mut S,
     output: &mut K,
 ) -> (RunEnd, D)
     requires { D.faults disk ≡ 0 }
-    ensures serves { ServesDisk D.Disk result.0 disk result.1
+    ensures serves { ServesDisk D.Disk work result.0 disk result.1
         (S.left input.old) (S.left input.new) (K.written output.old) (K.written output.new) }
     ensures cause { RunCause result.0 (S.faults input.old) (S.faults input.new) (K.faults output.old) (K.faults output.new) }
     ensures unserved { IsEarly result.0 → (input.new ≡ input.old) × (output.new ≡ output.old) }
+    ensures unwritten { IsUnwritten result.0 → output.new ≡ output.old }
 {
     match Office::open(alloc, disk, Limits::usual()) {
         Ok(mut office) => {
-            let end = session(alloc, &mut office, input, output);
+            let end = work_over(alloc, &mut office, work, input, output);
             an_office_stands_on_its_disk(&office);
-            (RunEnd::Served(end), office.close())
+            (end, office.close())
         }
         Err(refused) => (end_of_opening(refused.fault), refused.disk),
+    }
+}
+
+/// Works over an office.
+fn work_over<D: Disk, S: Source, K: Sink>(
+    alloc: Global,
+    office: &mut Office<D>,
+    work: Work,
+    input: &mut S,
+    output: &mut K,
+) -> RunEnd
+    requires { NoneOut office.old.register }
+    ensures worked { IsWorked result work office.old.register.history office.new.register.history
+        (S.left input.old) (S.left input.new) (K.written output.old) (K.written output.new) }
+    ensures passed { Passes D.Disk office.old.register.history office.new.register.history office.old.disk office.new.disk }
+    ensures disk_counted { D.faults office.old.disk ≤ D.faults office.new.disk }
+    ensures cause { RunCause result (S.faults input.old) (S.faults input.new) (K.faults output.old) (K.faults output.new) }
+    ensures unserved { IsEarly result → (input.new ≡ input.old) × (output.new ≡ output.old) }
+    ensures unwritten { IsUnwritten result → output.new ≡ output.old }
+{
+    match work {
+        Work::Session => RunEnd::Served(session(alloc, office, input, output)),
+        Work::Loading => RunEnd::Loaded(load_stations(alloc, office, input, output)),
     }
 }
 

@@ -1,32 +1,35 @@
 //! The call that the program makes.
 
-ghost use Rattle.std.specs.Prelude.{◌≡◌, ◌⊎◌, ◌↔◌, ◌≤◌, ◌++◌, ◌∷◌, [], true, false, ℕ, List, decimal, map, string_bytes, IsSome, IsSomeAnd};
+ghost use Rattle.std.specs.Prelude.{◌≡◌, ◌⊎◌, ◌≤◌, ◌++◌, ◌∷◌, [], true, false, ℕ, List, decimal, map, string_bytes, IsSome, IsSomeAnd};
 ghost use Rattle.devices.specs.Faults.{Rose};
-ghost use Rattle.commands.specs.Commands.{asked_by};
 ghost use Rattle.commands.specs.Statuses as endings;
 ghost use Rattle.commands.specs.Statuses.{status_of, line_of, usage_line};
 ghost use Rattle.commands.specs.Making.{IsMakingEnd, Makes};
-ghost use Rattle.commands.specs.RunEnds.{IsEarly, RunCause};
+ghost use Rattle.commands.specs.RunEnds.{IsEarly, IsUnwritten, RunCause};
 ghost use Rattle.devices.specs.Sinks.{AreWritten};
 ghost use Rattle.commands.specs.Serving.{ServesUnder};
-ghost use Rattle.commands.specs.Top.{IsReported, RunsInit, RunsBatch, IsWellFormed, HasSound, HasRoom};
-ghost use Rattle.commands.specs.Words.{Asked, Init, Batch, IsAsked};
+ghost use Rattle.command_words.specs.Commands.{asked_by};
+ghost use Rattle.command_words.specs.Words.{Asked, Init, Batch, Stations, Trial, IsAsked};
+ghost use Rattle.commands.specs.Top.{IsReported, RunsInit, RunsOver, IsDocument, IsNotRun, IsWellFormed, HasSound, HasRoom};
+ghost use Rattle.commands.specs.declared.runs.Work.TheVariants.{Session, Loading};
 
-use crate::runs::{RunEnd, make_journal, serve_batch};
-use crate::words::{Command, read_words};
+use crate::runs::{RunEnd, Work, make_journal, work_under};
+use command_words::{Command, WordsFault, read_words};
 use desk::SessionEnd;
 use devices::{Cabinet, Sink, Source, put_all};
+use station_loading::LoadingEnd;
 use std::alloc::Global;
 
-/// Runs the command that the words name: `init` makes a journal under a name of the cabinet, and `batch` reads requests
-/// to the input's end and writes the replies, with each edit in the journal before its reply.
+/// Runs the command that the words name: `init` makes a journal under a name of the cabinet, `batch` reads requests to the input's end
+/// and writes the replies, with each edit in the journal before its reply, and `stations` adds the stations of the document on the input
+/// and writes a line of each. A trial is not run yet: its words are told as those that are no command.
 ///
 /// The runtime is for commands that wait or start threads; these do neither. What is answered is the status of the
 /// program: 0 where the command is done, for `batch` at the input's end; 1 where the words are no command; 2 and 3 where
 /// the input or the output failed; 4 where the disk failed while the journal was made or opened; 5 where there is no
 /// journal, or a damaged one; 6 where there was no memory to begin; 8 where `init` finds a journal; 9 at what is no well
-/// framed request; 10 where the input has more than 2^36 bytes. A line on `faults` names every status but 0; a sink of
-/// faults that fails changes nothing. A disk that fails at an edit ends nothing: the reply says so, and the run goes on.
+/// framed request, or no document of stations; 10 where the input has more than 2^36 bytes. A line on `faults` names every status but 0; a
+/// sink of faults that fails changes nothing. A disk that fails at an edit ends nothing: the reply or line says so, and the run goes on.
 ///
 /// Each disk that the cabinet gave is under its name again, so its faults show in the cabinet's count.
 pub fn run_office<R, S: Source, K: Sink, E: Sink, C: Cabinet>(
@@ -38,7 +41,8 @@ pub fn run_office<R, S: Source, K: Sink, E: Sink, C: Cabinet>(
     faults: &mut E,
     cabinet: &mut C,
 ) -> u8
-    ensures usage { (result ≡ 1) ↔ ((asked : Asked) → ¬ (IsAsked (map string_bytes words.now) asked)) }
+    ensures usage { result ≡ 1 → (asked : Asked) → IsAsked (map string_bytes words.now) asked → IsNotRun asked }
+    ensures unasked { ((asked : Asked) → ¬ (IsAsked (map string_bytes words.now) asked)) → result ≡ 1 }
     ensures untouched { result ≡ 1 → (input.new ≡ input.old) × (output.new ≡ output.old) × (cabinet.new ≡ cabinet.old) }
     ensures usage_line { result ≡ 1 → IsReported usage_line (E.written faults.old) (E.written faults.new) (E.faults faults.old) (E.faults faults.new) }
 
@@ -53,7 +57,12 @@ pub fn run_office<R, S: Source, K: Sink, E: Sink, C: Cabinet>(
     // leaves what it might have left before; from then on the journal of those accepted up to some point, or of these and
     // one more.
     ensures batch { (name : List ℕ) → IsAsked (map string_bytes words.now) (Batch name)
-        → RunsBatch C.Disk.Disk name result
+        → RunsOver C.Disk.Disk Session name result
+        (C.places cabinet.old) (C.places cabinet.new) (C.faults cabinet.old) (C.faults cabinet.new)
+        (S.left input.old) (S.left input.new) (K.written output.old) (K.written output.new)
+        (E.written faults.old) (E.written faults.new) (E.faults faults.old) (E.faults faults.new) }
+    ensures stations { (name : List ℕ) → IsAsked (map string_bytes words.now) (Stations name)
+        → RunsOver C.Disk.Disk Loading name result
         (C.places cabinet.old) (C.places cabinet.new) (C.faults cabinet.old) (C.faults cabinet.new)
         (S.left input.old) (S.left input.new) (K.written output.old) (K.written output.new)
         (E.written faults.old) (E.written faults.new) (E.faults faults.old) (E.faults faults.new) }
@@ -61,22 +70,35 @@ pub fn run_office<R, S: Source, K: Sink, E: Sink, C: Cabinet>(
     ensures input_fault { result ≡ 2 → Rose (S.faults input.old) (S.faults input.new) }
     ensures output_fault { result ≡ 3 → Rose (K.faults output.old) (K.faults output.new) }
     ensures disk_fault { result ≡ 4 → Rose (C.faults cabinet.old) (C.faults cabinet.new) }
-    ensures unserved { (result ≡ 4) ⊎ ((result ≡ 5) ⊎ ((result ≡ 6) ⊎ (result ≡ 8))) → (input.new ≡ input.old) × (output.new ≡ output.old) }
+    ensures unserved { (result ≡ 4) ⊎ ((result ≡ 5) ⊎ (result ≡ 8)) → (input.new ≡ input.old) × (output.new ≡ output.old) }
+    ensures unserved_batch { (name : List ℕ) → IsAsked (map string_bytes words.now) (Batch name) → result ≡ 6 → (input.new ≡ input.old) × (output.new ≡ output.old) }
+    ensures unwritten { result ≡ 6 → output.new ≡ output.old }
     ensures complete_init { (name : List ℕ) → IsAsked (map string_bytes words.now) (Init name) → HasRoom C.Disk.Disk name (C.places cabinet.old)
-        → ¬ (Rose (C.faults cabinet.old) (C.faults cabinet.new)) → result ≡ 0 }
+        → ¬ (Rose (C.faults cabinet.old) (C.faults cabinet.new)) → (result ≡ 0) ⊎ (result ≡ 6) }
     ensures complete { (name : List ℕ) → IsAsked (map string_bytes words.now) (Batch name) → HasSound C.Disk.Disk name (C.places cabinet.old)
         → IsSomeAnd (S.left input.old) IsWellFormed → IsSome (K.written output.old)
         → ¬ (Rose (S.faults input.old) (S.faults input.new)) → ¬ (Rose (K.faults output.old) (K.faults output.new))
         → ¬ (Rose (C.faults cabinet.old) (C.faults cabinet.new)) → (result ≡ 0) ⊎ (result ≡ 6) }
+    ensures complete_stations { (name : List ℕ) → IsAsked (map string_bytes words.now) (Stations name) → HasSound C.Disk.Disk name (C.places cabinet.old)
+        → IsSomeAnd (S.left input.old) IsDocument → IsSome (K.written output.old)
+        → ¬ (Rose (S.faults input.old) (S.faults input.new)) → ¬ (Rose (K.faults output.old) (K.faults output.new))
+        → ¬ (Rose (C.faults cabinet.old) (C.faults cabinet.new)) → (result ≡ 0) ⊎ (result ≡ 6) }
 {
-    let Some(command) = read_words(words) else {
-        let _told = put_all(
-            faults,
-            b"streamoffice: usage: init, batch, serve, stations or trial\n",
-        );
-        return 1;
-    };
-    let end = run_command(alloc, command, input, output, cabinet);
+    match read_words(alloc, words) {
+        Ok(command) => {
+            let end = run_command(alloc, command, input, output, cabinet);
+            finish(end, faults)
+        }
+        Err(WordsFault::Usage) => finish(RunEnd::Usage, faults),
+        Err(WordsFault::NoMemory) => finish(RunEnd::NoMemory, faults),
+    }
+}
+
+/// The status of a run that ended so, whose line is put.
+fn finish<E: Sink>(end: RunEnd, faults: &mut E) -> u8
+    ensures status { result ≡ status_of end }
+    ensures line { IsReported (line_of end) (E.written faults.old) (E.written faults.new) (E.faults faults.old) (E.faults faults.new) }
+{
     report(end, faults);
     status(end)
 }
@@ -94,15 +116,23 @@ fn run_command<S: Source, K: Sink, C: Cabinet>(
     ensures ends { (name : List ℕ) → asked_by command.entry ≡ Init name → IsMakingEnd result (C.faults cabinet.old) (C.faults cabinet.new) }
     ensures init_alone { (name : List ℕ) → asked_by command.entry ≡ Init name → (input.new ≡ input.old) × (output.new ≡ output.old) }
     ensures serves { (name : List ℕ) → asked_by command.entry ≡ Batch name
-        → ServesUnder C.Disk.Disk name result (C.places cabinet.old) (C.places cabinet.new)
+        → ServesUnder C.Disk.Disk Session name result (C.places cabinet.old) (C.places cabinet.new)
         (C.faults cabinet.old) (C.faults cabinet.new) (S.left input.old) (S.left input.new) (K.written output.old) (K.written output.new) }
+    ensures loads { (name : List ℕ) → asked_by command.entry ≡ Stations name
+        → ServesUnder C.Disk.Disk Loading name result (C.places cabinet.old) (C.places cabinet.new)
+        (C.faults cabinet.old) (C.faults cabinet.new) (S.left input.old) (S.left input.new) (K.written output.old) (K.written output.new) }
+    ensures usage { result ≡ RunEnd.Usage → IsNotRun (asked_by command.entry) }
+    ensures untouched { result ≡ RunEnd.Usage → (input.new ≡ input.old) × (output.new ≡ output.old) × (cabinet.new ≡ cabinet.old) }
     ensures cause { RunCause result (S.faults input.old) (S.faults input.new) (K.faults output.old) (K.faults output.new) }
     ensures disk_cause { result ≡ RunEnd.DiskFault → Rose (C.faults cabinet.old) (C.faults cabinet.new) }
     ensures unserved { IsEarly result → (input.new ≡ input.old) × (output.new ≡ output.old) }
+    ensures unwritten { IsUnwritten result → output.new ≡ output.old }
 {
     match command {
         Command::Init(name) => make_journal(cabinet, name),
-        Command::Batch(name) => serve_batch(alloc, cabinet, name, input, output),
+        Command::Batch(name) => work_under(alloc, cabinet, name, Work::Session, input, output),
+        Command::Stations(name) => work_under(alloc, cabinet, name, Work::Loading, input, output),
+        Command::Trial(_) => RunEnd::Usage,
     }
 }
 
@@ -112,10 +142,12 @@ fn status(end: RunEnd) -> u8
     match end {
         RunEnd::Made => 0,
         RunEnd::Served(end) => session_status(end),
+        RunEnd::Loaded(end) => loading_status(end),
         RunEnd::DiskFault => 4,
         RunEnd::NotAJournal | RunEnd::Damaged(_) => 5,
         RunEnd::NoMemory => 6,
         RunEnd::Exists => 8,
+        RunEnd::Usage => 1,
     }
 }
 
@@ -132,6 +164,18 @@ fn session_status(end: SessionEnd) -> u8
     }
 }
 
+fn loading_status(end: LoadingEnd) -> u8
+    ensures { result ≡ endings.loading_status end }
+{
+    match end {
+        LoadingEnd::Done => 0,
+        LoadingEnd::InputFault => 2,
+        LoadingEnd::OutputFault => 3,
+        LoadingEnd::NoMemory => 6,
+        LoadingEnd::NotADocument => 9,
+    }
+}
+
 /// Puts the line for the end of a run; a failure changes nothing.
 fn report<E: Sink>(end: RunEnd, faults: &mut E)
     ensures { IsReported (line_of end) (E.written faults.old) (E.written faults.new) (E.faults faults.old) (E.faults faults.new) }
@@ -139,11 +183,16 @@ fn report<E: Sink>(end: RunEnd, faults: &mut E)
     let _told = match end {
         RunEnd::Made => true,
         RunEnd::Served(end) => return report_session(end, faults),
+        RunEnd::Loaded(end) => return report_loading(end, faults),
         RunEnd::DiskFault => put_all(faults, b"streamoffice: disk fault\n"),
         RunEnd::NotAJournal => put_all(faults, b"streamoffice: not a journal\n"),
         RunEnd::Damaged(at) => put_offset(faults, b"streamoffice: damaged at ", at),
         RunEnd::NoMemory => put_all(faults, b"streamoffice: out of memory\n"),
         RunEnd::Exists => put_all(faults, b"streamoffice: journal exists\n"),
+        RunEnd::Usage => put_all(
+            faults,
+            b"streamoffice: usage: init, batch, serve, stations or trial\n",
+        ),
     };
 }
 
@@ -158,6 +207,19 @@ fn report_session<E: Sink>(end: SessionEnd, faults: &mut E)
         SessionEnd::NoMemory => put_all(faults, b"streamoffice: out of memory\n"),
         SessionEnd::Malformed(at) => put_offset(faults, b"streamoffice: malformed at ", at),
         SessionEnd::Long => put_all(faults, b"streamoffice: input too long\n"),
+    };
+}
+
+/// Puts the line for the end of a loading; a failure changes nothing.
+fn report_loading<E: Sink>(end: LoadingEnd, faults: &mut E)
+    ensures { IsReported (endings.loading_line end) (E.written faults.old) (E.written faults.new) (E.faults faults.old) (E.faults faults.new) }
+{
+    let _told = match end {
+        LoadingEnd::Done => true,
+        LoadingEnd::InputFault => put_all(faults, b"streamoffice: input fault\n"),
+        LoadingEnd::OutputFault => put_all(faults, b"streamoffice: output fault\n"),
+        LoadingEnd::NoMemory => put_all(faults, b"streamoffice: out of memory\n"),
+        LoadingEnd::NotADocument => put_all(faults, b"streamoffice: not a station document\n"),
     };
 }
 

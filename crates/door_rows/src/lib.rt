@@ -2,6 +2,8 @@
 #![tactic(auto)]
 
 #[cfg(test)]
+mod added_stations;
+#[cfg(test)]
 mod asks;
 #[cfg(test)]
 mod bodies;

@@ -11,7 +11,8 @@ pub use messages::{
     NOT_FOUND, OK, POST_ALONE, SHEET, TABLE, TOO_LARGE, UNAVAILABLE, push_message, push_reply,
 };
 pub use runs::{
-    BATCH, Batch, Due, INIT, LongBatch, NO_RECORDS, Opening, Parts, Run, STATUS, Turn, WHOLE, Ways,
-    Words, pass_batches, pass_in_turn, pass_long_batches, pass_openings, pass_runs,
+    BATCH, Batch, Due, INIT, LongBatch, LongRun, NO_RECORDS, Opening, Parts, Run, STATIONS, STATUS,
+    Turn, WHOLE, Ways, Words, pass_batches, pass_in_turn, pass_long_batches, pass_long_runs,
+    pass_openings, pass_runs,
 };
 pub use sessions::{Session, pass_anew, pass_bytes, pass_sessions};

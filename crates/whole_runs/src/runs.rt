@@ -17,6 +17,9 @@ pub const INIT: Words = &["init", "--journal", "J"];
 /// The words that serve the requests of the input.
 pub const BATCH: Words = &["batch", "--journal", "J"];
 
+/// The words that add the stations of the document on the input.
+pub const STATIONS: Words = &["stations", "--journal", "J"];
+
 /// A journal of no records.
 pub const NO_RECORDS: Parts = &[b"STREAMOFFICE-J1\n\0"];
 
@@ -73,6 +76,9 @@ pub type Batch = (Parts, &'static Due);
 
 /// The same with a long input: how often each part stands.
 pub type LongBatch = (&'static [(&'static [u8], u32)], &'static Due);
+
+/// The words of a run over a journal of no records, a long input, and what is to come of the run.
+pub type LongRun = (Words, &'static [(&'static [u8], u32)], &'static Due);
 
 /// The words and the input of one of some runs over one cabinet, and what is to come of it.
 pub type Turn = (Words, &'static [u8], &'static Due);
@@ -189,6 +195,15 @@ pub fn pass_long_batches(alloc: Global, batches: &[LongBatch]) -> Result<(), Fai
     for (row, batch) in batches.iter().enumerate() {
         let input = repeated(alloc, batch.0)?;
         expect_run(row, alloc, BATCH, NO_RECORDS, &WHOLE, input, batch.1)?;
+    }
+    Ok(())
+}
+
+/// Each run with a long input comes out as is due.
+pub fn pass_long_runs(alloc: Global, runs: &[LongRun]) -> Result<(), Fail> {
+    for (row, run) in runs.iter().enumerate() {
+        let input = repeated(alloc, run.1)?;
+        expect_run(row, alloc, run.0, NO_RECORDS, &WHOLE, input, run.2)?;
     }
     Ok(())
 }

@@ -1,69 +1,69 @@
 use Rattle.std.proofs.Common.{◌≡◌, ◌⊎◌, ℕ, map, string_bytes, subst, sym, ◌∙◌}
-use Rattle.commands.specs.Commands.{asked_by}
-use Rattle.commands.specs.Words.{Init, Batch}
-use Rattle.commands.proofs.TopLemmas.{completes, completes_init, disk_status, early, input_cause, output_cause}
-use Rattle.commands.proofs.WordLemmas.{asked_unique}
+use Rattle.command_words.proofs.WordLemmas.{one_is_asked}
+use Rattle.command_words.specs.Commands.{asked_by}
+use Rattle.command_words.specs.Words.{Init, Batch, Stations}
+use Rattle.commands.proofs.MakingLemmas.{makes_nothing}
+use Rattle.commands.proofs.ServingLemmas.{serves_nothing}
+use Rattle.commands.proofs.TopLemmas.{completes, completes_init, completes_loading, unserved}
+use Rattle.commands.specs.declared.runs.RunEnd.TheVariants as ends
+use Rattle.commands.specs.declared.runs.Work.TheVariants.{Session, Loading}
 use Rattle.commands.proofs.top.run_office.Goals as goal
 
-pub returns-clause-init : goal.returns-clause-init
-returns-clause-init g c = λ name is.
-    let same = asked_unique (map string_bytes c.args.words.now) (asked_by c.in-Some.command) (Init name) c.in-Some.ensures is in
+pub returns-in-Ok-clause-init : goal.returns-in-Ok-clause-init
+returns-in-Ok-clause-init g c = λ name is.
+    let same = one_is_asked (map string_bytes c.args.words.now) (asked_by c.in-Ok.command) (Init name) c.in-Ok.ensures.ok is in
     record {
       end = c.run_command-end.result;
-      status_is = c.status.ensures;
-      line_is = c.report.ensures;
+      status_is = c.finish.ensures.status;
+      line_is = c.finish.ensures.line;
       ends = c.run_command-end.ensures.ends name same;
       makes = c.run_command-end.ensures.makes name same;
     }
 
-pub returns-clause-init_alone : goal.returns-clause-init_alone
-returns-clause-init_alone g c = λ name is.
-    c.run_command-end.ensures.init_alone name
-    (asked_unique (map string_bytes c.args.words.now) (asked_by c.in-Some.command) (Init name) c.in-Some.ensures is)
-
-pub returns-clause-batch : goal.returns-clause-batch
-returns-clause-batch g c = λ name is.
-    let same = asked_unique (map string_bytes c.args.words.now) (asked_by c.in-Some.command) (Batch name) c.in-Some.ensures is in
+pub returns-in-Ok-clause-batch : goal.returns-in-Ok-clause-batch
+returns-in-Ok-clause-batch g c = λ name is.
+    let same = one_is_asked (map string_bytes c.args.words.now) (asked_by c.in-Ok.command) (Batch name) c.in-Ok.ensures.ok is in
     record {
       end = c.run_command-end.result;
-      status_is = c.status.ensures;
-      line_is = c.report.ensures;
+      status_is = c.finish.ensures.status;
+      line_is = c.finish.ensures.line;
       serves = c.run_command-end.ensures.serves name same;
     }
 
-pub returns-clause-input_fault : goal.returns-clause-input_fault
-returns-clause-input_fault g c = λ is.
-    input_cause c.run_command-end.result _ _ (g.K.Sink.faults c.args.output.now) (g.K.Sink.faults c.run_command-end.new.output)
-    c.run_command-end.ensures.cause (sym c.status.ensures ∙ is)
+pub returns-in-Ok-clause-stations : goal.returns-in-Ok-clause-stations
+returns-in-Ok-clause-stations g c = λ name is.
+    let same = one_is_asked (map string_bytes c.args.words.now) (asked_by c.in-Ok.command) (Stations name) c.in-Ok.ensures.ok is in
+    record {
+      end = c.run_command-end.result;
+      status_is = c.finish.ensures.status;
+      line_is = c.finish.ensures.line;
+      serves = c.run_command-end.ensures.loads name same;
+    }
 
-pub returns-clause-output_fault : goal.returns-clause-output_fault
-returns-clause-output_fault g c = λ is.
-    output_cause c.run_command-end.result (g.S.Source.faults c.args.input.now) (g.S.Source.faults c.run_command-end.new.input) _ _
-    c.run_command-end.ensures.cause (sym c.status.ensures ∙ is)
-
-pub returns-clause-disk_fault : goal.returns-clause-disk_fault
-returns-clause-disk_fault g c = λ is.
-    c.run_command-end.ensures.disk_cause (disk_status c.run_command-end.result (sym c.status.ensures ∙ is))
-
-pub returns-clause-unserved : goal.returns-clause-unserved
-returns-clause-unserved g c = λ is.
+pub returns-in-Ok-clause-unserved_batch : goal.returns-in-Ok-clause-unserved_batch
+returns-in-Ok-clause-unserved_batch g c = λ name is six.
+    let same = one_is_asked (map string_bytes c.args.words.now) (asked_by c.in-Ok.command) (Batch name) c.in-Ok.ensures.ok is in
     c.run_command-end.ensures.unserved
-    (early c.run_command-end.result
-    (subst (λ (n : ℕ). (n ≡ 4) ⊎ ((n ≡ 5) ⊎ ((n ≡ 6) ⊎ (n ≡ 8)))) c.status.ensures is))
-
-pub returns-clause-complete_init : goal.returns-clause-complete_init
-returns-clause-complete_init g c = λ name is room calm.
-    let same = asked_unique (map string_bytes c.args.words.now) (asked_by c.in-Some.command) (Init name) c.in-Some.ensures is in
-    c.status.ensures
-    ∙ completes_init g.C.Disk.Disk c.run_command-end.result name
+    (unserved g.C.Disk.Disk c.run_command-end.result name
     (g.C.Cabinet.places c.args.cabinet.now) (g.C.Cabinet.places c.run_command-end.new.cabinet)
     (g.C.Cabinet.faults c.args.cabinet.now) (g.C.Cabinet.faults c.run_command-end.new.cabinet)
-    (c.run_command-end.ensures.makes name same) (c.run_command-end.ensures.ends name same) room calm
+    (g.S.Source.left c.args.input.now) (g.S.Source.left c.run_command-end.new.input)
+    (g.K.Sink.written c.args.output.now) (g.K.Sink.written c.run_command-end.new.output)
+    (c.run_command-end.ensures.serves name same) (sym c.finish.ensures.status ∙ six))
 
-pub returns-clause-complete : goal.returns-clause-complete
-returns-clause-complete g c = λ name is sound formed told calm still quiet.
-    let same = asked_unique (map string_bytes c.args.words.now) (asked_by c.in-Some.command) (Batch name) c.in-Some.ensures is in
-    subst (λ (n : ℕ). (n ≡ 0) ⊎ (n ≡ 6)) (sym c.status.ensures)
+pub returns-in-Ok-clause-complete_init : goal.returns-in-Ok-clause-complete_init
+returns-in-Ok-clause-complete_init g c = λ name is room calm.
+    let same = one_is_asked (map string_bytes c.args.words.now) (asked_by c.in-Ok.command) (Init name) c.in-Ok.ensures.ok is in
+    subst (λ (n : ℕ). (n ≡ 0) ⊎ (n ≡ 6)) (sym c.finish.ensures.status)
+    (completes_init g.C.Disk.Disk c.run_command-end.result name
+    (g.C.Cabinet.places c.args.cabinet.now) (g.C.Cabinet.places c.run_command-end.new.cabinet)
+    (g.C.Cabinet.faults c.args.cabinet.now) (g.C.Cabinet.faults c.run_command-end.new.cabinet)
+    (c.run_command-end.ensures.makes name same) (c.run_command-end.ensures.ends name same) room calm)
+
+pub returns-in-Ok-clause-complete : goal.returns-in-Ok-clause-complete
+returns-in-Ok-clause-complete g c = λ name is sound formed told calm still quiet.
+    let same = one_is_asked (map string_bytes c.args.words.now) (asked_by c.in-Ok.command) (Batch name) c.in-Ok.ensures.ok is in
+    subst (λ (n : ℕ). (n ≡ 0) ⊎ (n ≡ 6)) (sym c.finish.ensures.status)
     (completes g.C.Disk.Disk c.run_command-end.result name
     (g.C.Cabinet.places c.args.cabinet.now) (g.C.Cabinet.places c.run_command-end.new.cabinet)
     (g.C.Cabinet.faults c.args.cabinet.now) (g.C.Cabinet.faults c.run_command-end.new.cabinet)
@@ -72,3 +72,48 @@ returns-clause-complete g c = λ name is sound formed told calm still quiet.
     (g.S.Source.faults c.args.input.now) (g.S.Source.faults c.run_command-end.new.input)
     (g.K.Sink.faults c.args.output.now) (g.K.Sink.faults c.run_command-end.new.output)
     (c.run_command-end.ensures.serves name same) c.run_command-end.ensures.cause sound formed told calm still quiet)
+
+pub returns-in-Ok-clause-complete_stations : goal.returns-in-Ok-clause-complete_stations
+returns-in-Ok-clause-complete_stations g c = λ name is sound stated told calm still quiet.
+    let same = one_is_asked (map string_bytes c.args.words.now) (asked_by c.in-Ok.command) (Stations name) c.in-Ok.ensures.ok is in
+    subst (λ (n : ℕ). (n ≡ 0) ⊎ (n ≡ 6)) (sym c.finish.ensures.status)
+    (completes_loading g.C.Disk.Disk c.run_command-end.result name
+    (g.C.Cabinet.places c.args.cabinet.now) (g.C.Cabinet.places c.run_command-end.new.cabinet)
+    (g.C.Cabinet.faults c.args.cabinet.now) (g.C.Cabinet.faults c.run_command-end.new.cabinet)
+    (g.S.Source.left c.args.input.now) (g.S.Source.left c.run_command-end.new.input)
+    (g.K.Sink.written c.args.output.now) (g.K.Sink.written c.run_command-end.new.output)
+    (g.S.Source.faults c.args.input.now) (g.S.Source.faults c.run_command-end.new.input)
+    (g.K.Sink.faults c.args.output.now) (g.K.Sink.faults c.run_command-end.new.output)
+    (c.run_command-end.ensures.loads name same) c.run_command-end.ensures.cause sound stated told calm still quiet)
+
+-- there was no memory for the words, and nothing was done
+pub returns-in-Err-NoMemory-clause-init : goal.returns-in-Err-NoMemory-clause-init
+returns-in-Err-NoMemory-clause-init g c = λ name is. record {
+  end = ends.NoMemory;
+  status_is = c.finish-in-Err-NoMemory.ensures.status;
+  line_is = c.finish-in-Err-NoMemory.ensures.line;
+  ends = tt;
+  makes = makes_nothing g.C.Disk.Disk name (g.C.Cabinet.places c.args.cabinet.now);
+}
+
+pub returns-in-Err-NoMemory-clause-batch : goal.returns-in-Err-NoMemory-clause-batch
+returns-in-Err-NoMemory-clause-batch g c = λ name is.
+    let only = (g.met.C.Disk.Disk g.world.𝓛 g.world.𝓜 g.world.𝓡 ((λ s x. x), (λ x. x), (λ x. x), λ x. x)).only_now in
+    record {
+      end = ends.NoMemory;
+      status_is = c.finish-in-Err-NoMemory.ensures.status;
+      line_is = c.finish-in-Err-NoMemory.ensures.line;
+      serves = serves_nothing g.C.Disk.Disk Session name (g.C.Cabinet.places c.args.cabinet.now) (g.C.Cabinet.faults c.args.cabinet.now)
+          (g.S.Source.left c.args.input.now) (g.K.Sink.written c.args.output.now) only;
+    }
+
+pub returns-in-Err-NoMemory-clause-stations : goal.returns-in-Err-NoMemory-clause-stations
+returns-in-Err-NoMemory-clause-stations g c = λ name is.
+    let only = (g.met.C.Disk.Disk g.world.𝓛 g.world.𝓜 g.world.𝓡 ((λ s x. x), (λ x. x), (λ x. x), λ x. x)).only_now in
+    record {
+      end = ends.NoMemory;
+      status_is = c.finish-in-Err-NoMemory.ensures.status;
+      line_is = c.finish-in-Err-NoMemory.ensures.line;
+      serves = serves_nothing g.C.Disk.Disk Loading name (g.C.Cabinet.places c.args.cabinet.now) (g.C.Cabinet.faults c.args.cabinet.now)
+          (g.S.Source.left c.args.input.now) (g.K.Sink.written c.args.output.now) only;
+    }

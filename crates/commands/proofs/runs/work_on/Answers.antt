@@ -1,9 +1,9 @@
 use Rattle.std.proofs.Common.{sym, ◌∙◌, ap, subst}
 use Rattle.commands.proofs.ReopenLemmas.{are_usual}
-use Rattle.commands.proofs.ServingLemmas.{carries, not_opened}
-use Rattle.commands.proofs.runs.serve_disk.Goals as goal
+use Rattle.commands.proofs.ServingLemmas.{carries, not_opened, worked_on}
+use Rattle.commands.proofs.runs.work_on.Goals as goal
 use Rattle.desk.specs.Passing.{Passes}
-use Rattle.desk.specs.Sessions.{IsServed}
+use Rattle.commands.specs.Serving.{IsWorked}
 use Rattle.history.specs.After.{reopen}
 use Rattle.history.specs.Events.{History}
 use Rattle.office.specs.Openings.{IsNotOpened}
@@ -16,19 +16,22 @@ returns-in-Ok-clause-serves g c =
     let reopened = opened.reopened
     ∙ ap (λ (l : Limits). reopen l opened.pieces)
     (are_usual c.usual.result limits.stations limits.readings limits.day_readings limits.cells limits.events limits.journal_bytes) in
-    let after = c.session-end.new.office.register.history in (
+    let after = c.work_over-end.new.office.register.history in
+    worked_on g.D.Disk c.args.work c.work_over-end.result c.args.disk c.close.result
+    (g.S.Source.left c.args.input.now) (g.S.Source.left c.work_over-end.new.input)
+    (g.K.Sink.written c.args.output.now) (g.K.Sink.written c.work_over-end.new.output) (
       opened.pieces,
       after,
       subst
-          (λ (h : History). IsServed h after c.session-end.result
-          (g.S.Source.left c.args.input.now) (g.S.Source.left c.session-end.new.source)
-          (g.K.Sink.written c.args.output.now) (g.K.Sink.written c.session-end.new.sink))
-          reopened c.session-end.ensures.served,
+          (λ (h : History). IsWorked c.work_over-end.result c.args.work h after
+          (g.S.Source.left c.args.input.now) (g.S.Source.left c.work_over-end.new.input)
+          (g.K.Sink.written c.args.output.now) (g.K.Sink.written c.work_over-end.new.output))
+          reopened c.work_over-end.ensures.worked,
       carries g.D.Disk opened.pieces after c.args.disk c.in-Ok.office.disk c.close.result
           opened.found c.in-Ok.ensures.same c.in-Ok.ensures.synced
           (subst (λ (h : History). Passes g.D.Disk h after c.in-Ok.office.disk c.close.result) reopened
           (subst (λ (d : g.row.D.Denot). Passes g.D.Disk c.in-Ok.office.register.history after c.in-Ok.office.disk d) (sym c.close.ensures.disk)
-          c.session-end.ensures.passed))
+          c.work_over-end.ensures.passed))
           c.close.ensures.now c.close.ensures.images
           c.an_office_stands_on_its_disk.ensures.legal,
     )
@@ -37,7 +40,7 @@ pub returns-in-Err-clause-serves : goal.returns-in-Err-clause-serves
 returns-in-Err-clause-serves g c =
     let limits = c.usual.ensures in
     let laws = g.met.D.Disk g.world.𝓛 g.world.𝓜 g.world.𝓡 ((λ s x. x), (λ x. x), (λ x. x), λ x. x) in
-    not_opened g.D.Disk c.in-Err.refused.fault
+    not_opened g.D.Disk c.args.work c.in-Err.refused.fault
     c.end_of_opening.result c.args.disk c.in-Err.refused.disk
     (g.S.Source.left c.args.input.now) (g.S.Source.left c.args.input.now) (g.K.Sink.written c.args.output.now) (g.K.Sink.written c.args.output.now)
     laws.counts_now c.end_of_opening.ensures

@@ -1,0 +1,298 @@
+//! Documents of stations: what each station's line tells, what stands in the journal then, and which ends a run has.
+
+use std::test::Fail;
+use whole_runs::{
+    Due, LongRun, NO_RECORDS, Parts, Run, STATIONS, Turn, WHOLE, Ways, pass_in_turn,
+    pass_long_runs, pass_runs,
+};
+
+/// The document of one station.
+const POTOMAC: &[u8] = b"by = \"AB\"\n\
+    [[station]]\n\
+    site = \"01646500\"\n\
+    ref = \"st-1\"\n\
+    name = \"POTOMAC\"\n\
+    zone = \"-05:00\"\n\
+    gap = 720\n\
+    stage_array = \"9999999992\"\n\
+    discharge_array = \"0222233332\"\n";
+
+/// A second table of the same station, under another reference.
+const AGAIN: &[u8] = b"[[station]]\n\
+    site = \"01646500\"\n\
+    ref = \"st-2\"\n\
+    name = \"POTOMAC\"\n\
+    zone = \"-05:00\"\n\
+    gap = 720\n\
+    stage_array = \"9999999992\"\n\
+    discharge_array = \"0222233332\"\n";
+
+/// A station whose number begins with more zeros, and has more digits.
+const LITTLE: &[u8] = b"[[station]]\n\
+    site = \"000000007\"\n\
+    ref = \"st-3\"\n\
+    name = \"LITTLE CREEK\"\n\
+    zone = \"EST5EDT,M3.2.0,M11.1.0\"\n\
+    gap = 60\n\
+    stage_array = \"9999999992\"\n\
+    discharge_array = \"0222233332\"\n";
+
+/// A table that is no station's: a gap tolerance of no minute.
+const NO_GAP: &[u8] = b"[[station]]\n\
+    site = \"01646501\"\n\
+    ref = \"st-4\"\n\
+    name = \"OTHER\"\n\
+    zone = \"-05:00\"\n\
+    gap = 0\n\
+    stage_array = \"9999999992\"\n\
+    discharge_array = \"0222233332\"\n";
+
+/// The journal of that station alone.
+const KEPT: Parts = &[
+    b"STREAMOFFICE-J1\n\x01\x39\0\0\0\x01\x02AB\x04st-1\x08\xa4\x1f\x19\0\0\0\0\0\x07POTOMAC\x06-05:00\xd0\x02\0\099999999920222233332\0",
+];
+
+const ADDED: Due = Due {
+    status: 0,
+    written: &[b"edit 1 01646500\n"],
+    told: b"",
+    is_read: true,
+    left: Some(KEPT),
+};
+
+const REFUSED: Due = Due {
+    status: 0,
+    written: &[b"edit 1 01646500\n", b"refused StationExists 01646500\n"],
+    told: b"",
+    is_read: true,
+    left: Some(KEPT),
+};
+
+const NO_DOCUMENT: Due = Due {
+    status: 9,
+    written: &[],
+    told: b"streamoffice: not a station document\n",
+    is_read: true,
+    left: None,
+};
+
+const NOT_A_JOURNAL: Due = Due {
+    status: 5,
+    written: &[],
+    told: b"streamoffice: not a journal\n",
+    is_read: false,
+    left: None,
+};
+
+const INPUT_FAULT: Due = Due {
+    status: 2,
+    written: &[],
+    told: b"streamoffice: input fault\n",
+    is_read: true,
+    left: None,
+};
+
+/// The sink fails within the first line: its edit is the last that was asked.
+const CUT_SHORT: Due = Due {
+    status: 3,
+    written: &[b"ed"],
+    told: b"streamoffice: output fault\n",
+    is_read: true,
+    left: Some(KEPT),
+};
+
+/// Every byte comes and goes alone.
+const BYTE_BY_BYTE: Ways = Ways {
+    input: &[],
+    output: &[],
+    faults: &[],
+    disk: &[],
+    piece: 1,
+};
+
+/// The input fails at once, and behind some bytes.
+const NO_INPUT: Ways = Ways {
+    input: &[1],
+    output: &[],
+    faults: &[],
+    disk: &[],
+    piece: 1,
+};
+
+const CUT_INPUT: Ways = Ways {
+    input: &[9],
+    output: &[],
+    faults: &[],
+    disk: &[],
+    piece: 1,
+};
+
+/// The output fails at its third byte.
+const CUT_OUTPUT: Ways = Ways {
+    input: &[],
+    output: &[3],
+    faults: &[],
+    disk: &[],
+    piece: 1,
+};
+
+/// Documents over a journal without records, and over that of the station.
+const DOCUMENTS: [Run; 12] = [
+    (STATIONS, NO_RECORDS, &WHOLE, &[POTOMAC], &ADDED),
+    (STATIONS, NO_RECORDS, &BYTE_BY_BYTE, &[POTOMAC], &ADDED),
+    (STATIONS, KEPT, &WHOLE, &[POTOMAC], &ADDED),
+    (STATIONS, NO_RECORDS, &WHOLE, &[POTOMAC, AGAIN], &REFUSED),
+    (
+        STATIONS,
+        NO_RECORDS,
+        &WHOLE,
+        &[POTOMAC, NO_GAP],
+        &NO_DOCUMENT,
+    ),
+    (
+        STATIONS,
+        NO_RECORDS,
+        &WHOLE,
+        &[POTOMAC, b"further = 1\n"],
+        &NO_DOCUMENT,
+    ),
+    (
+        STATIONS,
+        NO_RECORDS,
+        &WHOLE,
+        &[b"by = \"AB\"\n", NO_GAP],
+        &NO_DOCUMENT,
+    ),
+    (STATIONS, NO_RECORDS, &WHOLE, &[b"\xff"], &NO_DOCUMENT),
+    (STATIONS, NO_RECORDS, &WHOLE, &[], &NO_DOCUMENT),
+    (STATIONS, NO_RECORDS, &NO_INPUT, &[POTOMAC], &INPUT_FAULT),
+    (STATIONS, NO_RECORDS, &CUT_INPUT, &[POTOMAC], &INPUT_FAULT),
+    (
+        STATIONS,
+        NO_RECORDS,
+        &CUT_OUTPUT,
+        &[POTOMAC, LITTLE],
+        &CUT_SHORT,
+    ),
+];
+
+#[test]
+fn stations_are_added_in_order(rt: HostRuntime) -> Result<(), Fail> {
+    pass_runs(rt.alloc(), &DOCUMENTS)
+}
+
+/// Where there is no journal the input is not read, whatever it is.
+const NO_JOURNAL: [Run; 2] = [
+    (STATIONS, &[], &WHOLE, &[POTOMAC], &NOT_A_JOURNAL),
+    (STATIONS, &[], &WHOLE, &[b"\xff"], &NOT_A_JOURNAL),
+];
+
+#[test]
+fn a_journal_comes_before_the_input(rt: HostRuntime) -> Result<(), Fail> {
+    pass_runs(rt.alloc(), &NO_JOURNAL)
+}
+
+/// What is due of two stations of different lengths of number.
+const TWO: Due = Due {
+    status: 0,
+    written: &[b"edit 1 01646500\n", b"edit 2 000000007\n"],
+    told: b"",
+    is_read: true,
+    left: None,
+};
+
+const BOTH: &[u8] = b"by = \"AB\"\n\
+    [[station]]\n\
+    site = \"01646500\"\n\
+    ref = \"st-1\"\n\
+    name = \"POTOMAC\"\n\
+    zone = \"-05:00\"\n\
+    gap = 720\n\
+    stage_array = \"9999999992\"\n\
+    discharge_array = \"0222233332\"\n\
+    [[station]]\n\
+    site = \"000000007\"\n\
+    ref = \"st-3\"\n\
+    name = \"LITTLE CREEK\"\n\
+    zone = \"EST5EDT,M3.2.0,M11.1.0\"\n\
+    gap = 60\n\
+    stage_array = \"9999999992\"\n\
+    discharge_array = \"0222233332\"\n";
+
+/// A journal is made, stations are added, and the same document again tells the same.
+const TURNS: [Turn; 3] = [
+    (whole_runs::INIT, b"", &MADE),
+    (STATIONS, BOTH, &TWO),
+    (STATIONS, BOTH, &TWO),
+];
+
+const MADE: Due = Due {
+    status: 0,
+    written: &[],
+    told: b"",
+    is_read: false,
+    left: None,
+};
+
+const BOTH_KEPT: &[u8] =
+    b"STREAMOFFICE-J1\n\x01\x39\0\0\0\x01\x02AB\x04st-1\x08\xa4\x1f\x19\0\0\0\0\0\x07POTOMAC\x06-05:00\xd0\x02\0\099999999920222233332\x01\x4e\0\0\0\x01\x02AB\x04st-3\x09\x07\0\0\0\0\0\0\0\x0cLITTLE CREEK\x16EST5EDT,M3.2.0,M11.1.0\x3c\0\0\099999999920222233332\0";
+
+#[test]
+fn the_same_document_tells_the_same(rt: HostRuntime) -> Result<(), Fail> {
+    pass_in_turn(rt.alloc(), &[], &TURNS, Some(BOTH_KEPT))
+}
+
+/// A document of as many bytes as there may be, and of one more.
+const LONG: [LongRun; 2] = [
+    (
+        STATIONS,
+        &[(POTOMAC, 1), (b"#", 1), (b" ", 4_194_149)],
+        &ADDED,
+    ),
+    (
+        STATIONS,
+        &[(POTOMAC, 1), (b"#", 1), (b" ", 4_194_150)],
+        &NO_DOCUMENT,
+    ),
+];
+
+#[test]
+fn a_document_has_4_194_304_bytes_at_most(rt: HostRuntime) -> Result<(), Fail> {
+    pass_long_runs(rt.alloc(), &LONG)
+}
+
+/// The disk fails in the first edit: in the write of its record, and in the sync behind that.
+const WRITE_FAILS: Ways = Ways {
+    input: &[],
+    output: &[],
+    faults: &[],
+    disk: &[5],
+    piece: 10_000_000,
+};
+
+const SYNC_FAILS: Ways = Ways {
+    input: &[],
+    output: &[],
+    faults: &[],
+    disk: &[6],
+    piece: 10_000_000,
+};
+
+/// The second station is asked all the same, and has the number that the first would have had.
+const SECOND_ALONE: Due = Due {
+    status: 0,
+    written: &[b"refused JournalFault 01646500\n", b"edit 1 000000007\n"],
+    told: b"",
+    is_read: true,
+    left: None,
+};
+
+const FAULTS: [Run; 2] = [
+    (STATIONS, NO_RECORDS, &WRITE_FAILS, &[BOTH], &SECOND_ALONE),
+    (STATIONS, NO_RECORDS, &SYNC_FAILS, &[BOTH], &SECOND_ALONE),
+];
+
+#[test]
+fn the_next_station_is_asked_behind_a_fault(rt: HostRuntime) -> Result<(), Fail> {
+    pass_runs(rt.alloc(), &FAULTS)
+}

@@ -1,2 +1,4 @@
 pub mod DigitLemmas
+pub mod LawfulLemmas
 pub mod PartLemmas
+pub mod ZoneLemmas

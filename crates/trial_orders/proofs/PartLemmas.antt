@@ -29,7 +29,7 @@ one_more f from at next xs ys h e first more =
 pub next_value : {X : Type 0} (f : ℕ → X) (at : ℕ) (xs ys : List X) → xs ≡ map f (range_with_len 0 at) → ys ≡ xs ++ f at ∷ [] → ys ≡ map f (range_with_len 0 (at + 1))
 next_value f at xs ys first more = more ∙ ap (λ (l : List _). l ++ f at ∷ []) first ∙ sym (map-range_with_len_more f 0 at at (omega arith))
 
-is_part : readings_of_part ≡ 2_400
+pub is_part : readings_of_part ≡ 2_400
 unfolding readings_of_part
 is_part = refl
 

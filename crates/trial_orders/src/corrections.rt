@@ -1,6 +1,7 @@
 //! The corrections and the shift of a trial.
 
 ghost use Rattle.std.specs.Prelude.{◌≡◌};
+ghost use Rattle.edits.specs.Lawful.{IsLawful};
 ghost use Rattle.fixed_units.specs.Quantities.{IsMicro};
 ghost use Rattle.trial_orders.specs.Questions as questions;
 
@@ -19,7 +20,8 @@ const SHIFT: i64 = 1_680_307_200;
 
 /// Puts a correction of nothing, which goes over to the second one.
 pub fn first_correction() -> What
-    ensures { result ≡ questions.first_correction }
+    ensures what { result ≡ questions.first_correction }
+    ensures lawful { IsLawful result }
 {
     What::PutCorrection {
         set: 1,
@@ -31,7 +33,8 @@ pub fn first_correction() -> What
 
 /// Puts a correction of a tenth of a foot.
 pub fn second_correction() -> What
-    ensures { result ≡ questions.second_correction }
+    ensures what { result ≡ questions.second_correction }
+    ensures lawful { IsLawful result }
 {
     What::PutCorrection {
         set: 1,
@@ -43,7 +46,8 @@ pub fn second_correction() -> What
 
 /// Puts a shift, which is most at 5 feet.
 pub fn shift() -> What
-    ensures { result ≡ questions.shift }
+    ensures what { result ≡ questions.shift }
+    ensures lawful { IsLawful result }
 {
     What::PutShift {
         at: Second::new(SHIFT).unwrap(),

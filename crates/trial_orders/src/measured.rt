@@ -1,6 +1,7 @@
 //! The readings of a trial, in parts.
 
 ghost use Rattle.std.specs.Prelude.{◌≡◌, ℕ, ◌+◌, ◌*◌, ◌-◌, ◌<◌, ◌≤◌, OnOk, IfOk};
+ghost use Rattle.edits.specs.Lawful.{IsLawful};
 ghost use Rattle.trial_orders.specs.Questions as questions;
 ghost use Rattle.trial_orders.specs.Questions.{draws_before, part_readings, reading_of};
 
@@ -26,6 +27,7 @@ pub fn part_put(alloc: Global, draws: &mut Draws, station: u32, part: u32) -> Re
     requires part { part < 8 }
     requires draws { draws.old.made ≡ draws_before station part }
     ensures what { IfOk result (λ what. what ≡ questions.part_put draws.old.number station part) }
+    ensures lawful { IfOk result IsLawful }
     ensures draws { OnOk result (draws.new ≡ record { number = draws.old.number; made = draws.old.made + 2_400 }) }
 {
     Ok(What::PutReadings {

@@ -1,9 +1,10 @@
 //! Who asks, and under which references.
 
 ghost use Rattle.std.specs.Prelude.{◌≡◌, codes, IfOk};
+ghost use Rattle.edits.specs.Lawful.{IsLawful};
 ghost use Rattle.trial_orders.specs.References.{IsAsked, reference_of};
 
-use edits::{By, Edit, EditFault, Ref, What};
+use edits::{By, Edit, Ref, What};
 use fixed_units::{NoMemory, Site, Text};
 use std::alloc::Global;
 
@@ -29,10 +30,6 @@ pub fn approver() -> By
 }
 
 /// The edit that a person asks of a site under a number, in whose reference the scratch is used.
-///
-/// # Errors
-///
-/// Those of [`Edit::new`]: [`EditFault::NoMemory`], and where what is asked is not lawful [`EditFault::NotLawful`].
 pub fn edit_of(
     alloc: Global,
     number: u32,
@@ -40,13 +37,15 @@ pub fn edit_of(
     site: Site,
     what: What,
     scratch: &mut Text,
-) -> Result<Edit, EditFault>
+) -> Result<Edit, NoMemory>
+    requires { IsLawful what }
     ensures { IfOk result (IsAsked number by site what) }
 {
-    let Ok(reference) = reference_of(number, scratch) else {
-        return Err(EditFault::NoMemory);
-    };
-    Edit::new(alloc, by, reference, site, what)
+    let reference = reference_of(number, scratch)?;
+    match Edit::new(alloc, by, reference, site, what) {
+        Ok(edit) => Ok(edit),
+        Err(_) => Err(NoMemory),
+    }
 }
 
 /// The reference of a number.

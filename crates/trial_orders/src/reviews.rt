@@ -1,6 +1,7 @@
 //! The review and the approval of a trial, and the flags behind them.
 
 ghost use Rattle.std.specs.Prelude.{◌≡◌};
+ghost use Rattle.edits.specs.Lawful.{IsLawful};
 ghost use Rattle.fixed_units.specs.Quantities.{IsDay, IsSecond};
 ghost use Rattle.trial_orders.specs.Questions as questions;
 ghost use Rattle.trial_orders.specs.Questions.{approved_instant, first_reviewed, flagging, last_reviewed, open_instant};
@@ -22,7 +23,8 @@ const OPEN_INSTANT: i64 = 1_688_212_800;
 
 /// Puts the days in review.
 pub fn review() -> What
-    ensures { result ≡ questions.review }
+    ensures what { result ≡ questions.review }
+    ensures lawful { IsLawful result }
 {
     What::Review {
         from: day(FIRST_REVIEWED),
@@ -32,7 +34,8 @@ pub fn review() -> What
 
 /// Approves them.
 pub fn approval() -> What
-    ensures { result ≡ questions.approval }
+    ensures what { result ≡ questions.approval }
+    ensures lawful { IsLawful result }
 {
     What::Decide {
         from: day(FIRST_REVIEWED),
@@ -50,14 +53,16 @@ fn day(number: i32) -> Day
 
 /// Flags a reading of an approved day as erroneous.
 pub fn flagging_approved() -> What
-    ensures { result ≡ flagging approved_instant }
+    ensures what { result ≡ flagging approved_instant }
+    ensures lawful { IsLawful result }
 {
     flagging(APPROVED_INSTANT)
 }
 
 /// Flags one of a day that is not approved.
 pub fn flagging_open() -> What
-    ensures { result ≡ flagging open_instant }
+    ensures what { result ≡ flagging open_instant }
+    ensures lawful { IsLawful result }
 {
     flagging(OPEN_INSTANT)
 }

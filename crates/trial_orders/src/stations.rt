@@ -1,6 +1,7 @@
 //! The stations of a trial, how they are added and their rating.
 
 ghost use Rattle.std.specs.Prelude.{◌≡◌, ◌≤◌, codes, IfOk};
+ghost use Rattle.edits.specs.Lawful.{IsLawful};
 ghost use Rattle.edits.specs.Texts.{IsName};
 ghost use Rattle.trial_orders.specs.Questions as questions;
 ghost use Rattle.trial_orders.specs.Questions.{name_of, rating_row, rating_rows, zone_of};
@@ -31,7 +32,8 @@ pub fn site_of(station: u32) -> Site
 /// The station is added.
 pub fn addition(alloc: Global, station: u32) -> Result<What, NoMemory>
     requires { station ≤ 4 }
-    ensures { IfOk result (λ what. what ≡ questions.addition station) }
+    ensures what { IfOk result (λ what. what ≡ questions.addition station) }
+    ensures lawful { IfOk result IsLawful }
 {
     Ok(What::AddStation {
         name: name_of(alloc, station)?,
@@ -84,7 +86,8 @@ fn discharge_array() -> RoundingArray
 
 /// The rating of each station is added.
 pub fn rating(alloc: Global) -> Result<What, NoMemory>
-    ensures { IfOk result (λ what. what ≡ questions.rating) }
+    ensures what { IfOk result (λ what. what ≡ questions.rating) }
+    ensures lawful { IfOk result IsLawful }
 {
     let table = Table::from_vec(rating_rows(alloc)?).unwrap();
     Ok(What::AddRating {
@@ -117,7 +120,8 @@ fn rating_row(feet: u32) -> (Micro, Micro)
 
 /// The rating is in force.
 pub fn period() -> What
-    ensures { result ≡ questions.period }
+    ensures what { result ≡ questions.period }
+    ensures lawful { IsLawful result }
 {
     What::PutPeriod {
         period: Period::new(Second::new(PERIOD_START).unwrap(), None, 1).unwrap(),

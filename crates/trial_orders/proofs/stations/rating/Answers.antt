@@ -1,8 +1,10 @@
-use Rattle.std.proofs.Common.{◌≡◌, refl, ap, ◌∙◌, List, Result, Ok, Err, IfErr, Some, None, rules}
+use Rattle.std.proofs.Common.{◌≡◌, refl, ap, sym, subst, ◌∙◌, List, Result, Ok, Err, IfErr, Some, None, rules}
+use Rattle.edits.specs.Lawful.{IsLawful}
 use Rattle.rating_tables.specs.Table.{Row, table_fault}
 use Rattle.rating_tables.specs.declared.table.TableFault.{TableFault}
 use Rattle.std.specs.Result.{IsOk}
 use Rattle.trial_orders.specs.Questions.{rating_rows}
+use Rattle.trial_orders.proofs.LawfulLemmas.{lawful_rating}
 use Rattle.trial_orders.proofs.stations.rating.Goals as goal
 
 sound : table_fault rating_rows ≡ None
@@ -15,3 +17,9 @@ is_table rows (Err fault) e h = let same : table_fault rows ≡ None = ap table_
 
 pub unwrap-table-requires : goal.unwrap-table-requires
 unwrap-table-requires c = is_table c.in_ok-rating_rows.field-0.items c.from_vec.result (search rules) c.from_vec.ensures.err
+
+pub returns-clause-what : goal.returns-clause-what
+returns-clause-what c = search rules
+
+pub returns-clause-lawful : goal.returns-clause-lawful
+returns-clause-lawful c = subst IsLawful (sym (returns-clause-what c)) (lawful_rating sound)

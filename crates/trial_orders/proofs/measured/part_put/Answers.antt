@@ -1,0 +1,10 @@
+use Rattle.std.proofs.Common.{rules, subst, sym}
+use Rattle.edits.specs.Lawful.{IsLawful}
+use Rattle.trial_orders.proofs.LawfulLemmas.{lawful_readings}
+use Rattle.trial_orders.proofs.measured.part_put.Goals as goal
+
+pub returns-clause-what : goal.returns-clause-what
+returns-clause-what c = search rules
+
+pub returns-clause-lawful : goal.returns-clause-lawful
+returns-clause-lawful c = subst IsLawful (sym (returns-clause-what c)) (lawful_readings c.args.draws.now.number c.args.station c.args.part c.requires.part)

@@ -1,3 +1,6 @@
 pub mod CountLemmas
 pub mod FollowLemmas
 pub mod MeanLemmas
+pub mod OpeningLemmas
+pub mod TakingLemmas
+pub mod TextLemmas

@@ -1,0 +1,8 @@
+use Rattle.trial.proofs.FollowLemmas.{asks_same}
+use Rattle.trial.proofs.runs.Run.put_part.Goals as goal
+use Rattle.trial_orders.specs.Questions.{part_put}
+
+pub returns-clause-follows : goal.returns-clause-follows
+returns-clause-follows g c =
+    asks_same c.args.self.now c.ask_of.new.self c.args.station c.in_ok-what.what (part_put c.args.draws.now.number c.args.station c.args.part)
+    c.in_ok-what.ensures.what c.in_ok-ask_of.ensures.follows

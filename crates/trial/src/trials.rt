@@ -1,0 +1,81 @@
+//! A trial whole: an office over a new journal on a disk in memory, the orders asked of it, and its text.
+
+ghost use Rattle.std.specs.Prelude.{◌≡◌, ◌+◌, ◌++◌, [], length, IfOk, OnOk};
+ghost use Rattle.history.specs.Accepted.{accepted};
+ghost use Rattle.history.specs.After.{reopen};
+ghost use Rattle.history.specs.Awaited.{pending_days};
+ghost use Rattle.trial.specs.Figures.{IsTrialText, publications, text_of};
+ghost use Rattle.trial.specs.Trials.{beginning, usual};
+
+use crate::figures::write_figure;
+use crate::runs::Run;
+use devices::{Disk, MemoryDisk};
+use fixed_units::{NoMemory, Text};
+use office::Office;
+use office_inputs::Limits;
+use std::alloc::Global;
+
+/// The sum of the mean discharges is told modulo this.
+const TOTALS: u64 = 1_000_000_000;
+
+/// Makes the trial of a number: a new journal on a disk in memory, an office over it, all orders asked of it in order. The text has its six
+/// figures, each on a line.
+///
+/// # Errors
+///
+/// [`NoMemory`]. A disk in memory has no other faults than want of it.
+pub fn run_trial(alloc: Global, number: u32) -> Result<Text, NoMemory>
+    ensures { IfOk result (IsTrialText number) }
+{
+    let office = new_office(alloc)?;
+    run_over(alloc, office, number)
+}
+
+/// An office over a new journal on a disk in memory, with the usual limits.
+fn new_office(alloc: Global) -> Result<Office<MemoryDisk>, NoMemory>
+    ensures { IfOk result (λ office. office.register.history ≡ reopen usual []) }
+{
+    let mut disk = MemoryDisk::empty(alloc);
+    if journal::init(&mut disk).is_err() {
+        return Err(NoMemory);
+    }
+    match Office::open(alloc, disk, Limits::usual()) {
+        Ok(office) => Ok(office),
+        Err(_) => Err(NoMemory),
+    }
+}
+
+/// The text of the trial of a number, whose orders are asked of an office over a new journal.
+fn run_over<D: Disk + Drop>(alloc: Global, office: Office<D>, number: u32) -> Result<Text, NoMemory>
+    requires { office.register.history ≡ reopen usual [] }
+    ensures { IfOk result (IsTrialText number) }
+{
+    let mut run = Run::new(alloc, office);
+    follow(alloc, &mut run, number)
+}
+
+/// The same, in a run of which nothing was asked.
+fn follow<D: Disk>(alloc: Global, run: &mut Run<D>, number: u32) -> Result<Text, NoMemory>
+    requires { run.old ≡ beginning }
+    ensures { IfOk result (IsTrialText number) }
+{
+    run.follow_orders(number)?;
+    let mut text = Text::new(alloc);
+    write_figures(run, &mut text)?;
+    Ok(text)
+}
+
+/// Adds the lines of the six figures of a run, of which nothing is pending.
+fn write_figures<D: Disk>(run: &Run<D>, out: &mut Text) -> Result<(), NoMemory>
+    requires settled { pending_days run.now.history.events ≡ [] }
+    requires counted { length run.now.history.events ≡ length (accepted run.now.history.events) + publications run.now.history.events }
+    ensures { OnOk result (out.new ≡ out.old ++ text_of run.now) }
+{
+    write_figure(b"stations", run.kept(), out)?;
+    write_figure(b"edits", run.edits(), out)?;
+    write_figure(b"locked", run.locked(), out)?;
+    write_figure(b"published", run.events() - run.edits(), out)?;
+    write_figure(b"approved", run.approved(), out)?;
+    write_figure(b"total", run.total() % TOTALS, out)?;
+    Ok(())
+}

@@ -1,0 +1,20 @@
+use Rattle.std.proofs.Common.{◌≡◌, ◌∙◌, ap, arith}
+use Rattle.trial.specs.Figures.{approved_days}
+use Rattle.trial.proofs.SumLemmas.{station_more, stations_all}
+use Rattle.trial.proofs.counts.approved.Goals as goal
+
+pub loop-station-preserved : goal.loop-station-preserved
+loop-station-preserved g c =
+    let some = c.loop-station.invariant.0 in
+    let count = c.loop-station.invariant.2 in
+    let few = c.approved_days-count.ensures.few in (
+      omega (arith, some),
+      station_more (approved_days c.args.office.now.register.history.events) c.loop-station.station c.loop-station.count c.approved_days-count.result some c.loop-station.invariant.1
+          (c.approved_days-count.ensures.approved ∙ ap (approved_days c.args.office.now.register.history.events) c.site_of.ensures),
+      omega (arith, some, count, few),
+    )
+
+pub returns : goal.returns
+returns g c =
+    let last : c.loop-station.station ≡ 5 = omega (arith, c.loop-station-test.false) in
+    stations_all (approved_days c.args.office.now.register.history.events) c.loop-station.station c.loop-station.count last c.loop-station.invariant.1

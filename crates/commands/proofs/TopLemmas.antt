@@ -217,6 +217,29 @@ unserved g (ends.Damaged at) name p0 p2 c0 c2 l0 l w0 w h e = tt
 unserved g ends.NoMemory name p0 p2 c0 c2 l0 l w0 w h e = tt
 unserved g ends.Usage name p0 p2 c0 c2 l0 l w0 w h e = tt
 
+-- where a loading ends at the input, nothing was written
+loading_unwritten : (end : LoadingEnd) → (loading_status end ≡ 2) ⊎ (loading_status end ≡ 9) → IsUnasked end
+loading_unwritten loadings.Done (inl e) = absurd (cc e)
+loading_unwritten loadings.Done (inr e) = absurd (cc e)
+loading_unwritten loadings.InputFault e = tt
+loading_unwritten loadings.OutputFault (inl e) = absurd (cc e)
+loading_unwritten loadings.OutputFault (inr e) = absurd (cc e)
+loading_unwritten loadings.NoMemory e = tt
+loading_unwritten loadings.NotADocument e = tt
+
+pub unwritten_loading : {D : Type 0} (g : Ghosts D) (end : RunEnd)
+    (name : List ℕ) (p0 p2 : Option (List ℕ → Place D)) (c0 c2 : ℕ) (l0 l w0 w : Option (List ℕ))
+    → ServesUnder g Loading name end p0 p2 c0 c2 l0 l w0 w → (status_of end ≡ 2) ⊎ (status_of end ≡ 9) → IsUnwritten end
+unwritten_loading g ends.Made name p0 p2 c0 c2 l0 l w0 w h e = tt
+unwritten_loading g ends.Exists name p0 p2 c0 c2 l0 l w0 w h e = tt
+unwritten_loading g (ends.Served end) name p0 p2 c0 c2 l0 l w0 w h e = absurd h.2
+unwritten_loading g (ends.Loaded end) name p0 p2 c0 c2 l0 l w0 w h e = loading_unwritten end e
+unwritten_loading g ends.DiskFault name p0 p2 c0 c2 l0 l w0 w h e = tt
+unwritten_loading g ends.NotAJournal name p0 p2 c0 c2 l0 l w0 w h e = tt
+unwritten_loading g (ends.Damaged at) name p0 p2 c0 c2 l0 l w0 w h e = tt
+unwritten_loading g ends.NoMemory name p0 p2 c0 c2 l0 l w0 w h e = tt
+unwritten_loading g ends.Usage name p0 p2 c0 c2 l0 l w0 w h e = tt
+
 -- two facts of what is there
 both : (o : Option (List ℕ)) (P Q : List ℕ → Type 0) → IfSome o P → IsSomeAnd o Q → (bytes : List ℕ) × P bytes × Q bytes
 both None P Q p q = absurd q
@@ -328,22 +351,20 @@ not_stays g name P (Some b) None sound stays never = stays
 not_stays g name P (Some b) (Some a) sound stays never = never (b name) sound stays.0
 
 -- no document is none
-not_no_document : (h after : History) (l0 l w0 w : Option (List ℕ))
-    → IsLoaded h after loadings.NotADocument l0 l w0 w → IsSomeAnd l0 IsDocument → IsSome w0 → ⊥
-not_no_document h after None l w0 w loaded stated told = stated
-not_no_document h after (Some input) None w0 w loaded stated told = loaded
-not_no_document h after (Some input) (Some left) None w loaded stated told = absurd (cc)
-not_no_document h after (Some input) (Some left) (Some before) w loaded stated told = loaded.2.ends.0 stated.0 stated.1
+not_no_document : (h after : History) (l0 l w0 w : Option (List ℕ)) → IsLoaded h after loadings.NotADocument l0 l w0 w → IsSomeAnd l0 IsDocument → ⊥
+not_no_document h after None l w0 w loaded stated = stated
+not_no_document h after (Some input) None w0 w loaded stated = loaded.loads
+not_no_document h after (Some input) (Some left) w0 w loaded stated = loaded.loads.1.ends.0 stated.0 stated.1
 
 loading_completes : (end : LoadingEnd) (h after : History) (l0 l w0 w : Option (List ℕ)) (a b c d : ℕ)
-    → IsLoaded h after end l0 l w0 w → LoadingCause end a b c d → IsSomeAnd l0 IsDocument → IsSome w0
+    → IsLoaded h after end l0 l w0 w → LoadingCause end a b c d → IsSomeAnd l0 IsDocument
     → ¬ (Rose a b) → ¬ (Rose c d) → (loading_status end ≡ 0) ⊎ (loading_status end ≡ 6)
-loading_completes loadings.Done h after l0 l w0 w a b c d loaded cause stated told calm still = inl refl
-loading_completes loadings.InputFault h after l0 l w0 w a b c d loaded cause stated told calm still = absurd (calm cause)
-loading_completes loadings.OutputFault h after l0 l w0 w a b c d loaded cause stated told calm still = absurd (still cause)
-loading_completes loadings.NotADocument h after l0 l w0 w a b c d loaded cause stated told calm still =
-    absurd (not_no_document h after l0 l w0 w loaded stated told)
-loading_completes loadings.NoMemory h after l0 l w0 w a b c d loaded cause stated told calm still = inr refl
+loading_completes loadings.Done h after l0 l w0 w a b c d loaded cause stated calm still = inl refl
+loading_completes loadings.InputFault h after l0 l w0 w a b c d loaded cause stated calm still = absurd (calm cause)
+loading_completes loadings.OutputFault h after l0 l w0 w a b c d loaded cause stated calm still = absurd (still cause)
+loading_completes loadings.NotADocument h after l0 l w0 w a b c d loaded cause stated calm still =
+    absurd (not_no_document h after l0 l w0 w loaded stated)
+loading_completes loadings.NoMemory h after l0 l w0 w a b c d loaded cause stated calm still = inr refl
 
 -- a run over a sound journal ends as what is done over the office does, or for want of memory
 opens_sound : {D : Type 0} (g : Ghosts D) (work : Work) (end : RunEnd)
@@ -379,18 +400,18 @@ session_worked ends.Usage h after l0 l w0 w a b c d worked cause formed told cal
 
 loading_worked : (end : RunEnd) (h after : History) (l0 l w0 w : Option (List ℕ)) (a b c d : ℕ)
     → IsWorked end Loading h after l0 l w0 w → RunCause end a b c d
-    → IsSomeAnd l0 IsDocument → IsSome w0 → ¬ (Rose a b) → ¬ (Rose c d)
+    → IsSomeAnd l0 IsDocument → ¬ (Rose a b) → ¬ (Rose c d)
     → (status_of end ≡ 0) ⊎ (status_of end ≡ 6)
-loading_worked ends.Made h after l0 l w0 w a b c d worked cause stated told calm still = absurd worked
-loading_worked ends.Exists h after l0 l w0 w a b c d worked cause stated told calm still = absurd worked
-loading_worked (ends.Served end) h after l0 l w0 w a b c d worked cause stated told calm still = absurd worked
-loading_worked (ends.Loaded end) h after l0 l w0 w a b c d worked cause stated told calm still =
-    loading_completes end h after l0 l w0 w a b c d worked cause stated told calm still
-loading_worked ends.DiskFault h after l0 l w0 w a b c d worked cause stated told calm still = absurd worked
-loading_worked ends.NotAJournal h after l0 l w0 w a b c d worked cause stated told calm still = absurd worked
-loading_worked (ends.Damaged at) h after l0 l w0 w a b c d worked cause stated told calm still = absurd worked
-loading_worked ends.NoMemory h after l0 l w0 w a b c d worked cause stated told calm still = absurd worked
-loading_worked ends.Usage h after l0 l w0 w a b c d worked cause stated told calm still = absurd worked
+loading_worked ends.Made h after l0 l w0 w a b c d worked cause stated calm still = absurd worked
+loading_worked ends.Exists h after l0 l w0 w a b c d worked cause stated calm still = absurd worked
+loading_worked (ends.Served end) h after l0 l w0 w a b c d worked cause stated calm still = absurd worked
+loading_worked (ends.Loaded end) h after l0 l w0 w a b c d worked cause stated calm still =
+    loading_completes end h after l0 l w0 w a b c d worked cause stated calm still
+loading_worked ends.DiskFault h after l0 l w0 w a b c d worked cause stated calm still = absurd worked
+loading_worked ends.NotAJournal h after l0 l w0 w a b c d worked cause stated calm still = absurd worked
+loading_worked (ends.Damaged at) h after l0 l w0 w a b c d worked cause stated calm still = absurd worked
+loading_worked ends.NoMemory h after l0 l w0 w a b c d worked cause stated calm still = absurd worked
+loading_worked ends.Usage h after l0 l w0 w a b c d worked cause stated calm still = absurd worked
 
 module _ {D : Type 0} (g : Ghosts D) (end : RunEnd)
     (name : List ℕ) (p0 p2 : Option (List ℕ → Place D)) (c0 c2 : ℕ) (l0 l w0 w : Option (List ℕ)) (a b c d : ℕ) where
@@ -404,10 +425,10 @@ module _ {D : Type 0} (g : Ghosts D) (end : RunEnd)
       ]
 
   pub completes_loading : ServesUnder g Loading name end p0 p2 c0 c2 l0 l w0 w → RunCause end a b c d → HasSound g name p0
-      → IsSomeAnd l0 IsDocument → IsSome w0 → ¬ (Rose a b) → ¬ (Rose c d) → ¬ (Rose c0 c2)
+      → IsSomeAnd l0 IsDocument → ¬ (Rose a b) → ¬ (Rose c d) → ¬ (Rose c0 c2)
       → (status_of end ≡ 0) ⊎ (status_of end ≡ 6)
-  completes_loading serves cause sound stated told calm still quiet =
+  completes_loading serves cause sound stated calm still quiet =
       elim (opens_sound g Loading end name p0 p2 c0 c2 l0 l w0 w serves sound quiet) [
-        | inl h ↦ loading_worked end h.0 h.1 l0 l w0 w a b c d h.2 cause stated told calm still
+        | inl h ↦ loading_worked end h.0 h.1 l0 l w0 w a b c d h.2 cause stated calm still
         | inr e ↦ inr e
       ]

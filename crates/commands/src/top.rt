@@ -73,6 +73,8 @@ pub fn run_office<R, S: Source, K: Sink, E: Sink, C: Cabinet>(
     ensures unserved { (result ≡ 4) ⊎ ((result ≡ 5) ⊎ (result ≡ 8)) → (input.new ≡ input.old) × (output.new ≡ output.old) }
     ensures unserved_batch { (name : List ℕ) → IsAsked (map string_bytes words.now) (Batch name) → result ≡ 6 → (input.new ≡ input.old) × (output.new ≡ output.old) }
     ensures unwritten { result ≡ 6 → output.new ≡ output.old }
+    // where the document was not read, or is none, the history that the clause `stations` tells of is the one that was found
+    ensures unwritten_stations { (name : List ℕ) → IsAsked (map string_bytes words.now) (Stations name) → (result ≡ 2) ⊎ (result ≡ 9) → output.new ≡ output.old }
     ensures complete_init { (name : List ℕ) → IsAsked (map string_bytes words.now) (Init name) → HasRoom C.Disk.Disk name (C.places cabinet.old)
         → ¬ (Rose (C.faults cabinet.old) (C.faults cabinet.new)) → (result ≡ 0) ⊎ (result ≡ 6) }
     ensures complete { (name : List ℕ) → IsAsked (map string_bytes words.now) (Batch name) → HasSound C.Disk.Disk name (C.places cabinet.old)
@@ -80,7 +82,7 @@ pub fn run_office<R, S: Source, K: Sink, E: Sink, C: Cabinet>(
         → ¬ (Rose (S.faults input.old) (S.faults input.new)) → ¬ (Rose (K.faults output.old) (K.faults output.new))
         → ¬ (Rose (C.faults cabinet.old) (C.faults cabinet.new)) → (result ≡ 0) ⊎ (result ≡ 6) }
     ensures complete_stations { (name : List ℕ) → IsAsked (map string_bytes words.now) (Stations name) → HasSound C.Disk.Disk name (C.places cabinet.old)
-        → IsSomeAnd (S.left input.old) IsDocument → IsSome (K.written output.old)
+        → IsSomeAnd (S.left input.old) IsDocument
         → ¬ (Rose (S.faults input.old) (S.faults input.new)) → ¬ (Rose (K.faults output.old) (K.faults output.new))
         → ¬ (Rose (C.faults cabinet.old) (C.faults cabinet.new)) → (result ≡ 0) ⊎ (result ≡ 6) }
 {

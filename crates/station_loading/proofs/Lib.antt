@@ -1,4 +1,5 @@
 pub mod InputLemmas
 pub mod LineLemmas
+pub mod LoadedLemmas
 pub mod PassingLemmas
 pub mod TellingLemmas

@@ -1,8 +1,9 @@
 -- How the loading of a document of stations ends.
-use Rattle.std.specs.Prelude.{◌≡◌, ℕ, ◌+◌, Bool, true, false, List, [], ◌∷◌, ◌++◌, Option, Some, IfSome, IsSomeAnd, ⊤}
+use Rattle.std.specs.Prelude.{◌≡◌, ℕ, ◌+◌, Bool, true, false, List, [], ◌∷◌, ◌++◌, Option, IfSome, IsSomeAnd, ⊤}
 use Rattle.std.specs.List.{concat}
 use Rattle.desk.specs.Endings.{StopsWithin}
 use Rattle.devices.specs.Faults.{Rose}
+use Rattle.devices.specs.Sinks.{AreWritten}
 use Rattle.edits.specs.declared.content.Edit.{Edit}
 use Rattle.history.specs.Events.{History}
 use Rattle.station_documents.specs.Documents.{StatesStations, most_bytes}
@@ -41,11 +42,20 @@ pub record Loads (h after : History) (end : LoadingEnd) (input left written : Li
   pub ends : LoadsBy end h input left after written
   pub taken : IsTakenAtMost (most_bytes + 1) input left
 
--- the same, where the source and the sink tell their bytes
-abbrev pub IsLoaded : History → History → LoadingEnd → Option (List ℕ) → Option (List ℕ) → Option (List ℕ) → Option (List ℕ) → Type 0
-IsLoaded h after end left_before left_after written_before written_after =
-    IfSome left_before (λ input. IsSomeAnd left_after (λ left. IfSome written_before (λ before.
-    (written : List ℕ) × (written_after ≡ Some (before ++ written)) × Loads h after end input left written)))
+-- the office was asked nothing
+abbrev pub IsUnasked : LoadingEnd → Type 0
+IsUnasked Done = ⊥
+IsUnasked InputFault = ⊤
+IsUnasked OutputFault = ⊥
+IsUnasked NotADocument = ⊤
+IsUnasked NoMemory = ⊤
+
+-- The same, where the source tells its bytes. What was written is at the end of a sink that tells its own; one that does not may have any
+-- such text, and the office was asked these edits all the same. Where it was asked none the history stays, whatever the two tell.
+pub record IsLoaded (h after : History) (end : LoadingEnd) (left_before left_after written_before written_after : Option (List ℕ)) : Type 0 where
+  pub loads : IfSome left_before (λ input. IsSomeAnd left_after (λ left.
+      (written : List ℕ) × Loads h after end input left written × AreWritten written_before written written_after true))
+  pub unasked : IsUnasked end → after ≡ h
 
 -- all of the input was taken, and states these edits
 abbrev pub IsReadAs : Option (List ℕ) → List Edit → Option (List ℕ) → Type 0
@@ -72,11 +82,3 @@ LoadingCause InputFault source_before source_now sink_before sink_now = Rose sou
 LoadingCause OutputFault source_before source_now sink_before sink_now = Rose sink_before sink_now
 LoadingCause NotADocument source_before source_now sink_before sink_now = ⊤
 LoadingCause NoMemory source_before source_now sink_before sink_now = ⊤
-
--- the office was asked nothing
-abbrev pub IsUnasked : LoadingEnd → Type 0
-IsUnasked Done = ⊥
-IsUnasked InputFault = ⊤
-IsUnasked OutputFault = ⊥
-IsUnasked NotADocument = ⊤
-IsUnasked NoMemory = ⊤

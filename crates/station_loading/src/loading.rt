@@ -1,6 +1,6 @@
 //! The stations of a document are added to an office, one behind another.
 
-ghost use Rattle.std.specs.Prelude.{◌≡◌, ◌≤◌, ◌+◌, ◌++◌, List, ℕ, Some, IfSome, IfOk, IfErr, false};
+ghost use Rattle.std.specs.Prelude.{◌≡◌, ◌≤◌, ◌+◌, List, ℕ, IfOk, IfErr, true, false};
 ghost use Rattle.desk.specs.Passing.{Passes};
 ghost use Rattle.devices.specs.Faults.{Rose};
 ghost use Rattle.devices.specs.Sinks.{AreWritten};
@@ -108,7 +108,7 @@ fn end_unstated(fault: DocumentFault) -> LoadingEnd
 /// Asks the office each of these, one behind another, and writes a line of each; `false` where the sink failed, behind which none is
 /// asked.
 fn add_stations<D: Disk, K: Sink>(office: &mut Office<D>, edits: Vec<Edit>, sink: &mut K) -> bool
-    ensures told { IfSome (K.written sink.old) (λ before. (written : List ℕ) × (K.written sink.new ≡ Some (before ++ written)) × AreTold result office.old.register.history edits.items office.new.register.history written) }
+    ensures told { (written : List ℕ) × AreTold result office.old.register.history edits.items office.new.register.history written × AreWritten (K.written sink.old) written (K.written sink.new) true }
     ensures passed { Passes D.Disk office.old.register.history office.new.register.history office.old.disk office.new.disk }
     ensures disk_counted { D.faults office.old.disk ≤ D.faults office.new.disk }
     ensures output_counted { K.faults sink.old ≤ K.faults sink.new }

@@ -4,7 +4,7 @@ use Rattle.command_words.specs.Commands.{asked_by}
 use Rattle.command_words.specs.Words.{Init, Batch, Stations}
 use Rattle.commands.proofs.MakingLemmas.{makes_nothing}
 use Rattle.commands.proofs.ServingLemmas.{serves_nothing}
-use Rattle.commands.proofs.TopLemmas.{completes, completes_init, completes_loading, unserved}
+use Rattle.commands.proofs.TopLemmas.{completes, completes_init, completes_loading, unserved, unwritten_loading}
 use Rattle.commands.specs.declared.runs.RunEnd.TheVariants as ends
 use Rattle.commands.specs.declared.runs.Work.TheVariants.{Session, Loading}
 use Rattle.commands.proofs.top.run_office.Goals as goal
@@ -51,6 +51,17 @@ returns-in-Ok-clause-unserved_batch g c = λ name is six.
     (g.K.Sink.written c.args.output.now) (g.K.Sink.written c.run_command-end.new.output)
     (c.run_command-end.ensures.serves name same) (sym c.finish.ensures.status ∙ six))
 
+pub returns-in-Ok-clause-unwritten_stations : goal.returns-in-Ok-clause-unwritten_stations
+returns-in-Ok-clause-unwritten_stations g c = λ name is at_input.
+    let same = one_is_asked (map string_bytes c.args.words.now) (asked_by c.in-Ok.command) (Stations name) c.in-Ok.ensures.ok is in
+    c.run_command-end.ensures.unwritten
+    (unwritten_loading g.C.Disk.Disk c.run_command-end.result name
+    (g.C.Cabinet.places c.args.cabinet.now) (g.C.Cabinet.places c.run_command-end.new.cabinet)
+    (g.C.Cabinet.faults c.args.cabinet.now) (g.C.Cabinet.faults c.run_command-end.new.cabinet)
+    (g.S.Source.left c.args.input.now) (g.S.Source.left c.run_command-end.new.input)
+    (g.K.Sink.written c.args.output.now) (g.K.Sink.written c.run_command-end.new.output)
+    (c.run_command-end.ensures.loads name same) (subst (λ (n : ℕ). (n ≡ 2) ⊎ (n ≡ 9)) c.finish.ensures.status at_input))
+
 pub returns-in-Ok-clause-complete_init : goal.returns-in-Ok-clause-complete_init
 returns-in-Ok-clause-complete_init g c = λ name is room calm.
     let same = one_is_asked (map string_bytes c.args.words.now) (asked_by c.in-Ok.command) (Init name) c.in-Ok.ensures.ok is in
@@ -74,7 +85,7 @@ returns-in-Ok-clause-complete g c = λ name is sound formed told calm still quie
     (c.run_command-end.ensures.serves name same) c.run_command-end.ensures.cause sound formed told calm still quiet)
 
 pub returns-in-Ok-clause-complete_stations : goal.returns-in-Ok-clause-complete_stations
-returns-in-Ok-clause-complete_stations g c = λ name is sound stated told calm still quiet.
+returns-in-Ok-clause-complete_stations g c = λ name is sound stated calm still quiet.
     let same = one_is_asked (map string_bytes c.args.words.now) (asked_by c.in-Ok.command) (Stations name) c.in-Ok.ensures.ok is in
     subst (λ (n : ℕ). (n ≡ 0) ⊎ (n ≡ 6)) (sym c.finish.ensures.status)
     (completes_loading g.C.Disk.Disk c.run_command-end.result name
@@ -84,7 +95,7 @@ returns-in-Ok-clause-complete_stations g c = λ name is sound stated told calm s
     (g.K.Sink.written c.args.output.now) (g.K.Sink.written c.run_command-end.new.output)
     (g.S.Source.faults c.args.input.now) (g.S.Source.faults c.run_command-end.new.input)
     (g.K.Sink.faults c.args.output.now) (g.K.Sink.faults c.run_command-end.new.output)
-    (c.run_command-end.ensures.loads name same) c.run_command-end.ensures.cause sound stated told calm still quiet)
+    (c.run_command-end.ensures.loads name same) c.run_command-end.ensures.cause sound stated calm still quiet)
 
 -- there was no memory for the words, and nothing was done
 pub returns-in-Err-NoMemory-clause-init : goal.returns-in-Err-NoMemory-clause-init

@@ -2,7 +2,7 @@ use Rattle.std.proofs.Common.{◌++◌, ◌∷◌, [], arith}
 use Rattle.desk.proofs.SessionLemmas.{wrote_reply}
 use Rattle.desk.proofs.StretchLemmas.{passes_more}
 use Rattle.station_loading.proofs.LineLemmas.{added_more}
-use Rattle.station_loading.proofs.TellingLemmas.{one_more, told_short}
+use Rattle.station_loading.proofs.TellingLemmas.{none_more, one_more, told_all, told_short}
 use Rattle.station_loading.proofs.loading.add_stations.Goals as goal
 
 pub returns-then-not-add_station-clause-told : goal.returns-then-not-add_station-clause-told
@@ -19,6 +19,14 @@ pub returns-then-not-add_station-clause-passed : goal.returns-then-not-add_stati
 returns-then-not-add_station-clause-passed g c =
     passes_more g.D.Disk c.args.office.now.register.history c.loop-edit.office.register.history c.add_station.new.office.register.history
     c.args.office.now.disk c.loop-edit.office.disk c.add_station.new.office.disk c.loop-edit.invariant.2.passed c.add_station.ensures.passed
+
+pub returns-clause-told : goal.returns-clause-told
+returns-clause-told g c =
+    let kept = c.loop-edit.invariant.2 in
+    told_all c.args.office.now.register.history c.loop-edit.office.register.history c.args.edits.items c.loop-edit.yielded kept.lines
+    (g.K.Sink.written c.args.sink.now) (g.K.Sink.written c.loop-edit.sink) kept.added
+    (none_more c.args.edits.items c.loop-edit.yielded c.loop-edit.edit-iterator c.next.new.self c.next.result c.in-None.is c.next.ensures.steps
+    kept.whole kept.count) kept.wrote
 
 pub loop-edit-preserved : goal.loop-edit-preserved
 loop-edit-preserved g c =

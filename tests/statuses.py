@@ -1,6 +1,6 @@
 #!/usr/bin/env python3
-"""Runs the commands to each of their statuses, and looks at all three standard streams; status 6 of `init` is not among
-them.
+"""Runs the commands to each of their statuses, and looks at all three standard streams; status 6 of `init` and of `trial`
+is not among them.
 
     python3 tests/statuses.py PROGRAM [--long]
 
@@ -90,7 +90,8 @@ def usage(place):
         ["stations"],
         ["stations", "--number", "1"],
         ["stations", "--journal", name, "--"],
-        ["trial", "--number", "1"],
+        ["trial"],
+        ["trial", "--number", "1234567890"],
         ["--help"],
         [b"init", b"--journal", b"\xff"],
     ]:
@@ -169,6 +170,19 @@ def stations(place):
     got = place.on_journal("stations", EMPTY, two, before=closed(1))
     expect("stations, stream 1 closed", (3, b"", OUTPUT_FAULT), got)
     expect("    what is left: the one whose line was being written", one, place.content())
+
+
+TRIAL = b"stations 4\nedits 68\nlocked 4\npublished 1607\napproved 400\ntotal 721636584\n"
+
+
+def trial(place):
+    """The trial of a number, which touches no file."""
+    place.journal.write_bytes(b"x")
+    for words in [["trial", "--number", "1"], ["trial", "--number=000000001"]]:
+        expect(f"{words}", (0, TRIAL, b""), place.run(words, b"x"))
+    got = place.run(words, before=closed(1))
+    expect("trial, stream 1 closed", (3, b"", OUTPUT_FAULT), got)
+    expect("    what is left", b"x", place.content())
 
 
 def post(target, body=b""):
@@ -320,7 +334,7 @@ def main():
     if len(sys.argv) not in (2, 3):
         raise SystemExit(__doc__)
     program = str(pathlib.Path(sys.argv[1]).resolve())
-    cases = [usage, ends, stations, replies, closed_streams, failing_streams, another_run, little_memory]
+    cases = [usage, ends, stations, trial, replies, closed_streams, failing_streams, another_run, little_memory]
     for case in cases + [long_input] * ("--long" in sys.argv):
         with tempfile.TemporaryDirectory() as folder:
             case(Place(program, folder))

@@ -1,7 +1,6 @@
 -- What an office begins with that is opened on the records of a journal.
 use Rattle.std.proofs.Common.{◌≡◌, ℕ, List, [], ◌∷◌, ◌++◌, reverse, map, Option, None, refl, sym, ◌∙◌, ap, subst, inl}
 use Rattle.std.proofs.lemmas.List.{append-nil, map-append, reverse-append}
-use Rattle.commands.specs.Serving.{usual}
 use Rattle.desk.specs.Passing.{fault_count}
 use Rattle.history.proofs.EventLemmas.{accepted_all}
 use Rattle.history.specs.Accepted.{accepted}
@@ -12,6 +11,7 @@ use Rattle.office.specs.Stops.{IsLeft, IsLeftBefore, IsLeftBetween}
 use Rattle.office_inputs.specs.declared.limits.Limits.{Limits}
 use Rattle.office_inputs.specs.declared.limits.TheConstants.{USUAL_STATIONS, USUAL_READINGS, USUAL_DAY_READINGS, USUAL_CELLS, USUAL_EVENTS, USUAL_JOURNAL_BYTES}
 use Rattle.records.specs.Sheets.{Record}
+use Rattle.trial.specs.Trials.{usual}
 
 -- an office keeps to these numbers
 abbrev with_all : ℕ → ℕ → ℕ → ℕ → ℕ → ℕ → Limits

@@ -10,7 +10,7 @@ use Rattle.commands.proofs.PlaceLemmas.{opened_and_kept, was_kept, leaves_kept, 
 use Rattle.commands.proofs.ReopenLemmas.{count_reopened, found_left}
 use Rattle.commands.specs.Places.{HasKept, IfKept, IsLeftAlone, HasTheSame}
 use Rattle.commands.specs.RunEnds.{opening_end}
-use Rattle.commands.specs.Serving.{usual, IsLeftOn, Carries, ServesDisk, CarriesAt, StaysWith, ServesUnder, WorksOn, WorksUnder}
+use Rattle.commands.specs.Serving.{IsLeftOn, Carries, ServesDisk, CarriesAt, StaysWith, ServesUnder, WorksOn, WorksUnder}
 use Rattle.commands.specs.declared.runs.RunEnd.{RunEnd}
 use Rattle.commands.specs.declared.runs.Work.{Work}
 use Rattle.commands.specs.declared.runs.RunEnd.TheVariants as ends
@@ -26,6 +26,7 @@ use Rattle.journal.specs.declared.opening.OpenFault.TheVariants as opening
 use Rattle.office.specs.Openings.{IsDamagedFor, IsNotOpened}
 use Rattle.office.specs.Stops.{IsLeft, IsLeftBetween}
 use Rattle.records.specs.Sheets.{Record}
+use Rattle.trial.specs.Trials.{usual}
 
 -- a disk that tells its bytes has these
 both_told : (o : Option (List ℕ)) (P : List ℕ → Type 0) → IsSome o → IfSome o P → IsSomeAnd o P
@@ -200,6 +201,7 @@ serves_kept g work ends.NoMemory name p0 p1 p2 disk left c0 c1 c2 l0 l w0 w open
     stays_kept g name p0 p1 p2 disk left (λ place. ⊤) opened kept h (λ held is. tt)
 serves_kept g work ends.Made name p0 p1 p2 disk left c0 c1 c2 l0 l w0 w opened kept fresh later count h = absurd h
 serves_kept g work ends.Exists name p0 p1 p2 disk left c0 c1 c2 l0 l w0 w opened kept fresh later count h = absurd h
+serves_kept g work (ends.Tried end) name p0 p1 p2 disk left c0 c1 c2 l0 l w0 w opened kept fresh later count h = absurd h
 serves_kept g work ends.Usage name p0 p1 p2 disk left c0 c1 c2 l0 l w0 w opened kept fresh later count h = absurd h
 
 -- a place has what it had
@@ -255,6 +257,7 @@ pub worked_on : {D : Type 0} (g : Ghosts D) (work : Work) (end : RunEnd) (found 
     → WorksOn g work end found left l0 l w0 w → ServesDisk g work end found left l0 l w0 w
 worked_on g work ends.Made found left l0 l w0 w h = absurd h.2
 worked_on g work ends.Exists found left l0 l w0 w h = absurd h.2
+worked_on g work (ends.Tried end) found left l0 l w0 w h = absurd h.2
 worked_on g work ends.Usage found left l0 l w0 w h = absurd h.2
 worked_on g work (ends.Served end) found left l0 l w0 w h = h
 worked_on g work (ends.Loaded end) found left l0 l w0 w h = h

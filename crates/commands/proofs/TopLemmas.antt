@@ -8,11 +8,11 @@ use Rattle.history.specs.Events.{History}
 use Rattle.office.specs.Openings.{IsDamagedFor}
 use Rattle.wire.specs.declared.limits.TheConstants.{STREAM_BYTES}
 use Rattle.journal.specs.JournalBytes.{HasHeader, IsTaken, IsForeign}
-use Rattle.commands.specs.Statuses.{loading_status, session_status, status_of}
+use Rattle.commands.specs.Statuses.{loading_status, session_status, status_of, trial_status}
 use Rattle.commands.specs.Making.{MakesOn, MakesAt, Makes, IsMakingEnd}
 use Rattle.commands.specs.Places.{HasKept, IfKept, bytes_found, images_found}
 use Rattle.commands.specs.RunEnds.{IsEarly, IsUnwritten, RunCause}
-use Rattle.commands.specs.Serving.{usual, IsWorked, ServesUnder, StaysWith}
+use Rattle.commands.specs.Serving.{IsWorked, ServesUnder, StaysWith}
 use Rattle.desk.specs.Sessions.{HasCause, IsServed}
 use Rattle.commands.specs.Top.{IsDocument, IsWellFormed, IsSound, HasSound, HasRoom}
 use Rattle.desk.specs.declared.sessions.SessionEnd.{SessionEnd}
@@ -21,9 +21,12 @@ use Rattle.commands.specs.declared.runs.RunEnd.{RunEnd}
 use Rattle.commands.specs.declared.runs.RunEnd.TheVariants as ends
 use Rattle.commands.specs.declared.runs.Work.{Work}
 use Rattle.commands.specs.declared.runs.Work.TheVariants.{Session, Loading}
+use Rattle.commands.specs.declared.trying.TrialEnd.{TrialEnd}
+use Rattle.commands.specs.declared.trying.TrialEnd.TheVariants as trials
 use Rattle.station_loading.specs.Loading.{IsLoaded, IsUnasked, LoadingCause}
 use Rattle.station_loading.specs.declared.loading.LoadingEnd.{LoadingEnd}
 use Rattle.station_loading.specs.declared.loading.LoadingEnd.TheVariants as loadings
+use Rattle.trial.specs.Trials.{usual}
 
 -- wrong words have their status alone
 session_not_usage : (end : SessionEnd) → session_status end ≢ 1
@@ -41,11 +44,17 @@ loading_not_usage loadings.OutputFault h = absurd (cc)
 loading_not_usage loadings.NotADocument h = absurd (cc)
 loading_not_usage loadings.NoMemory h = absurd (cc)
 
+trial_not_usage : (end : TrialEnd) → trial_status end ≢ 1
+trial_not_usage trials.Done h = absurd (cc)
+trial_not_usage trials.OutputFault h = absurd (cc)
+trial_not_usage trials.NoMemory h = absurd (cc)
+
 pub usage_status : (end : RunEnd) → status_of end ≡ 1 → end ≡ ends.Usage
 usage_status ends.Made h = absurd (cc)
 usage_status ends.Exists h = absurd (cc)
 usage_status (ends.Served end) h = absurd (session_not_usage end h)
 usage_status (ends.Loaded end) h = absurd (loading_not_usage end h)
+usage_status (ends.Tried end) h = absurd (trial_not_usage end h)
 usage_status ends.DiskFault h = absurd (cc)
 usage_status ends.NotAJournal h = absurd (cc)
 usage_status (ends.Damaged at) h = absurd (cc)
@@ -77,11 +86,17 @@ loading_input loadings.OutputFault a b c d h e = absurd (cc)
 loading_input loadings.NotADocument a b c d h e = absurd (cc)
 loading_input loadings.NoMemory a b c d h e = absurd (cc)
 
+trial_not_input : (end : TrialEnd) → trial_status end ≢ 2
+trial_not_input trials.Done h = absurd (cc)
+trial_not_input trials.OutputFault h = absurd (cc)
+trial_not_input trials.NoMemory h = absurd (cc)
+
 pub input_cause : (end : RunEnd) (a b c d : ℕ) → RunCause end a b c d → status_of end ≡ 2 → Rose a b
 input_cause ends.Made a b c d h e = absurd (cc)
 input_cause ends.Exists a b c d h e = absurd (cc)
 input_cause (ends.Served end) a b c d h e = session_input end a b c d h e
 input_cause (ends.Loaded end) a b c d h e = loading_input end a b c d h e
+input_cause (ends.Tried end) a b c d h e = absurd (trial_not_input end e)
 input_cause ends.DiskFault a b c d h e = absurd (cc)
 input_cause ends.NotAJournal a b c d h e = absurd (cc)
 input_cause (ends.Damaged at) a b c d h e = absurd (cc)
@@ -103,11 +118,17 @@ loading_output loadings.OutputFault a b c d h e = h
 loading_output loadings.NotADocument a b c d h e = absurd (cc)
 loading_output loadings.NoMemory a b c d h e = absurd (cc)
 
+trial_output : (end : TrialEnd) (a b c d : ℕ) → RunCause (ends.Tried end) a b c d → trial_status end ≡ 3 → Rose c d
+trial_output trials.Done a b c d h e = absurd (cc)
+trial_output trials.OutputFault a b c d h e = h
+trial_output trials.NoMemory a b c d h e = absurd (cc)
+
 pub output_cause : (end : RunEnd) (a b c d : ℕ) → RunCause end a b c d → status_of end ≡ 3 → Rose c d
 output_cause ends.Made a b c d h e = absurd (cc)
 output_cause ends.Exists a b c d h e = absurd (cc)
 output_cause (ends.Served end) a b c d h e = session_output end a b c d h e
 output_cause (ends.Loaded end) a b c d h e = loading_output end a b c d h e
+output_cause (ends.Tried end) a b c d h e = trial_output end a b c d h e
 output_cause ends.DiskFault a b c d h e = absurd (cc)
 output_cause ends.NotAJournal a b c d h e = absurd (cc)
 output_cause (ends.Damaged at) a b c d h e = absurd (cc)
@@ -130,11 +151,17 @@ loading_not_disk loadings.OutputFault h = absurd (cc)
 loading_not_disk loadings.NotADocument h = absurd (cc)
 loading_not_disk loadings.NoMemory h = absurd (cc)
 
+trial_not_disk : (end : TrialEnd) → trial_status end ≢ 4
+trial_not_disk trials.Done h = absurd (cc)
+trial_not_disk trials.OutputFault h = absurd (cc)
+trial_not_disk trials.NoMemory h = absurd (cc)
+
 pub disk_status : (end : RunEnd) → status_of end ≡ 4 → end ≡ ends.DiskFault
 disk_status ends.Made e = absurd (cc)
 disk_status ends.Exists e = absurd (cc)
 disk_status (ends.Served end) e = absurd (session_not_disk end e)
 disk_status (ends.Loaded end) e = absurd (loading_not_disk end e)
+disk_status (ends.Tried end) e = absurd (trial_not_disk end e)
 disk_status ends.DiskFault e = refl
 disk_status ends.NotAJournal e = absurd (cc)
 disk_status (ends.Damaged at) e = absurd (cc)
@@ -166,11 +193,17 @@ loading_early loadings.OutputFault h = (neither 3 h).1.1.0 refl
 loading_early loadings.NoMemory h = (neither 6 h).1.1.1.0 refl
 loading_early loadings.NotADocument h = (neither 9 h).1.1.1.1.0 refl
 
+trial_early : (end : TrialEnd) → IsEarlyStatus (trial_status end) → ⊥
+trial_early trials.Done h = (neither 0 h).0 refl
+trial_early trials.OutputFault h = (neither 3 h).1.1.0 refl
+trial_early trials.NoMemory h = (neither 6 h).1.1.1.0 refl
+
 pub early : (end : RunEnd) → IsEarlyStatus (status_of end) → IsEarly end
 early ends.Made h = tt
 early ends.Exists h = tt
 early (ends.Served end) h = absurd (session_early end h)
 early (ends.Loaded end) h = absurd (loading_early end h)
+early (ends.Tried end) h = absurd (trial_early end h)
 early ends.DiskFault h = tt
 early ends.NotAJournal h = tt
 early (ends.Damaged at) h = tt
@@ -193,11 +226,17 @@ loading_memory loadings.OutputFault e = absurd (cc)
 loading_memory loadings.NoMemory e = tt
 loading_memory loadings.NotADocument e = tt
 
+trial_memory : (end : TrialEnd) → trial_status end ≡ 6 → IsUnwritten (ends.Tried end)
+trial_memory trials.Done e = absurd (cc)
+trial_memory trials.OutputFault e = absurd (cc)
+trial_memory trials.NoMemory e = tt
+
 pub unwritten : (end : RunEnd) → status_of end ≡ 6 → IsUnwritten end
 unwritten ends.Made e = tt
 unwritten ends.Exists e = tt
 unwritten (ends.Served end) e = subst (λ (x : SessionEnd). IsUnwritten (ends.Served x)) (sym (session_memory end e)) tt
 unwritten (ends.Loaded end) e = loading_memory end e
+unwritten (ends.Tried end) e = trial_memory end e
 unwritten ends.DiskFault e = tt
 unwritten ends.NotAJournal e = tt
 unwritten (ends.Damaged at) e = tt
@@ -211,6 +250,7 @@ unserved g ends.Made name p0 p2 c0 c2 l0 l w0 w h e = tt
 unserved g ends.Exists name p0 p2 c0 c2 l0 l w0 w h e = tt
 unserved g (ends.Served end) name p0 p2 c0 c2 l0 l w0 w h e = subst (λ (x : SessionEnd). IsEarly (ends.Served x)) (sym (session_memory end e)) tt
 unserved g (ends.Loaded end) name p0 p2 c0 c2 l0 l w0 w h e = absurd h.2
+unserved g (ends.Tried end) name p0 p2 c0 c2 l0 l w0 w h e = absurd h
 unserved g ends.DiskFault name p0 p2 c0 c2 l0 l w0 w h e = tt
 unserved g ends.NotAJournal name p0 p2 c0 c2 l0 l w0 w h e = tt
 unserved g (ends.Damaged at) name p0 p2 c0 c2 l0 l w0 w h e = tt
@@ -234,6 +274,7 @@ unwritten_loading g ends.Made name p0 p2 c0 c2 l0 l w0 w h e = tt
 unwritten_loading g ends.Exists name p0 p2 c0 c2 l0 l w0 w h e = tt
 unwritten_loading g (ends.Served end) name p0 p2 c0 c2 l0 l w0 w h e = absurd h.2
 unwritten_loading g (ends.Loaded end) name p0 p2 c0 c2 l0 l w0 w h e = loading_unwritten end e
+unwritten_loading g (ends.Tried end) name p0 p2 c0 c2 l0 l w0 w h e = absurd h
 unwritten_loading g ends.DiskFault name p0 p2 c0 c2 l0 l w0 w h e = tt
 unwritten_loading g ends.NotAJournal name p0 p2 c0 c2 l0 l w0 w h e = tt
 unwritten_loading g (ends.Damaged at) name p0 p2 c0 c2 l0 l w0 w h e = tt
@@ -277,6 +318,7 @@ made_there g ends.NotAJournal bytes images disk c0 c2 h room cause calm = absurd
 made_there g ends.DiskFault bytes images disk c0 c2 h room cause calm = absurd (calm cause)
 made_there g (ends.Served end) bytes images disk c0 c2 h room cause calm = absurd h
 made_there g (ends.Loaded end) bytes images disk c0 c2 h room cause calm = absurd h
+made_there g (ends.Tried end) bytes images disk c0 c2 h room cause calm = absurd h
 made_there g (ends.Damaged at) bytes images disk c0 c2 h room cause calm = absurd h
 made_there g ends.NoMemory bytes images disk c0 c2 h room cause calm = absurd h
 made_there g ends.Usage bytes images disk c0 c2 h room cause calm = absurd h
@@ -375,6 +417,7 @@ opens_sound g work ends.Made name p0 p2 c0 c2 l0 l w0 w h sound quiet = absurd h
 opens_sound g work ends.Exists name p0 p2 c0 c2 l0 l w0 w h sound quiet = absurd h
 opens_sound g work (ends.Served end) name p0 p2 c0 c2 l0 l w0 w h sound quiet = inl (reopen usual h.0, h.1, h.2)
 opens_sound g work (ends.Loaded end) name p0 p2 c0 c2 l0 l w0 w h sound quiet = inl (reopen usual h.0, h.1, h.2)
+opens_sound g work (ends.Tried end) name p0 p2 c0 c2 l0 l w0 w h sound quiet = absurd h
 opens_sound g work ends.DiskFault name p0 p2 c0 c2 l0 l w0 w h sound quiet = absurd (quiet h.1)
 opens_sound g work ends.NotAJournal name p0 p2 c0 c2 l0 l w0 w h sound quiet =
     absurd (not_stays g name (IfKept (λ disk. IfSome (g.content disk) (λ bytes. ¬ HasHeader bytes))) p0 p2 sound h (sound_header g))
@@ -392,6 +435,7 @@ session_worked ends.Exists h after l0 l w0 w a b c d worked cause formed told ca
 session_worked (ends.Served end) h after l0 l w0 w a b c d worked cause formed told calm still =
     session_completes end h after l0 l w0 w a b c d worked cause formed told calm still
 session_worked (ends.Loaded end) h after l0 l w0 w a b c d worked cause formed told calm still = absurd worked
+session_worked (ends.Tried end) h after l0 l w0 w a b c d worked cause formed told calm still = absurd worked
 session_worked ends.DiskFault h after l0 l w0 w a b c d worked cause formed told calm still = absurd worked
 session_worked ends.NotAJournal h after l0 l w0 w a b c d worked cause formed told calm still = absurd worked
 session_worked (ends.Damaged at) h after l0 l w0 w a b c d worked cause formed told calm still = absurd worked
@@ -411,6 +455,7 @@ loading_worked ends.DiskFault h after l0 l w0 w a b c d worked cause stated calm
 loading_worked ends.NotAJournal h after l0 l w0 w a b c d worked cause stated calm still = absurd worked
 loading_worked (ends.Damaged at) h after l0 l w0 w a b c d worked cause stated calm still = absurd worked
 loading_worked ends.NoMemory h after l0 l w0 w a b c d worked cause stated calm still = absurd worked
+loading_worked (ends.Tried end) h after l0 l w0 w a b c d worked cause stated calm still = absurd worked
 loading_worked ends.Usage h after l0 l w0 w a b c d worked cause stated calm still = absurd worked
 
 module _ {D : Type 0} (g : Ghosts D) (end : RunEnd)
@@ -432,3 +477,16 @@ module _ {D : Type 0} (g : Ghosts D) (end : RunEnd)
         | inl h ↦ loading_worked end h.0 h.1 l0 l w0 w a b c d h.2 cause stated calm still
         | inr e ↦ inr e
       ]
+
+-- a trial whose sink did not fail ends well, or for want of memory
+trial_completes : (tried : TrialEnd) (a b c d : ℕ) → RunCause (ends.Tried tried) a b c d → ¬ (Rose c d)
+    → (trial_status tried ≡ 0) ⊎ (trial_status tried ≡ 6)
+trial_completes trials.Done a b c d cause still = inl refl
+trial_completes trials.OutputFault a b c d cause still = absurd (still cause)
+trial_completes trials.NoMemory a b c d cause still = inr refl
+
+pub completes_trial : (end : RunEnd) (tried : TrialEnd) (a b c d : ℕ) → end ≡ ends.Tried tried → RunCause end a b c d → ¬ (Rose c d)
+    → (status_of end ≡ 0) ⊎ (status_of end ≡ 6)
+completes_trial end tried a b c d is cause still =
+    subst (λ (e : RunEnd). (status_of e ≡ 0) ⊎ (status_of e ≡ 6)) (sym is)
+    (trial_completes tried a b c d (subst (λ (e : RunEnd). RunCause e a b c d) is cause) still)

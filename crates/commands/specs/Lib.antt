@@ -4,3 +4,4 @@ pub mod RunEnds
 pub mod Serving
 pub mod Statuses
 pub mod Top
+pub mod Trying

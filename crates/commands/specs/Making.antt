@@ -9,7 +9,7 @@ use Rattle.journal.specs.declared.making.InitFault.{InitFault}
 use Rattle.journal.specs.declared.making.InitFault.TheVariants as making
 use Rattle.commands.specs.Places.{HasKept, bytes_found, images_found}
 use Rattle.commands.specs.declared.runs.RunEnd.{RunEnd}
-use Rattle.commands.specs.declared.runs.RunEnd.TheVariants.{Made, Served, Loaded, Exists, DiskFault, NotAJournal, Damaged, NoMemory, Usage}
+use Rattle.commands.specs.declared.runs.RunEnd.TheVariants.{Made, Served, Loaded, Exists, DiskFault, NotAJournal, Damaged, Tried, NoMemory, Usage}
 
 module _ {D : Type 0} (g : Ghosts D) where
   -- the making of a journal answered so, and left the disk so
@@ -27,6 +27,7 @@ module _ {D : Type 0} (g : Ghosts D) where
   MakesOn bytes images (Served end) disk = ⊥
   MakesOn bytes images (Loaded end) disk = ⊥
   MakesOn bytes images (Damaged at) disk = ⊥
+  MakesOn bytes images (Tried end) disk = ⊥
   MakesOn bytes images NoMemory disk = ⊥
   MakesOn bytes images Usage disk = ⊥
 
@@ -39,6 +40,7 @@ IsMakingEnd DiskFault before now = Rose before now
 IsMakingEnd (Served end) before now = ⊥
 IsMakingEnd (Loaded end) before now = ⊥
 IsMakingEnd (Damaged at) before now = ⊥
+IsMakingEnd (Tried end) before now = ⊥
 IsMakingEnd NoMemory before now = ⊤
 IsMakingEnd Usage before now = ⊥
 
@@ -52,6 +54,7 @@ IsLeftByMaking content images DiskFault image = IsLeftByInit {T = Unit {0}} cont
 IsLeftByMaking content images (Served end) image = ⊥
 IsLeftByMaking content images (Loaded end) image = ⊥
 IsLeftByMaking content images (Damaged at) image = ⊥
+IsLeftByMaking content images (Tried end) image = ⊥
 IsLeftByMaking content images NoMemory image = ⊥
 IsLeftByMaking content images Usage image = ⊥
 

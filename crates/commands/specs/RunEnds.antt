@@ -5,10 +5,12 @@ use Rattle.journal.specs.declared.making.InitFault.TheVariants as making
 use Rattle.journal.specs.declared.opening.OpenFault.{OpenFault}
 use Rattle.journal.specs.declared.opening.OpenFault.TheVariants as opening
 use Rattle.desk.specs.Sessions.{HasCause}
+use Rattle.devices.specs.Faults.{Rose}
 use Rattle.station_loading.specs.Loading.{IsUnasked, LoadingCause}
 use Rattle.desk.specs.declared.sessions.SessionEnd.TheVariants as sessions
+use Rattle.commands.specs.declared.trying.TrialEnd.TheVariants as trials
 use Rattle.commands.specs.declared.runs.RunEnd.{RunEnd}
-use Rattle.commands.specs.declared.runs.RunEnd.TheVariants.{Made, Served, Loaded, Exists, DiskFault, NotAJournal, Damaged, NoMemory, Usage}
+use Rattle.commands.specs.declared.runs.RunEnd.TheVariants.{Made, Served, Loaded, Exists, DiskFault, NotAJournal, Damaged, Tried, NoMemory, Usage}
 
 -- how the making of a journal ends a run
 abbrev pub making_end : {T : Type 0} → Result T InitFault → RunEnd
@@ -34,6 +36,7 @@ IsEarly Exists = ⊤
 IsEarly DiskFault = ⊤
 IsEarly NotAJournal = ⊤
 IsEarly (Damaged at) = ⊤
+IsEarly (Tried end) = ⊥
 IsEarly NoMemory = ⊤
 IsEarly Usage = ⊤
 
@@ -47,6 +50,8 @@ IsUnwritten Exists = ⊤
 IsUnwritten DiskFault = ⊤
 IsUnwritten NotAJournal = ⊤
 IsUnwritten (Damaged at) = ⊤
+IsUnwritten (Tried trials.NoMemory) = ⊤
+IsUnwritten (Tried end) = ⊥
 IsUnwritten NoMemory = ⊤
 IsUnwritten Usage = ⊤
 
@@ -59,5 +64,7 @@ RunCause Exists source_before source_now sink_before sink_now = ⊤
 RunCause DiskFault source_before source_now sink_before sink_now = ⊤
 RunCause NotAJournal source_before source_now sink_before sink_now = ⊤
 RunCause (Damaged at) source_before source_now sink_before sink_now = ⊤
+RunCause (Tried trials.OutputFault) source_before source_now sink_before sink_now = Rose sink_before sink_now
+RunCause (Tried end) source_before source_now sink_before sink_now = ⊤
 RunCause NoMemory source_before source_now sink_before sink_now = ⊤
 RunCause Usage source_before source_now sink_before sink_now = ⊤

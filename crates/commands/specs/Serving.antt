@@ -2,7 +2,7 @@
 use Rattle.std.specs.Prelude.{◌≡◌, ◌⊎◌, ℕ, List, Option, IfSome, IsSomeAnd, ⊤}
 use Rattle.commands.specs.Places.{HasKept, IfKept, IsLeftAlone, HasTheSame}
 use Rattle.commands.specs.declared.runs.RunEnd.{RunEnd}
-use Rattle.commands.specs.declared.runs.RunEnd.TheVariants.{Made, Served, Loaded, Exists, DiskFault, NotAJournal, Damaged, NoMemory, Usage}
+use Rattle.commands.specs.declared.runs.RunEnd.TheVariants.{Made, Served, Loaded, Exists, DiskFault, NotAJournal, Damaged, Tried, NoMemory, Usage}
 use Rattle.commands.specs.declared.runs.Work.{Work}
 use Rattle.commands.specs.declared.runs.Work.TheVariants.{Session, Loading}
 use Rattle.station_loading.specs.Loading.{IsLoaded}
@@ -18,20 +18,8 @@ use Rattle.journal.specs.JournalBytes.{HasHeader, IsJournalOf}
 use Rattle.journal.specs.Moments.{SyncsFirst}
 use Rattle.office.specs.Openings.{IsDamagedFor}
 use Rattle.office.specs.Stops.{IsLeft, IsLeftBetween}
-use Rattle.office_inputs.specs.declared.limits.Limits.{Limits}
-use Rattle.office_inputs.specs.declared.limits.TheConstants.{USUAL_STATIONS, USUAL_READINGS, USUAL_DAY_READINGS, USUAL_CELLS, USUAL_EVENTS, USUAL_JOURNAL_BYTES}
 use Rattle.records.specs.Sheets.{Record}
-
--- the numbers that every run keeps to
-abbrev pub usual : Limits
-usual = record {
-  stations = USUAL_STATIONS;
-  readings = USUAL_READINGS;
-  day_readings = USUAL_DAY_READINGS;
-  cells = USUAL_CELLS;
-  events = USUAL_EVENTS;
-  journal_bytes = USUAL_JOURNAL_BYTES;
-}
+use Rattle.trial.specs.Trials.{usual}
 
 -- What was done over an office ended so, from one history to another: a session, or the loading of a document.
 abbrev pub IsWorked : RunEnd → Work → History → History → Option (List ℕ) → Option (List ℕ) → Option (List ℕ) → Option (List ℕ) → Type 0
@@ -46,6 +34,7 @@ IsWorked Exists work h after left_before left_after written_before written_after
 IsWorked DiskFault work h after left_before left_after written_before written_after = ⊥
 IsWorked NotAJournal work h after left_before left_after written_before written_after = ⊥
 IsWorked (Damaged at) work h after left_before left_after written_before written_after = ⊥
+IsWorked (Tried end) work h after left_before left_after written_before written_after = ⊥
 IsWorked NoMemory work h after left_before left_after written_before written_after = ⊥
 IsWorked Usage work h after left_before left_after written_before written_after = ⊥
 
@@ -93,6 +82,7 @@ module _ {D : Type 0} (g : Ghosts D) where
       IsLeftAlone g found left
   ServesDisk work Made found left left_before left_after written_before written_after = ⊥
   ServesDisk work Exists found left left_before left_after written_before written_after = ⊥
+  ServesDisk work (Tried end) found left left_before left_after written_before written_after = ⊥
   ServesDisk work Usage found left left_before left_after written_before written_after = ⊥
 
   -- the journal of these records was found under the name, and that of the history behind them is left there
@@ -132,4 +122,5 @@ module _ {D : Type 0} (g : Ghosts D) where
       StaysWith name (λ place. ⊤) places_before places_after
   ServesUnder work name Made places_before places_after before now left_before left_after written_before written_after = ⊥
   ServesUnder work name Exists places_before places_after before now left_before left_after written_before written_after = ⊥
+  ServesUnder work name (Tried end) places_before places_after before now left_before left_after written_before written_after = ⊥
   ServesUnder work name Usage places_before places_after before now left_before left_after written_before written_after = ⊥

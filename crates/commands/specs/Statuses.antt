@@ -4,8 +4,10 @@ use Rattle.desk.specs.declared.sessions.SessionEnd.{SessionEnd}
 use Rattle.desk.specs.declared.sessions.SessionEnd.TheVariants as ends
 use Rattle.station_loading.specs.declared.loading.LoadingEnd.{LoadingEnd}
 use Rattle.station_loading.specs.declared.loading.LoadingEnd.TheVariants as loadings
+use Rattle.commands.specs.declared.trying.TrialEnd.{TrialEnd}
+use Rattle.commands.specs.declared.trying.TrialEnd.TheVariants as trials
 use Rattle.commands.specs.declared.runs.RunEnd.{RunEnd}
-use Rattle.commands.specs.declared.runs.RunEnd.TheVariants.{Made, Served, Loaded, Exists, DiskFault, NotAJournal, Damaged, NoMemory, Usage}
+use Rattle.commands.specs.declared.runs.RunEnd.TheVariants.{Made, Served, Loaded, Exists, DiskFault, NotAJournal, Damaged, Tried, NoMemory, Usage}
 
 -- the status that the end of a session has
 abbrev pub session_status : SessionEnd → ℕ
@@ -24,6 +26,12 @@ loading_status loadings.OutputFault = 3
 loading_status loadings.NoMemory = 6
 loading_status loadings.NotADocument = 9
 
+-- the status that the end of a trial has
+abbrev pub trial_status : TrialEnd → ℕ
+trial_status trials.Done = 0
+trial_status trials.OutputFault = 3
+trial_status trials.NoMemory = 6
+
 -- the status that the end of a run has
 abbrev pub status_of : RunEnd → ℕ
 status_of Made = 0
@@ -32,6 +40,7 @@ status_of (Loaded end) = loading_status end
 status_of DiskFault = 4
 status_of NotAJournal = 5
 status_of (Damaged at) = 5
+status_of (Tried end) = trial_status end
 status_of NoMemory = 6
 status_of Exists = 8
 status_of Usage = 1
@@ -60,6 +69,12 @@ loading_line loadings.OutputFault = line (codes "output fault")
 loading_line loadings.NoMemory = line (codes "out of memory")
 loading_line loadings.NotADocument = line (codes "not a station document")
 
+-- the line that the end of a trial has
+abbrev pub trial_line : TrialEnd → List ℕ
+trial_line trials.Done = []
+trial_line trials.OutputFault = line (codes "output fault")
+trial_line trials.NoMemory = line (codes "out of memory")
+
 -- the line that the end of a run has
 abbrev pub line_of : RunEnd → List ℕ
 line_of Made = []
@@ -68,6 +83,7 @@ line_of (Loaded end) = loading_line end
 line_of DiskFault = line (codes "disk fault")
 line_of NotAJournal = line (codes "not a journal")
 line_of (Damaged at) = line (codes "damaged at " ++ decimal at)
+line_of (Tried end) = trial_line end
 line_of NoMemory = line (codes "out of memory")
 line_of Exists = line (codes "journal exists")
 line_of Usage = usage_line

@@ -2,7 +2,6 @@
 use Rattle.std.specs.Prelude.{◌≡◌, ◌⊎◌, ℕ, ◌<◌, List, ◌++◌, length, Option, IfSome, IsSomeAnd}
 use Rattle.devices.specs.declared.disks.Disk.{Ghosts}
 use Rattle.devices.specs.Cabinets.{Place}
-use Rattle.command_words.specs.Words.{Asked, Trial}
 use Rattle.devices.specs.Faults.{Rose}
 use Rattle.journal.specs.JournalBytes.{HasHeader, IsTaken, IsForeign}
 use Rattle.office.specs.Openings.{IsDamagedFor}
@@ -12,12 +11,15 @@ use Rattle.wire.specs.declared.messages.Message.{Message}
 use Rattle.commands.specs.Places.{HasKept, bytes_found}
 use Rattle.devices.specs.Sinks.{IsCutShort}
 use Rattle.commands.specs.Making.{IsMakingEnd, Makes}
-use Rattle.commands.specs.Serving.{ServesUnder, usual}
-use Rattle.commands.specs.Statuses.{status_of, line_of}
+use Rattle.commands.specs.Serving.{ServesUnder}
+use Rattle.commands.specs.Statuses.{status_of, line_of, trial_status, trial_line}
+use Rattle.commands.specs.Trying.{IsTried}
 use Rattle.commands.specs.declared.runs.RunEnd.{RunEnd}
 use Rattle.commands.specs.declared.runs.Work.{Work}
+use Rattle.commands.specs.declared.trying.TrialEnd.{TrialEnd}
 use Rattle.edits.specs.declared.content.Edit.{Edit}
 use Rattle.station_documents.specs.Documents.{StatesStations}
+use Rattle.trial.specs.Trials.{usual}
 
 -- the sink of faults has the line at its end, or where it failed a front of it
 abbrev pub IsReported : List ℕ → Option (List ℕ) → Option (List ℕ) → ℕ → ℕ → Type 0
@@ -48,14 +50,18 @@ pub record RunsOver {D : Type 0} (g : Ghosts D) (work : Work)
   pub serves : ServesUnder g work name end places_before places_after before now
       left_before left_after written_before written_after
 
+-- A run of `trial`: how it ended, its status, its line, and what was written.
+pub record RunsTrial (number : ℕ) (status : ℕ) (written_before written_after : Option (List ℕ))
+    (told_before told_after : Option (List ℕ)) (faults_before faults_now : ℕ) : Type 0 where
+  pub end : TrialEnd
+  pub status_is : status ≡ trial_status end
+  pub line_is : IsReported (trial_line end) told_before told_after faults_before faults_now
+  pub tried : IsTried number end written_before written_after
+
 -- an input of fewer bytes than may be taken of a stream, in which no message is malformed
 pub record IsWellFormed (input : List ℕ) : Type 0 where
   pub short : length input < STREAM_BYTES
   pub whole : (messages : List Message) (rest : List ℕ) → AreMessages input messages rest → ¬ (IsMalformed rest)
-
--- of all that words can ask, a trial is not run yet
-abbrev pub IsNotRun : Asked → Type 0
-IsNotRun asked = (number : ℕ) × (asked ≡ Trial number)
 
 -- the input is a document of stations
 abbrev pub IsDocument : List ℕ → Type 0

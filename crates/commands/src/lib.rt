@@ -1,7 +1,9 @@
-//! The commands of the program: a journal is made, or the messages of an input are served over one, or a document's stations are added.
+//! The commands of the program: a journal is made, or the messages of an input are served over one, or a document's stations are added; or
+//! the trial of a number is run.
 #![tactic(auto)]
 
 mod runs;
 pub mod top;
+mod trying;
 
 pub use top::run_office;

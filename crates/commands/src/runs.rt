@@ -10,6 +10,7 @@ ghost use Rattle.commands.specs.Making.{MakesOn, IsLeftByMaking, IsMakingEnd, Ma
 ghost use Rattle.commands.specs.Serving.{IsWorked, ServesDisk, ServesUnder};
 ghost use Rattle.commands.specs.RunEnds.{making_end, opening_end, IsEarly, IsUnwritten, RunCause};
 
+use crate::trying::TrialEnd;
 use desk::{SessionEnd, session};
 use devices::{Cabinet, Disk, Opened, Sink, Source};
 use journal::{InitFault, OpenFault};
@@ -45,9 +46,11 @@ pub enum RunEnd {
     NotAJournal,
     /// The journal is damaged at this offset.
     Damaged(u64),
+    /// A trial ended so.
+    Tried(TrialEnd),
     /// There was no memory to open the journal, or for the words.
     NoMemory,
-    /// The words are no command, or one that is not run yet.
+    /// The words are no command.
     Usage,
 }
 

@@ -1,6 +1,6 @@
 //! The call that the program makes.
 
-ghost use Rattle.std.specs.Prelude.{◌≡◌, ◌⊎◌, ◌≤◌, ◌++◌, ◌∷◌, [], true, false, ℕ, List, decimal, map, string_bytes, IsSome, IsSomeAnd};
+ghost use Rattle.std.specs.Prelude.{◌≡◌, ◌≢◌, ◌⊎◌, ◌≤◌, ◌++◌, ◌∷◌, [], true, false, ℕ, List, decimal, map, string_bytes, IsSome, IsSomeAnd};
 ghost use Rattle.devices.specs.Faults.{Rose};
 ghost use Rattle.commands.specs.Statuses as endings;
 ghost use Rattle.commands.specs.Statuses.{status_of, line_of, usage_line};
@@ -10,10 +10,12 @@ ghost use Rattle.devices.specs.Sinks.{AreWritten};
 ghost use Rattle.commands.specs.Serving.{ServesUnder};
 ghost use Rattle.command_words.specs.Commands.{asked_by};
 ghost use Rattle.command_words.specs.Words.{Asked, Init, Batch, Stations, Trial, IsAsked};
-ghost use Rattle.commands.specs.Top.{IsReported, RunsInit, RunsOver, IsDocument, IsNotRun, IsWellFormed, HasSound, HasRoom};
+ghost use Rattle.commands.specs.Top.{IsReported, RunsInit, RunsOver, RunsTrial, IsDocument, IsWellFormed, HasSound, HasRoom};
+ghost use Rattle.commands.specs.Trying.{IsTried};
 ghost use Rattle.commands.specs.declared.runs.Work.TheVariants.{Session, Loading};
 
 use crate::runs::{RunEnd, Work, make_journal, work_under};
+use crate::trying::{TrialEnd, try_number};
 use command_words::{Command, WordsFault, read_words};
 use desk::SessionEnd;
 use devices::{Cabinet, Sink, Source, put_all};
@@ -22,12 +24,12 @@ use std::alloc::Global;
 
 /// Runs the command that the words name: `init` makes a journal under a name of the cabinet, `batch` reads requests to the input's end
 /// and writes the replies, with each edit in the journal before its reply, and `stations` adds the stations of the document on the input
-/// and writes a line of each. A trial is not run yet: its words are told as those that are no command.
+/// and writes a line of each. `trial` asks the made-up year of a number of an office over a disk in memory, and writes its six figures.
 ///
 /// The runtime is for commands that wait or start threads; these do neither. What is answered is the status of the
-/// program: 0 where the command is done, for `batch` at the input's end; 1 where the words are no command; 2 and 3 where
+/// program: 0 where the command is done, for `batch` at the input's end; 1 exactly where the words are no command; 2 and 3 where
 /// the input or the output failed; 4 where the disk failed while the journal was made or opened; 5 where there is no
-/// journal, or a damaged one; 6 where there was no memory to begin; 8 where `init` finds a journal; 9 at what is no well
+/// journal, or a damaged one; 6 where there was no memory to begin, or for the trial; 8 where `init` finds a journal; 9 at what is no well
 /// framed request, or no document of stations; 10 where the input has more than 2^36 bytes. A line on `faults` names every status but 0; a
 /// sink of faults that fails changes nothing. A disk that fails at an edit ends nothing: the reply or line says so, and the run goes on.
 ///
@@ -41,7 +43,7 @@ pub fn run_office<R, S: Source, K: Sink, E: Sink, C: Cabinet>(
     faults: &mut E,
     cabinet: &mut C,
 ) -> u8
-    ensures usage { result ≡ 1 → (asked : Asked) → IsAsked (map string_bytes words.now) asked → IsNotRun asked }
+    ensures usage { result ≡ 1 → (asked : Asked) → ¬ (IsAsked (map string_bytes words.now) asked) }
     ensures unasked { ((asked : Asked) → ¬ (IsAsked (map string_bytes words.now) asked)) → result ≡ 1 }
     ensures untouched { result ≡ 1 → (input.new ≡ input.old) × (output.new ≡ output.old) × (cabinet.new ≡ cabinet.old) }
     ensures usage_line { result ≡ 1 → IsReported usage_line (E.written faults.old) (E.written faults.new) (E.faults faults.old) (E.faults faults.new) }
@@ -67,6 +69,11 @@ pub fn run_office<R, S: Source, K: Sink, E: Sink, C: Cabinet>(
         (S.left input.old) (S.left input.new) (K.written output.old) (K.written output.new)
         (E.written faults.old) (E.written faults.new) (E.faults faults.old) (E.faults faults.new) }
 
+    ensures trial { (number : ℕ) → IsAsked (map string_bytes words.now) (Trial number)
+        → RunsTrial number result (K.written output.old) (K.written output.new)
+        (E.written faults.old) (E.written faults.new) (E.faults faults.old) (E.faults faults.new) }
+    ensures trial_alone { (number : ℕ) → IsAsked (map string_bytes words.now) (Trial number) → (input.new ≡ input.old) × (cabinet.new ≡ cabinet.old) }
+
     ensures input_fault { result ≡ 2 → Rose (S.faults input.old) (S.faults input.new) }
     ensures output_fault { result ≡ 3 → Rose (K.faults output.old) (K.faults output.new) }
     ensures disk_fault { result ≡ 4 → Rose (C.faults cabinet.old) (C.faults cabinet.new) }
@@ -85,6 +92,8 @@ pub fn run_office<R, S: Source, K: Sink, E: Sink, C: Cabinet>(
         → IsSomeAnd (S.left input.old) IsDocument
         → ¬ (Rose (S.faults input.old) (S.faults input.new)) → ¬ (Rose (K.faults output.old) (K.faults output.new))
         → ¬ (Rose (C.faults cabinet.old) (C.faults cabinet.new)) → (result ≡ 0) ⊎ (result ≡ 6) }
+    ensures complete_trial { (number : ℕ) → IsAsked (map string_bytes words.now) (Trial number)
+        → ¬ (Rose (K.faults output.old) (K.faults output.new)) → (result ≡ 0) ⊎ (result ≡ 6) }
 {
     match read_words(alloc, words) {
         Ok(command) => {
@@ -123,8 +132,10 @@ fn run_command<S: Source, K: Sink, C: Cabinet>(
     ensures loads { (name : List ℕ) → asked_by command.entry ≡ Stations name
         → ServesUnder C.Disk.Disk Loading name result (C.places cabinet.old) (C.places cabinet.new)
         (C.faults cabinet.old) (C.faults cabinet.new) (S.left input.old) (S.left input.new) (K.written output.old) (K.written output.new) }
-    ensures usage { result ≡ RunEnd.Usage → IsNotRun (asked_by command.entry) }
-    ensures untouched { result ≡ RunEnd.Usage → (input.new ≡ input.old) × (output.new ≡ output.old) × (cabinet.new ≡ cabinet.old) }
+    ensures tries { (number : ℕ) → asked_by command.entry ≡ Trial number
+        → (end : TrialEnd) × (result ≡ RunEnd.Tried end) × IsTried number end (K.written output.old) (K.written output.new) }
+    ensures trial_alone { (number : ℕ) → asked_by command.entry ≡ Trial number → (input.new ≡ input.old) × (cabinet.new ≡ cabinet.old) }
+    ensures usage { result ≢ RunEnd.Usage }
     ensures cause { RunCause result (S.faults input.old) (S.faults input.new) (K.faults output.old) (K.faults output.new) }
     ensures disk_cause { result ≡ RunEnd.DiskFault → Rose (C.faults cabinet.old) (C.faults cabinet.new) }
     ensures unserved { IsEarly result → (input.new ≡ input.old) × (output.new ≡ output.old) }
@@ -134,7 +145,7 @@ fn run_command<S: Source, K: Sink, C: Cabinet>(
         Command::Init(name) => make_journal(cabinet, name),
         Command::Batch(name) => work_under(alloc, cabinet, name, Work::Session, input, output),
         Command::Stations(name) => work_under(alloc, cabinet, name, Work::Loading, input, output),
-        Command::Trial(_) => RunEnd::Usage,
+        Command::Trial(number) => RunEnd::Tried(try_number(alloc, number, output)),
     }
 }
 
@@ -145,6 +156,7 @@ fn status(end: RunEnd) -> u8
         RunEnd::Made => 0,
         RunEnd::Served(end) => session_status(end),
         RunEnd::Loaded(end) => loading_status(end),
+        RunEnd::Tried(end) => trial_status(end),
         RunEnd::DiskFault => 4,
         RunEnd::NotAJournal | RunEnd::Damaged(_) => 5,
         RunEnd::NoMemory => 6,
@@ -178,6 +190,16 @@ fn loading_status(end: LoadingEnd) -> u8
     }
 }
 
+fn trial_status(end: TrialEnd) -> u8
+    ensures { result ≡ endings.trial_status end }
+{
+    match end {
+        TrialEnd::Done => 0,
+        TrialEnd::OutputFault => 3,
+        TrialEnd::NoMemory => 6,
+    }
+}
+
 /// Puts the line for the end of a run; a failure changes nothing.
 fn report<E: Sink>(end: RunEnd, faults: &mut E)
     ensures { IsReported (line_of end) (E.written faults.old) (E.written faults.new) (E.faults faults.old) (E.faults faults.new) }
@@ -186,6 +208,7 @@ fn report<E: Sink>(end: RunEnd, faults: &mut E)
         RunEnd::Made => true,
         RunEnd::Served(end) => return report_session(end, faults),
         RunEnd::Loaded(end) => return report_loading(end, faults),
+        RunEnd::Tried(end) => return report_trial(end, faults),
         RunEnd::DiskFault => put_all(faults, b"streamoffice: disk fault\n"),
         RunEnd::NotAJournal => put_all(faults, b"streamoffice: not a journal\n"),
         RunEnd::Damaged(at) => put_offset(faults, b"streamoffice: damaged at ", at),
@@ -222,6 +245,17 @@ fn report_loading<E: Sink>(end: LoadingEnd, faults: &mut E)
         LoadingEnd::OutputFault => put_all(faults, b"streamoffice: output fault\n"),
         LoadingEnd::NoMemory => put_all(faults, b"streamoffice: out of memory\n"),
         LoadingEnd::NotADocument => put_all(faults, b"streamoffice: not a station document\n"),
+    };
+}
+
+/// Puts the line for the end of a trial; a failure changes nothing.
+fn report_trial<E: Sink>(end: TrialEnd, faults: &mut E)
+    ensures { IsReported (endings.trial_line end) (E.written faults.old) (E.written faults.new) (E.faults faults.old) (E.faults faults.new) }
+{
+    let _told = match end {
+        TrialEnd::Done => true,
+        TrialEnd::OutputFault => put_all(faults, b"streamoffice: output fault\n"),
+        TrialEnd::NoMemory => put_all(faults, b"streamoffice: out of memory\n"),
     };
 }
 

@@ -48,8 +48,17 @@ const MADE: Due = Due {
     left: None,
 };
 
+/// The six figures of the trial of number 1.
+const TRIED: Due = Due {
+    status: 0,
+    written: &[b"stations 4\nedits 68\nlocked 4\npublished 1607\napproved 400\ntotal 721636584\n"],
+    told: b"",
+    is_read: false,
+    left: None,
+};
+
 /// Words, over a journal of no records.
-const WORDS: [Opening; 17] = [
+const WORDS: [Opening; 21] = [
     (BATCH, NO_RECORDS, &COUNTED),
     (&["batch", "--journal=J"], NO_RECORDS, &COUNTED),
     (&["batch", "--journal=K=J"], NO_RECORDS, &NOT_A_JOURNAL),
@@ -68,6 +77,10 @@ const WORDS: [Opening; 17] = [
     (&["batch"], NO_RECORDS, &USAGE),
     (&["Batch", "--journal", "J"], NO_RECORDS, &USAGE),
     (&["--journal", "J", "batch"], NO_RECORDS, &USAGE),
+    (&["trial", "--number", "1"], NO_RECORDS, &TRIED),
+    (&["trial", "--number=000000001"], NO_RECORDS, &TRIED),
+    (&["trial"], NO_RECORDS, &USAGE),
+    (&["trial", "--number", "1234567890"], NO_RECORDS, &USAGE),
     (&["--help"], NO_RECORDS, &USAGE),
     (&[""], NO_RECORDS, &USAGE),
     (&[], NO_RECORDS, &USAGE),

@@ -1,11 +1,15 @@
-use Rattle.std.proofs.Common.{◌≡◌, ◌⊎◌, ℕ, map, string_bytes, subst, sym, ◌∙◌}
+use Rattle.std.proofs.Common.{◌≡◌, ◌⊎◌, ℕ, map, string_bytes, ap, refl, subst, sym, ◌∙◌}
 use Rattle.command_words.proofs.WordLemmas.{one_is_asked}
 use Rattle.command_words.specs.Commands.{asked_by}
-use Rattle.command_words.specs.Words.{Init, Batch, Stations}
+use Rattle.command_words.specs.Words.{Init, Batch, Stations, Trial}
 use Rattle.commands.proofs.MakingLemmas.{makes_nothing}
 use Rattle.commands.proofs.ServingLemmas.{serves_nothing}
-use Rattle.commands.proofs.TopLemmas.{completes, completes_init, completes_loading, unserved, unwritten_loading}
+use Rattle.commands.proofs.TopLemmas.{completes, completes_init, completes_loading, completes_trial, unserved, unwritten_loading}
+use Rattle.commands.specs.Statuses.{line_of, status_of}
+use Rattle.commands.specs.Top.{IsReported}
+use Rattle.commands.specs.declared.runs.RunEnd.{RunEnd}
 use Rattle.commands.specs.declared.runs.RunEnd.TheVariants as ends
+use Rattle.commands.specs.declared.trying.TrialEnd.TheVariants as trials
 use Rattle.commands.specs.declared.runs.Work.TheVariants.{Session, Loading}
 use Rattle.commands.proofs.top.run_office.Goals as goal
 
@@ -97,6 +101,31 @@ returns-in-Ok-clause-complete_stations g c = λ name is sound stated calm still 
     (g.K.Sink.faults c.args.output.now) (g.K.Sink.faults c.run_command-end.new.output)
     (c.run_command-end.ensures.loads name same) c.run_command-end.ensures.cause sound stated calm still quiet)
 
+pub returns-in-Ok-clause-trial : goal.returns-in-Ok-clause-trial
+returns-in-Ok-clause-trial g c = λ number is.
+    let same = one_is_asked (map string_bytes c.args.words.now) (asked_by c.in-Ok.command) (Trial number) c.in-Ok.ensures.ok is in
+    let tried = c.run_command-end.ensures.tries number same in
+    record {
+      end = tried.0;
+      status_is = c.finish.ensures.status ∙ ap status_of tried.1;
+      line_is =
+          subst
+          (λ (end : RunEnd). IsReported (line_of end) (g.E.Sink.written c.args.faults.now) (g.E.Sink.written c.finish.new.faults)
+          (g.E.Sink.faults c.args.faults.now) (g.E.Sink.faults c.finish.new.faults))
+          tried.1 c.finish.ensures.line;
+      tried = tried.2;
+    }
+
+pub returns-in-Ok-clause-complete_trial : goal.returns-in-Ok-clause-complete_trial
+returns-in-Ok-clause-complete_trial g c = λ number is still.
+    let same = one_is_asked (map string_bytes c.args.words.now) (asked_by c.in-Ok.command) (Trial number) c.in-Ok.ensures.ok is in
+    let tried = c.run_command-end.ensures.tries number same in
+    subst (λ (n : ℕ). (n ≡ 0) ⊎ (n ≡ 6)) (sym c.finish.ensures.status)
+    (completes_trial c.run_command-end.result tried.0
+    (g.S.Source.faults c.args.input.now) (g.S.Source.faults c.run_command-end.new.input)
+    (g.K.Sink.faults c.args.output.now) (g.K.Sink.faults c.run_command-end.new.output)
+    tried.1 c.run_command-end.ensures.cause still)
+
 -- there was no memory for the words, and nothing was done
 pub returns-in-Err-NoMemory-clause-init : goal.returns-in-Err-NoMemory-clause-init
 returns-in-Err-NoMemory-clause-init g c = λ name is. record {
@@ -128,3 +157,11 @@ returns-in-Err-NoMemory-clause-stations g c = λ name is.
       serves = serves_nothing g.C.Disk.Disk Loading name (g.C.Cabinet.places c.args.cabinet.now) (g.C.Cabinet.faults c.args.cabinet.now)
           (g.S.Source.left c.args.input.now) (g.K.Sink.written c.args.output.now) only;
     }
+
+pub returns-in-Err-NoMemory-clause-trial : goal.returns-in-Err-NoMemory-clause-trial
+returns-in-Err-NoMemory-clause-trial g c = λ number is. record {
+  end = trials.NoMemory;
+  status_is = c.finish-in-Err-NoMemory.ensures.status;
+  line_is = c.finish-in-Err-NoMemory.ensures.line;
+  tried = refl;
+}

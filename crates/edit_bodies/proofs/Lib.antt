@@ -1,5 +1,6 @@
 pub mod AnswerLemmas
 pub mod ChainLemmas
+pub mod CompactLemmas
 pub mod EachLemmas
 pub mod FieldLemmas
 pub mod MemberLemmas

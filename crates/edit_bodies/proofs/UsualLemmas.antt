@@ -20,7 +20,7 @@ use Rattle.serde_json.specs.Read.{of_json, read}
 -- ---- from the tokens to the value
 
 -- a text with the tokens of a value of JSON is what that value is
-read-tokens : (text : List ℕ) (j : json.Json) → depth j ≤ 127 → tokens text ≡ json_tokens j → read text ≡ of_json j
+pub read-tokens : (text : List ℕ) (j : json.Json) → depth j ≤ 127 → tokens text ≡ json_tokens j → read text ≡ of_json j
 read-tokens text j shallow e =
     ap (λ o. option_and_then of_json (option_and_then (λ p. json.if_last p.0 p.1) o))
     (ap (json.value 127) (e ∙ sym (append-nil (json_tokens j))) ∙ value-json_tokens j 127 [] shallow)
@@ -91,7 +91,7 @@ module _ (row : List (List ℕ)) where
   alone None = refl
   alone (Some y) = refl
 
-  pushed : (rows : List (List (List ℕ))) → each_of reading_of (items_of (rows_json (rows ++ row ∷ []))) ≡ option_and_then (λ ys. option_map (λ y. ys ++ y ∷ []) last) (each_of reading_of (items_of (rows_json rows)))
+  pub pushed : (rows : List (List (List ℕ))) → each_of reading_of (items_of (rows_json (rows ++ row ∷ []))) ≡ option_and_then (λ ys. option_map (λ y. ys ++ y ∷ []) last) (each_of reading_of (items_of (rows_json rows)))
   pushed [] = alone last
   pushed (first ∷ rows) =
       ap (λ o. option_and_then (λ y. option_map (λ ys. y ∷ ys) o) (reading_of (data_of (row_json first)))) (pushed rows)

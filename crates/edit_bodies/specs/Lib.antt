@@ -1,5 +1,6 @@
 pub mod Answers
 pub mod Bodies
+pub mod CompactForm
 pub mod Grammars
 pub mod Kinds
 pub mod Members

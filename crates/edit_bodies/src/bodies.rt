@@ -1,12 +1,13 @@
 //! The body of an edit, read as one.
 
-ghost use Rattle.std.specs.Prelude.{◌≡◌, ◌≢◌, IfOk, Ok, Err, Some, None, option_map};
+ghost use Rattle.std.specs.Prelude.{◌≡◌, ◌≢◌, IfOk, IfSome, Ok, Err, Some, None, option_map};
 ghost use Rattle.edit_bodies.specs.Bodies.{edit_of, edit_of_value, edit_in, parts};
 ghost use Rattle.edit_bodies.specs.Answers.{IsMade};
 ghost use Rattle.edit_bodies.specs.Trees.{left, stated};
 ghost use Rattle.serde_json.specs.Find.{as_object};
 ghost use Rattle.serde_json.specs.Read.{read};
 
+use crate::compact_form::compact_edit;
 use crate::faults::BodyFault;
 use crate::grammars::{take_by, take_reference, take_site};
 use crate::kinds::{take_kind, take_what};
@@ -34,10 +35,20 @@ pub fn read_edit(alloc: Global, body: &[u8], scratch: &mut Scratch) -> Result<Ed
     let Ok(text) = str::from_utf8(body) else {
         return Err(BodyFault::Json);
     };
-    // a put of many readings, as loggers send it, needs no tree
-    match usual_put(alloc, text, scratch) {
+    // most edits, as programs write them, need no tree
+    match quick_edit(alloc, text, scratch) {
         Some(edit) => Ok(edit),
         None => edit_of_tree(alloc, text, scratch),
+    }
+}
+
+/// The edit that a text is, where it is of the compact form or a put of the usual form. Of another text nothing is said.
+fn quick_edit(alloc: Global, text: &str, scratch: &mut Scratch) -> Option<Edit>
+    ensures { IfSome result (λ edit. edit_of_value (read text.now) ≡ Ok (parts edit)) }
+{
+    match compact_edit(alloc, text) {
+        Some(edit) => Some(edit),
+        None => usual_put(alloc, text, scratch),
     }
 }
 

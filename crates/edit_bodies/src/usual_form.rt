@@ -4,16 +4,21 @@
 ghost use Rattle.std.specs.Prelude.{◌≡◌, ◌<◌, ◌∷◌, ◌++◌, length, Ok, IfSome, codes};
 ghost use Rattle.std.specs.Bool.{MatchBool, OnTrue};
 ghost use Rattle.edit_bodies.specs.Bodies.{edit_of_value, parts};
+ghost use Rattle.edit_bodies.specs.CompactForm.{StatesReview};
+ghost use Rattle.edit_bodies.specs.Grammars.{day_of, last_day_of};
 ghost use Rattle.edit_bodies.specs.Members.{member_text};
 ghost use Rattle.edit_bodies.specs.UsualForm.{StatesPut, StatesReadings, TakesPut, row_json, row_texts};
-ghost use Rattle.edits.specs.Lawful.{ArePutReadings};
+ghost use Rattle.edits.specs.Lawful.{ArePutReadings, IsReviewSpan};
 ghost use Rattle.json.specs.Token.{begin_array, begin_object, end_array, end_object, key, string as string_token};
 ghost use Rattle.json.specs.Tree.{json_tokens};
+ghost use Rattle.serde_json.specs.Data.{string};
 ghost use Rattle.serde_json.specs.Read.{read};
 
 use crate::members::Member;
 use crate::reading_rows::{Row, may_follow, reading_of};
-use edits::{By, Edit, Ref, What};
+use civil_days::read_day;
+use edits::{By, Edit, Ref, What, is_review_span};
+use fixed_units::Day;
 use json::{Reader, Scratch, Token};
 use readings::ReadingList;
 use site_texts::read_site;
@@ -29,11 +34,11 @@ const LONG: usize = 512;
 #[derive(Clone, Copy, Drop)]
 pub(crate) struct Sender<'a> {
     /// The initials of the person who makes the edit.
-    by: &'a str,
+    pub(crate) by: &'a str,
     /// The reference under which it is sent.
-    reference: &'a str,
+    pub(crate) reference: &'a str,
     /// The site whose record it changes.
-    site: &'a str,
+    pub(crate) site: &'a str,
 }
 
 /// The edit that a text is, where it is a put of the usual form. Of another text nothing is said.
@@ -46,11 +51,11 @@ pub(crate) fn usual_put(alloc: Global, text: &str, scratch: &mut Scratch) -> Opt
     }
     let mut reader = Reader::new(text, scratch).ok()?;
     let (sender, readings) = put_in(alloc, &mut reader)?;
-    edit_in(&sender, readings)
+    put_of(&sender, readings)
 }
 
-/// The edit of these strings and readings.
-fn edit_in(sender: &Sender<'_>, readings: ReadingList) -> Option<Edit>
+/// The put of these strings and readings.
+pub(crate) fn put_of(sender: &Sender<'_>, readings: ReadingList) -> Option<Edit>
     requires { ArePutReadings readings }
     ensures { IfSome result (StatesPut sender.now readings) }
 {
@@ -60,6 +65,40 @@ fn edit_in(sender: &Sender<'_>, readings: ReadingList) -> Option<Edit>
         site: read_site(sender.site.as_bytes())?,
         what: What::PutReadings { readings },
     })
+}
+
+/// The review of these strings.
+pub(crate) fn review_of(sender: &Sender<'_>, from: &str, to: &str) -> Option<Edit>
+    ensures { IfSome result (StatesReview sender.now from.now to.now) }
+{
+    let from = day_in(from)?;
+    let to = last_day_in(to, from)?;
+    Some(Edit {
+        by: By::new(sender.by.as_bytes())?,
+        reference: Ref::new(sender.reference.as_bytes())?,
+        site: read_site(sender.site.as_bytes())?,
+        what: What::Review { from, to },
+    })
+}
+
+/// The day that a text writes.
+fn day_in(text: &str) -> Option<Day>
+    ensures { result ≡ day_of (string text.now) }
+{
+    read_day(text.as_bytes())
+}
+
+/// The last day of a span that begins at a day, which a text writes.
+fn last_day_in(text: &str, from: Day) -> Option<Day>
+    ensures value { result ≡ last_day_of from (string text.now) }
+    ensures span { IfSome result (IsReviewSpan from) }
+{
+    let to = day_in(text)?;
+    if is_review_span(from, to) {
+        Some(to)
+    } else {
+        None
+    }
 }
 
 /// The members of a whole text.

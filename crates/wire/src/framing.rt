@@ -1,19 +1,23 @@
 //! How a head is found in a window of bytes, and how it frames its body.
 
-ghost use Rattle.std.specs.Prelude.{◌≡◌, ℕ, ◌≤◌, true, List, [], ◌∷◌, ◌++◌, length, codes, All, map};
+ghost use Rattle.std.specs.Prelude.{◌≡◌, ℕ, ◌≤◌, true, List, [], ◌∷◌, ◌++◌, length, codes, All, IfSome, None, map};
 ghost use Rattle.std.specs.List.{list_all, list_any};
 ghost use Rattle.std.specs.Char.{is_ascii_digit};
 ghost use Rattle.std.specs.Str.{str_eq_ignore_ascii_case};
 ghost use Rattle.std.specs.Str.Parse.{digits_value};
-ghost use Rattle.httparse.specs.Spans.{IsHeaderWithin, header_bytes};
+ghost use Rattle.httparse.specs.Spans.{IsHeaderWithin, RequestOverflows, header_bytes};
 ghost use Rattle.wire.specs.Framing as lines;
 ghost use Rattle.wire.specs.Framing.{verb_of, is_named, values_of, stated_length, value_length, framing, body_length};
 ghost use Rattle.wire.specs.Found.{IsFound};
+ghost use Rattle.wire.specs.declared.limits.TheConstants.{HEAD_FIELDS};
 
 use crate::limits::{BODY_BYTES, HEAD_FIELDS, LENGTH_DIGITS};
 use crate::messages::Verb;
 use httparse::Status;
 use httparse::spans::{EMPTY_HEADER_SPAN, HeaderSpan, Span, parse_request};
+
+/// How many fields most heads have at most.
+const USUAL_FIELDS: usize = 8;
 
 /// The length that a head states for its body.
 #[derive(Clone, Copy, Debug, PartialEq, Eq)]
@@ -65,20 +69,34 @@ pub(crate) enum Found {
 pub(crate) fn find_head(window: &[u8]) -> Found
     ensures { IsFound window.now result }
 {
-    let mut headers = [EMPTY_HEADER_SPAN; HEAD_FIELDS];
-    match parse_request(window, &mut headers) {
+    // room for as many fields as a head may have takes longer to make than most heads take to read
+    let mut few = [EMPTY_HEADER_SPAN; USUAL_FIELDS];
+    if let Some(found) = find_in_room(window, &mut few) {
+        return found;
+    }
+    let mut all = [EMPTY_HEADER_SPAN; HEAD_FIELDS];
+    find_in_room(window, &mut all).unwrap_or(Found::Never)
+}
+
+/// Looks for a head with room for so many fields; `None` where there is none with as few, whatever follows.
+fn find_in_room(window: &[u8], room: &mut [HeaderSpan]) -> Option<Found>
+    requires { length room.old ≤ HEAD_FIELDS }
+    ensures found { IfSome result (IsFound window.now) }
+    ensures none { result ≡ None → RequestOverflows (length room.old) window.now }
+{
+    match parse_request(window, room) {
         Ok(Status::Complete(spans)) => {
             let verb = verb_named(spans.method.of(window));
-            let frame = frame_in(window, &headers[..spans.headers], verb);
-            Found::Whole(Head {
+            let frame = frame_in(window, &room[..spans.headers], verb);
+            Some(Found::Whole(Head {
                 verb,
                 target: spans.path,
                 len: spans.len,
                 frame,
-            })
+            }))
         }
-        Ok(Status::Partial) => Found::NotYet,
-        Err(_) => Found::Never,
+        Ok(Status::Partial) => Some(Found::NotYet),
+        Err(_) => None,
     }
 }
 

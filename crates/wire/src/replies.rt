@@ -1,8 +1,8 @@
 //! The heads of replies, and two whole replies that need no memory.
 
-ghost use Rattle.std.specs.Prelude.{◌≡◌, ◌++◌, [], true, None, take, length, OnOk, OnErr, codes, unwrap_or};
+ghost use Rattle.std.specs.Prelude.{◌≡◌, ◌++◌, [], true, None, take, length, IfSome, OnOk, OnErr, codes, unwrap_or};
 ghost use Rattle.http.specs.StatusCode.{reason_phrase};
-ghost use Rattle.wire.specs.ReplyHead.{head_text, status_line, type_line, length_line, line_end, reply_bytes, is_reply_status, is_allowance, type_text, allow_line};
+ghost use Rattle.wire.specs.ReplyHead.{head_text, status_line, type_line, length_line, line_end, reply_bytes, is_reply_status, is_allowance, allow_line};
 ghost use Rattle.wire.specs.declared.replies.Kind.TheVariants.{Json};
 
 use crate::messages::Verb;
@@ -79,6 +79,30 @@ fn write_status(status: u16, out: &mut Text) -> Result<(), NoMemory>
     ensures ok { OnOk result (out.new ≡ out.old ++ status_line status) }
     ensures err { OnErr result (take (length out.old) out.new ≡ out.old) }
 {
+    match usual_line(status) {
+        Some(line) => out.push_slice(line),
+        None => write_rare_status(status, out),
+    }
+}
+
+/// The status line of a reply that comes often. Of another status nothing is said.
+fn usual_line(status: u16) -> Option<&'static [u8]>
+    ensures { IfSome result (λ line. line.now ≡ status_line status) }
+{
+    match status {
+        200 => Some(b"HTTP/1.1 200 OK\r\n"),
+        409 => Some(b"HTTP/1.1 409 Conflict\r\n"),
+        423 => Some(b"HTTP/1.1 423 Locked\r\n"),
+        _ => None,
+    }
+}
+
+/// Adds the status line part by part.
+fn write_rare_status(status: u16, out: &mut Text) -> Result<(), NoMemory>
+    requires { is_reply_status status ≡ true }
+    ensures ok { OnOk result (out.new ≡ out.old ++ status_line status) }
+    ensures err { OnErr result (take (length out.old) out.new ≡ out.old) }
+{
     out.push_slice(b"HTTP/1.1 ")?;
     out.push_number(u64::from(status))?;
     out.push(b' ')?;
@@ -86,14 +110,12 @@ fn write_status(status: u16, out: &mut Text) -> Result<(), NoMemory>
     out.push_slice(b"\r\n")
 }
 
-/// Adds the line for the type, of which a part may be added where memory runs out.
+/// Adds the line for the type. After `NoMemory` the text is as before.
 fn write_type(kind: Kind, out: &mut Text) -> Result<(), NoMemory>
     ensures ok { OnOk result (out.new ≡ out.old ++ type_line kind) }
-    ensures err { OnErr result (take (length out.old) out.new ≡ out.old) }
+    ensures err { OnErr result (out.new ≡ out.old) }
 {
-    out.push_slice(b"Content-Type: ")?;
-    out.push_slice(type_name(kind))?;
-    out.push_slice(b"\r\n")
+    out.push_slice(type_line_of(kind))
 }
 
 /// Adds the line for the length and the empty line, of which a part may be added where memory runs out.
@@ -117,13 +139,14 @@ fn phrase(status: u16) -> &'static str
     }
 }
 
-fn type_name(kind: Kind) -> &'static [u8]
-    ensures { result.now ≡ type_text kind }
+/// The line for the type.
+fn type_line_of(kind: Kind) -> &'static [u8]
+    ensures { result.now ≡ type_line kind }
 {
     match kind {
-        Kind::Json => b"application/json",
-        Kind::Plain => b"text/plain; charset=utf-8",
-        Kind::Csv => b"text/csv",
+        Kind::Json => b"Content-Type: application/json\r\n",
+        Kind::Plain => b"Content-Type: text/plain; charset=utf-8\r\n",
+        Kind::Csv => b"Content-Type: text/csv\r\n",
     }
 }
 

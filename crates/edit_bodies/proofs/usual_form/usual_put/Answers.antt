@@ -11,4 +11,4 @@ returns c =
     let whole : c.in_ok-reader.reader ≡ tokens c.args.text.now = search rules in
     let takes = subst (λ ts. TakesPut ts c.in_ok-sender.sender c.in_ok-sender.readings) whole c.in_ok-sender.ensures.tokens in
     let value = put_read c.args.text.now c.in_ok-sender.sender c.in_ok-sender.readings takes in
-    IfSome_then c.edit_in.result c.edit_in.ensures (λ edit states. ap edit_of_value value ∙ states takes.0 takes.2)
+    IfSome_then c.put_of.result c.put_of.ensures (λ edit states. ap edit_of_value value ∙ states takes.0 takes.2)

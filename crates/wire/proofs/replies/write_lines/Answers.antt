@@ -10,7 +10,7 @@ returns-in_err-write_type-clause-err c =
     let old = c.args.out.now in
     let status = begins_grown old old _ c.write_status.new.out (begins_itself old) c.in_ok-write_status.ensures.ok in
     after_any c.from_residual-in_err-write_type.result
-    (begins_through old c.write_status.new.out c.write_type.new.out status c.in_err-write_type.ensures.err)
+    (begins_kept old c.write_status.new.out c.write_type.new.out status c.in_err-write_type.ensures.err)
 
 pub returns-in_err-push_slice-clause-err : goal.returns-in_err-push_slice-clause-err
 returns-in_err-push_slice-clause-err c =

@@ -1,7 +1,7 @@
 use Rattle.std.proofs.Common.{Some, sym, ap, ◌∙◌}
 use Rattle.edit_bodies.proofs.TextLemmas.{initials-told, kept_if-is, reference-told}
 use Rattle.edit_bodies.proofs.UsualLemmas.{put_made}
-use Rattle.edit_bodies.proofs.usual_form.edit_in.Goals as goal
+use Rattle.edit_bodies.proofs.usual_form.put_of.Goals as goal
 use Rattle.edit_bodies.specs.Grammars.{kept_if}
 use Rattle.edit_bodies.specs.Texts.{are_initials, is_reference}
 use Rattle.site_texts.specs.SiteText.{site_of_text}

@@ -1,7 +1,7 @@
 -- Where memory runs out, the text begins with what it held.
 use Rattle.std.proofs.lemmas.Result.{on_err_weaker}
 use Rattle.wire.proofs.ReplyLemmas.{begins_itself, begins_grown, begins_kept, after_any}
-use Rattle.wire.proofs.replies.write_status.Goals as goal
+use Rattle.wire.proofs.replies.write_rare_status.Goals as goal
 
 pub returns-in_err-push_slice-2-clause-err : goal.returns-in_err-push_slice-2-clause-err
 returns-in_err-push_slice-2-clause-err c =

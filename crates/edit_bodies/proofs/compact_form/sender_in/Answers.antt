@@ -1,0 +1,10 @@
+use Rattle.std.proofs.Common.{◌++◌, codes, ap, ◌∙◌}
+use Rattle.edit_bodies.proofs.compact_form.sender_in.Goals as goal
+use Rattle.json.specs.Print.{quoted}
+
+pub returns : goal.returns
+returns c =
+    c.in_ok-by.ensures.spelled ∙ ap (λ l. quoted c.in_ok-by.by.now ++ l)
+    (c.in_ok-behind.ensures.parts ∙ ap (λ l. codes ",\"ref\":" ++ l)
+    (c.in_ok-reference.ensures.spelled ∙ ap (λ l. quoted c.in_ok-reference.reference.now ++ l)
+    (c.in_ok-behind-2.ensures.parts ∙ ap (λ l. codes ",\"site\":" ++ l) c.in_ok-site.ensures.spelled)))

@@ -1,0 +1,19 @@
+use Rattle.std.proofs.Common.{Some, sym, ap, ◌∙◌}
+use Rattle.edit_bodies.proofs.CompactLemmas.{review_made}
+use Rattle.edit_bodies.proofs.TextLemmas.{initials-told, kept_if-is, reference-told}
+use Rattle.edit_bodies.proofs.usual_form.review_of.Goals as goal
+use Rattle.edit_bodies.specs.Grammars.{kept_if}
+use Rattle.edit_bodies.specs.Texts.{are_initials, is_reference}
+use Rattle.site_texts.specs.SiteText.{site_of_text}
+use Rattle.edits.specs.Texts.{AreInitials, IsReference}
+
+pub returns : goal.returns
+returns c =
+    let initials = kept_if-is are_initials (AreInitials c.as_bytes.result.now) c.as_bytes.result.now (Some c.in_ok-new.field-0) (initials-told c.as_bytes.result.now) c.in_ok-new.ensures.range c.in_ok-new.ensures.value in
+    let code = kept_if-is is_reference (IsReference c.as_bytes-2.result.now) c.as_bytes-2.result.now (Some c.in_ok-new-2.field-0) (reference-told c.as_bytes-2.result.now) c.in_ok-new-2.ensures.range c.in_ok-new-2.ensures.value in
+    review_made c.args.sender.now c.args.from.now c.args.to.now c.in_ok-new.field-0 c.in_ok-new-2.field-0 c.in_ok-read_site.field-0 c.in_ok-from.from c.in_ok-to.to
+    (ap (kept_if are_initials) (sym c.as_bytes.ensures.value) ∙ sym initials)
+    (ap (kept_if is_reference) (sym c.as_bytes-2.ensures.value) ∙ sym code)
+    (ap site_of_text (sym c.as_bytes-3.ensures.value) ∙ sym c.in_ok-read_site.ensures)
+    (sym c.in_ok-from.ensures)
+    (sym c.in_ok-to.ensures.value)

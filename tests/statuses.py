@@ -172,16 +172,25 @@ def stations(place):
     expect("    what is left: the one whose line was being written", one, place.content())
 
 
-TRIAL = b"stations 4\nedits 68\nlocked 4\npublished 1607\napproved 400\ntotal 721636584\n"
+# the total of the trial of a number, as an independent program computes it
+TOTALS = {0: 999939745, 1: 721636584, 2: 336616790, 7: 346743574, 999999999: 416354025}
+
+
+def figures(number):
+    return b"stations 4\nedits 68\nlocked 4\npublished 1607\napproved 400\ntotal %d\n" % TOTALS[number]
 
 
 def trial(place):
     """The trial of a number, which touches no file."""
     place.journal.write_bytes(b"x")
-    for words in [["trial", "--number", "1"], ["trial", "--number=000000001"]]:
-        expect(f"{words}", (0, TRIAL, b""), place.run(words, b"x"))
+    for number in TOTALS:
+        words = ["trial", "--number", str(number)]
+        expect(f"{words}", (0, figures(number), b""), place.run(words, b"x"))
+    words = ["trial", "--number=000000001"]
+    expect(f"{words}", (0, figures(1), b""), place.run(words, b"x"))
     got = place.run(words, before=closed(1))
     expect("trial, stream 1 closed", (3, b"", OUTPUT_FAULT), got)
+    expect("trial with little memory", (6, b"", b"streamoffice: out of memory\n"), place.run(words, before=limit_memory))
     expect("    what is left", b"x", place.content())
 
 

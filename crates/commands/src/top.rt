@@ -24,7 +24,7 @@ use std::alloc::Global;
 
 /// Runs the command that the words name: `init` makes a journal under a name of the cabinet, `batch` reads requests to the input's end
 /// and writes the replies, with each edit in the journal before its reply, and `stations` adds the stations of the document on the input
-/// and writes a line of each. `trial` asks the made-up year of a number of an office over a disk in memory, and writes its six figures.
+/// and writes a line of each. `trial` asks the made-up record of a number of an office over a disk in memory, and writes its six figures.
 ///
 /// The runtime is for commands that wait or start threads; these do neither. What is answered is the status of the
 /// program: 0 where the command is done, for `batch` at the input's end; 1 exactly where the words are no command; 2 and 3 where

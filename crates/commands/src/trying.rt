@@ -1,4 +1,4 @@
-//! The trial of a number: a made-up year is asked of an office over a disk in memory, and its figures are written.
+//! The trial of a number: a made-up record is asked of an office over a disk in memory, and its figures are written.
 
 ghost use Rattle.std.specs.Prelude.{◌≡◌};
 ghost use Rattle.devices.specs.Faults.{Rose};

@@ -6,7 +6,8 @@ use Rattle.daily_values.specs.Figures.{DayFigures}
 use Rattle.daily_values.specs.declared.day_values.DayValue.{DayValue}
 use Rattle.daily_values.specs.declared.day_values.DayValue.TheVariants as values
 use Rattle.depend.specs.Compared.{days_within}
-use Rattle.fixed_units.specs.Quantities.{SiteNumber, first_day, last_day}
+use Rattle.fixed_units.specs.Calendar.{calendar}
+use Rattle.fixed_units.specs.Quantities.{SiteNumber}
 use Rattle.fixed_units.specs.Rounding.{round}
 use Rattle.history.specs.Accepted.{accepted, stations_at}
 use Rattle.history.specs.Awaited.{value_at}
@@ -44,7 +45,7 @@ abbrev pub approved_on : List Event → SiteNumber → ℤ → ℕ
 approved_on events site day = one_if (is_approved (status_at events site day))
 
 abbrev pub approved_days : List Event → SiteNumber → ℕ
-approved_days events site = sum_by (approved_on events site) (days_within first_day last_day)
+approved_days events site = sum_by (approved_on events site) calendar
 
 unfoldable pub approved : Trial → ℕ
 approved t = over_stations (approved_days t.history.events)

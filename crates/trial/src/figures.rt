@@ -10,7 +10,7 @@ use fixed_units::{NoMemory, Text};
 /// # Errors
 ///
 /// [`NoMemory`]: a front of the line may stand in the text then.
-pub fn write_figure(name: &[u8], figure: u64, out: &mut Text) -> Result<(), NoMemory>
+pub(crate) fn write_figure(name: &[u8], figure: u64, out: &mut Text) -> Result<(), NoMemory>
     ensures { OnOk result (out.new ≡ out.old ++ figure_line name.now figure) }
 {
     out.push_slice(name)?;

@@ -10,7 +10,7 @@ use daily_values::{DayValue, Figures, Sum};
 use fixed_units::div_half_away;
 
 /// The mean discharge of a value, in millionths of a cubic foot per second, or 0 where there is none.
-pub fn mean_of_value(value: &DayValue) -> u64
+pub(crate) fn mean_of_value(value: &DayValue) -> u64
     ensures mean { result ≡ means.mean_of_value value.now }
     ensures few { result ≤ most_discharge }
 {

@@ -67,7 +67,7 @@ impl<D: Disk> Run<D> {
         ensures asked { OnOk result (self.new.asked ≡ self.old.asked + 1) }
     {
         let number = self.asked + 1;
-        let edit = edit_of(self.alloc, number, by, site, what, &mut self.scratch)?;
+        let edit = edit_of(number, by, site, what, &mut self.scratch)?;
         self.take(edit)?;
         Ok(())
     }

@@ -6,7 +6,6 @@ ghost use Rattle.trial_orders.specs.References.{IsAsked, reference_of};
 
 use edits::{By, Edit, Ref, What};
 use fixed_units::{NoMemory, Site, Text};
-use std::alloc::Global;
 
 /// Who asks all but the review and the approval.
 pub fn sender() -> By
@@ -31,7 +30,6 @@ pub fn approver() -> By
 
 /// The edit that a person asks of a site under a number, in whose reference the scratch is used.
 pub fn edit_of(
-    alloc: Global,
     number: u32,
     by: By,
     site: Site,
@@ -41,11 +39,12 @@ pub fn edit_of(
     requires { IsLawful what }
     ensures { IfOk result (IsAsked number by site what) }
 {
-    let reference = reference_of(number, scratch)?;
-    match Edit::new(alloc, by, reference, site, what) {
-        Ok(edit) => Ok(edit),
-        Err(_) => Err(NoMemory),
-    }
+    Ok(Edit {
+        by,
+        reference: reference_of(number, scratch)?,
+        site,
+        what,
+    })
 }
 
 /// The reference of a number.

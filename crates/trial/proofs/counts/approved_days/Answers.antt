@@ -1,6 +1,6 @@
 use Rattle.std.proofs.Common.{◌≡◌, ◌<◌, ◌∙◌, ap, arith}
 use Rattle.std.specs.List.{sum_by}
-use Rattle.fixed_units.specs.Calendar.{days_from}
+use Rattle.fixed_units.specs.Calendar.{calendar, days_from}
 use Rattle.fixed_units.specs.Quantities.{first_day}
 use Rattle.trial.specs.Figures.{approved_on}
 use Rattle.trial.proofs.SumLemmas.{day_more, days_all}
@@ -18,6 +18,7 @@ loop-place-preserved g c =
     )
 
 pub returns-clause-approved : goal.returns-clause-approved
+unfolding calendar
 returns-clause-approved g c =
     let last : c.loop-place.place ≡ 73_049 = omega (arith, c.loop-place-test.false) in
     days_all (approved_on c.args.office.now.register.history.events c.args.site) first_day 73_049 c.loop-place.place c.loop-place.count (sum_by (approved_on c.args.office.now.register.history.events c.args.site) (days_from first_day 73_049)) last c.loop-place.invariant.0

@@ -1,4 +1,4 @@
-use Rattle.std.proofs.Common.{◌≡◌, ◌*◌, ◌≤◌, ◌-◌}
+use Rattle.std.proofs.Common.{◌≡◌, ◌≤◌, ◌-◌}
 use Rattle.trial.specs.Figures.{kept_one}
 use Rattle.trial.proofs.SumLemmas.{sum_before}
 use Rattle.trial.proofs.counts.kept.Given as goal

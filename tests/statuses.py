@@ -190,7 +190,6 @@ def trial(place):
     expect(f"{words}", (0, figures(1), b""), place.run(words, b"x"))
     got = place.run(words, before=closed(1))
     expect("trial, stream 1 closed", (3, b"", OUTPUT_FAULT), got)
-    expect("trial with little memory", (6, b"", b"streamoffice: out of memory\n"), place.run(words, before=limit_memory))
     expect("    what is left", b"x", place.content())
 
 

@@ -1,5 +1,5 @@
 -- Which bytes are told, and what is known of a day.
-use Rattle.std.specs.Prelude.{◌≡◌, ◌⊎◌, ℕ, List, ℤ}
+use Rattle.std.specs.Prelude.{◌≡◌, ◌⊎◌, ℕ, List, Option, Some, None, false, ℤ}
 use Rattle.desk.specs.Replies.{fault_reply, memory_reply}
 use Rattle.desk.specs.declared.answers.Told.{Told}
 use Rattle.desk.specs.declared.answers.Told.TheVariants as told
@@ -21,6 +21,11 @@ abbrev pub told_bytes : Told → List ℕ → List ℕ
 told_bytes told.Made reply = reply
 told_bytes (told.JournalFault in_doubt) reply = fault_reply in_doubt
 told_bytes told.NoMemory reply = memory_reply
+
+-- the text is the reply to an edit that is accepted under this number, where one is given
+abbrev pub IsAcceptance : Option ℕ → List ℕ → Type 0
+IsAcceptance None text = Unit {0}
+IsAcceptance (Some number) text = text ≡ bytes_of (replies.Edit number false)
 
 -- a reply was made, or there was no memory for it
 abbrev pub IsMade : Reply → List ℕ → Type 0

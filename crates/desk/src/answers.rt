@@ -1,7 +1,7 @@
 //! What is asked is answered by the office, in texts.
 
-ghost use Rattle.std.specs.Prelude.{◌≡◌, ◌≤◌, ◌<◌, ◌-◌, ◌^◌, Bool, length, OnOk, OnErr, IfOk, true, false};
-ghost use Rattle.desk.specs.Answering.{IsMade, IsRefusedBy, told_bytes};
+ghost use Rattle.std.specs.Prelude.{◌≡◌, ◌≤◌, ◌<◌, ◌-◌, ◌^◌, ℕ, Bool, Some, length, OnOk, OnErr, IfOk, true, false};
+ghost use Rattle.desk.specs.Answering.{IsAcceptance, IsMade, IsRefusedBy, told_bytes};
 ghost use Rattle.desk.specs.Passing.{Passes};
 ghost use Rattle.desk.specs.Replies.{IsAnswered, IsLeftBy, fault_reply, history_after, memory_reply, reply_to};
 ghost use Rattle.http_api.specs.Replies.{bytes_of};
@@ -20,6 +20,7 @@ use office::Office;
 use office::laws::an_office_stands_on_its_disk;
 use office_inputs::{Refusal, Station};
 use std::alloc::Global;
+use std::mem::swap;
 use wire::NO_MEMORY_REPLY;
 
 /// Which reply is told.
@@ -33,16 +34,19 @@ pub(crate) enum Told {
     NoMemory,
 }
 
-/// The scratch that bodies are read with, the texts that replies are made in, and the replies to a journal that fails, which stand
-/// ready before the office is asked.
+/// The scratch that bodies are read with, the texts that replies are made in, and those that stand ready before the office is asked:
+/// the replies to a journal that fails, and that to an edit that is accepted, with its number.
 #[derive(Drop)]
 pub(crate) struct Texts {
     pub(crate) alloc: Global,
     pub(crate) scratch: Scratch,
     body: Text,
     reply: Text,
+    accepts: Option<u64>,
+    acceptance: Text,
     settled: Text,
     doubtful: Text,
+    ghost acceptance_is: { IsAcceptance accepts acceptance },
     ghost settled_is: { settled ≡ fault_reply false },
     ghost doubtful_is: { doubtful ≡ fault_reply true },
 }
@@ -58,6 +62,8 @@ impl Texts {
             scratch: Scratch::new(alloc),
             body,
             reply: Text::new(alloc),
+            accepts: None,
+            acceptance: Text::new(alloc),
             settled,
             doubtful,
         })
@@ -80,6 +86,33 @@ impl Texts {
         ensures { OnOk result (self.new.reply ≡ bytes_of reply.now) }
     {
         write_reply(self.alloc, reply, &mut self.body, &mut self.reply)
+    }
+
+    /// Makes the reply to an edit that will be accepted under a number, unless it stands ready since an earlier one was refused.
+    fn prepare(&mut self, number: u64) -> Result<(), NoMemory>
+        ensures { OnOk result (self.new.accepts ≡ Some number) }
+    {
+        if let Some(ready) = self.accepts {
+            if ready == number {
+                return Ok(());
+            }
+        }
+        self.accepts = None;
+        let accepted = Reply::Edit {
+            number,
+            repeated: false,
+        };
+        write_reply(self.alloc, &accepted, &mut self.body, &mut self.acceptance)?;
+        self.accepts = Some(number);
+        Ok(())
+    }
+
+    /// Takes the reply that stands ready for the one that is told.
+    fn accept(&mut self)
+        ensures { (number : ℕ) → self.old.accepts ≡ Some number → self.new.reply ≡ bytes_of (Reply.Edit number false) }
+    {
+        self.accepts = None;
+        swap(&mut self.reply, &mut self.acceptance);
     }
 
     /// Which reply a refused edit gets.
@@ -129,7 +162,7 @@ pub(crate) fn answer<D: Disk>(office: &mut Office<D>, ask: Ask, texts: &mut Text
     }
 }
 
-/// Takes an edit. The text of the acceptance is made first, so that want of memory leaves the office and its disk as they were.
+/// Takes an edit. The reply to its acceptance is made first, so that want of memory leaves the office and its disk as they were.
 fn take_edit<D: Disk>(office: &mut Office<D>, edit: Edit, texts: &mut Texts) -> Told
     requires claims { NoneOut office.old.register }
     ensures answered { IsAnswered office.old.register.history (asks.Edit edit) (told_bytes result texts.new.reply) office.new.register.history }
@@ -140,11 +173,7 @@ fn take_edit<D: Disk>(office: &mut Office<D>, edit: Edit, texts: &mut Texts) -> 
 {
     // this runs nothing: it tells the proof what a stop leaves where there is no memory for the acceptance's text
     an_office_stands_on_its_disk(office);
-    let accepted = Reply::Edit {
-        number: office.edits().saturating_add(1),
-        repeated: false,
-    };
-    if texts.make(&accepted).is_err() {
+    if texts.prepare(office.edits().saturating_add(1)).is_err() {
         return Told::NoMemory;
     }
     match office.take(edit) {
@@ -152,7 +181,10 @@ fn take_edit<D: Disk>(office: &mut Office<D>, edit: Edit, texts: &mut Texts) -> 
             number: told.number,
             repeated: true,
         }),
-        Ok(told) => made_for(told.number),
+        Ok(told) => {
+            texts.accept();
+            made_for(told.number)
+        }
         Err(refusal) => texts.refuse(refusal),
     }
 }

@@ -1,5 +1,5 @@
 -- The row of a target is that of the route that it fits, and the texts that its parameters have are ASCII.
-use Rattle.std.proofs.Common.{◌≡◌, refl, ap, ℕ, ◌-◌, ◌<◌, inl, inr, Bool, true, false, cond, List, [], ◌∷◌, All, take, drop, Option, Some, None, IfSome, IsSome, option_map, subst}
+use Rattle.std.proofs.Common.{◌≡◌, refl, ap, ℕ, ◌-◌, ◌<◌, inl, inr, Bool, true, false, cond, List, [], ◌∷◌, All, codes, take, drop, Option, Some, None, IfSome, IsSome, option_map, subst}
 use Rattle.std.specs.List.{list_all}
 use Rattle.std.specs.Char.{is_ascii}
 use Rattle.std.specs.Str.{IsAscii, IsUtf8}
@@ -14,8 +14,9 @@ use Rattle.matchit.specs.Params.{walk, part_of, AllText}
 use Rattle.http_api.proofs.ApartLemmas.{are_apart}
 use Rattle.http_api.proofs.FindingLemmas.{AllEnded, HasSpelled, seek_found}
 use Rattle.http_api.proofs.FittingLemmas.{AllSpelled, seek_spelled}
-use Rattle.http_api.specs.Routes.{with_route, route_rows, tokens_of, Fits, RowsAreThoseThatFit}
+use Rattle.http_api.specs.Routes.{spelling, target_at, target_by, target_of, with_route, route_rows, tokens_of, Fits, RowsAreThoseThatFit}
 use Rattle.http_api.specs.declared.routes.Route.{Route}
+use Rattle.http_api.specs.declared.routes.Target.TheVariants as named
 use Rattle.http_api.specs.declared.routes.Route.TheVariants.{Edits, Rating, Turns, Settle, Status, Station, DayOf, SheetOf, Daily, Measurement}
 
 -- ---- the rows of the routes
@@ -61,6 +62,21 @@ rows_fit target route =
         → option_map (λ (row : RouteOf Route). row.value) found ≡ Some route
     named None h fits some = absurd (cc)
     named (Some row) h fits some = ap Some (are_apart row.value route target h fits)
+
+-- ---- the target of the edits, which is spelled in one way
+
+edits_by : (found : Option (RouteOf Route)) → option_map (λ (row : RouteOf Route). row.value) found ≡ Some Edits → target_at found (spelling Edits) ≡ Some named.Edits
+edits_by None e = absurd (cc)
+edits_by (Some row) e =
+    let same : row.value ≡ Edits = cc in
+    ap (λ (route : Route). target_by route (walk row.pattern row.text (spelling Edits) row.names 0 0)) same
+
+edits_fit : Fits Edits (spelling Edits)
+unfolding tokens_of scan
+edits_fit = (codes "edits", refl, (codes "dits", refl, (codes "its", refl, (codes "ts", refl, (codes "s", refl, ([], refl, refl))))))
+
+pub edits_named : target_of (spelling Edits) ≡ Some named.Edits
+edits_named = edits_by (first route_rows (spelling Edits)) ((rows_fit (spelling Edits) Edits).1 edits_fit)
 
 -- ---- the texts of the rows
 

@@ -149,6 +149,10 @@ impl Router {
         ensures named { result ≡ target_of target.now }
         ensures rating { IfSome result NamesRating }
     {
+        // most requests are edits, and these need no search
+        if target == Route::Edits.spelling().as_bytes() {
+            return Some(Target::Edits);
+        }
         let text = ascii(target)?;
         match self.rows.at(text) {
             Ok(found) => target_by(*found.value, &found.params),

@@ -33,7 +33,7 @@ pub record IsWindow (std dst start start_after end end_after : ℤ) : Type 0 whe
   pub start_after_in : IsMovedNanos start_after
   pub end_after_in : IsMovedNanos end_after
 
--- two moments lie on one side of a change, which is taken to be after it
+-- two moments lie on one side of a change; a moment at the change itself lies behind it
 pub record IsOneSide (change at later : ℤ) : Type 0 where
   pub begun : int_le change later ≡ int_le change at
   pub ahead : int_lt later change ≡ int_lt at change

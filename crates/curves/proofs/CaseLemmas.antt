@@ -1,6 +1,7 @@
 -- The values of curves and series by the cases of the rules, of which exactly one holds.
-use Rattle.std.specs.Prelude.{◌≡◌, Bool, true, false, cond, List, [], ◌∷◌, ◌++◌, ◌<◌, length, ℤ, pos, ◌<ℤ◌, ◌≤ℤ◌, int_lt, int_le, Some, All, ◌⊎◌}
-use Rattle.std.proofs.Common.{arith, refl, ap, sym, ◌∙◌, subst, inl, inr}
+use Rattle.std.specs.Prelude.{◌≡◌, Bool, true, false, cond, List, [], ◌∷◌, ◌++◌, ◌<◌, ◌≤◌, length, ℤ, pos, ◌<ℤ◌, ◌≤ℤ◌, int_lt, int_le, Some, All, ◌⊎◌}
+use Rattle.std.specs.Ordering.{int_cmp, is_le}
+use Rattle.std.proofs.Common.{arith, refl, ap, get_or, sym, ◌∙◌, subst, inl, inr}
 use Rattle.std.proofs.lemmas.Int.{ints, by_lt_z}
 use Rattle.std.proofs.lemmas.List.Elements.{All-head, All-cons, All-nil, All-weaker, filter-append}
 use Rattle.fixed_units.specs.Lines.{line_at}
@@ -70,10 +71,10 @@ placed place n (x ∷ xs) h =
     placed_step place n x xs h (placed place n xs (AllPairs-tail (λ a b. place a <ℤ place b) x xs h)) (either_way (place x) n)
 
 -- the lines of a curve meet its points
-start_of : (p q : ℤ × ℤ) (stage : ℤ) → p.0 <ℤ q.0 → stage ≡ p.0 → line_at p q stage ≡ p.1
+pub start_of : (p q : ℤ × ℤ) (stage : ℤ) → p.0 <ℤ q.0 → stage ≡ p.0 → line_at p q stage ≡ p.1
 start_of p q stage h e = ap (line_at p q) e ∙ line-first p q h
 
-end_of : (p q : ℤ × ℤ) (stage : ℤ) → p.0 <ℤ q.0 → stage ≡ q.0 → line_at p q stage ≡ q.1
+pub end_of : (p q : ℤ × ℤ) (stage : ℤ) → p.0 <ℤ q.0 → stage ≡ q.0 → line_at p q stage ≡ q.1
 end_of p q stage h e = ap (line_at p q) e ∙ line-last p q h
 
 -- the value where a point and those behind it are told
@@ -157,6 +158,95 @@ curve_unique points stage v w some h m n =
       | inl k ↦ same_front points stage v w some k m n
       | inr p ↦ same_back points p.front p.here p.back stage v w p.whole p.upto p.later m n
     ]
+
+-- what a test of two numbers says
+pub told_le : (x y : ℤ) → is_le (int_cmp x y) ≡ true → x ≤ℤ y
+told_le x y h = grind (arith, ints)
+
+pub told_gt : (x y : ℤ) → is_le (int_cmp x y) ≡ false → y <ℤ x
+told_gt x y h = grind (arith, ints)
+
+-- what two neighbours say at a stage, where no other ones say it
+pub record IsPair (points : List (ℤ × ℤ)) (p q : ℤ × ℤ) (stage : ℤ) : Type 0 where
+  pub rising : p.0 <ℤ q.0
+  pub low : stage ≤ℤ p.0 → curve_value points stage ≡ p.1
+  pub high : q.0 ≤ℤ stage → curve_value points stage ≡ q.1
+  pub between : p.0 ≤ℤ stage → stage ≤ℤ q.0 → curve_value points stage ≡ line_at p q stage
+
+pub pair_of_two : (points : List (ℤ × ℤ)) (p q : ℤ × ℤ) (stage : ℤ) → 2 ≤ length points → length points ≤ 2 → Rises stage_of points
+    → p ≡ get_or points 0 p → q ≡ get_or points 1 q → IsPair points p q stage
+pair_of_two [] p q stage some few h e f = absurd (omega (arith, some))
+pair_of_two (a ∷ []) p q stage some few h e f = absurd (omega (arith, some))
+pair_of_two (a ∷ b ∷ []) p q stage some few h e f =
+    let cases = curve_cases (a ∷ b ∷ []) stage h in
+    subst (λ (x : ℤ × ℤ). IsPair (a ∷ b ∷ []) x q stage) (sym e) (subst (λ (y : ℤ × ℤ). IsPair (a ∷ b ∷ []) a y stage) (sym f)
+    (record {
+      rising = All-head (λ y. a.0 <ℤ y.0) b [] (AllPairs-head (λ x y. x.0 <ℤ y.0) a (b ∷ []) h);
+      low = λ k. cases.low a (b ∷ []) refl k;
+      high = λ k. cases.high (a ∷ []) b refl k;
+      between = λ k l. cases.between [] [] a b refl k l;
+    }))
+pair_of_two (a ∷ b ∷ c ∷ points) p q stage some few h e f = absurd (omega (arith, few))
+
+pub first_of_three : (points : List (ℤ × ℤ)) (p q : ℤ × ℤ) (stage : ℤ) → 3 ≤ length points → length points ≤ 3 → Rises stage_of points
+    → p ≡ get_or points 0 p → q ≡ get_or points 1 q → stage <ℤ q.0 → IsPair points p q stage
+first_of_three [] p q stage some few h e f below = absurd (omega (arith, some))
+first_of_three (a ∷ []) p q stage some few h e f below = absurd (omega (arith, some))
+first_of_three (a ∷ b ∷ []) p q stage some few h e f below = absurd (omega (arith, some))
+first_of_three (a ∷ b ∷ c ∷ []) p q stage some few h e f below =
+    let cases = curve_cases (a ∷ b ∷ c ∷ []) stage h in
+    let under : stage <ℤ b.0 = subst (λ (x : ℤ × ℤ). stage <ℤ x.0) f below in
+    subst (λ (x : ℤ × ℤ). IsPair (a ∷ b ∷ c ∷ []) x q stage) (sym e) (subst (λ (y : ℤ × ℤ). IsPair (a ∷ b ∷ c ∷ []) a y stage) (sym f)
+    (record {
+      rising = All-head (λ y. a.0 <ℤ y.0) b (c ∷ []) (AllPairs-head (λ x y. x.0 <ℤ y.0) a (b ∷ c ∷ []) h);
+      low = λ k. cases.low a (b ∷ c ∷ []) refl k;
+      high = λ k. absurd (omega (arith, ints, k, under));
+      between = λ k l. cases.between [] (c ∷ []) a b refl k l;
+    }))
+first_of_three (a ∷ b ∷ c ∷ d ∷ points) p q stage some few h e f below = absurd (omega (arith, few))
+
+pub last_of_three : (points : List (ℤ × ℤ)) (p q : ℤ × ℤ) (stage : ℤ) → 3 ≤ length points → length points ≤ 3 → Rises stage_of points
+    → p ≡ get_or points 1 p → q ≡ get_or points 2 q → p.0 ≤ℤ stage → IsPair points p q stage
+last_of_three [] p q stage some few h e f above = absurd (omega (arith, some))
+last_of_three (a ∷ []) p q stage some few h e f above = absurd (omega (arith, some))
+last_of_three (a ∷ b ∷ []) p q stage some few h e f above = absurd (omega (arith, some))
+last_of_three (a ∷ b ∷ c ∷ []) p q stage some few h e f above =
+    let cases = curve_cases (a ∷ b ∷ c ∷ []) stage h in
+    let over : b.0 ≤ℤ stage = subst (λ (x : ℤ × ℤ). x.0 ≤ℤ stage) e above in
+    let rises : Rises stage_of (b ∷ c ∷ []) = AllPairs-tail (λ x y. x.0 <ℤ y.0) a (b ∷ c ∷ []) h in
+    let less : b.0 <ℤ c.0 = All-head (λ y. b.0 <ℤ y.0) c [] (AllPairs-head (λ x y. x.0 <ℤ y.0) b (c ∷ []) rises) in
+    subst (λ (x : ℤ × ℤ). IsPair (a ∷ b ∷ c ∷ []) x q stage) (sym e) (subst (λ (y : ℤ × ℤ). IsPair (a ∷ b ∷ c ∷ []) b y stage) (sym f)
+    (record {
+      rising = less;
+      low = λ k. curve_on stage (a ∷ b ∷ c ∷ []) (a ∷ []) b (c ∷ []) h refl (omega (arith, ints, k, over));
+      high = λ k. cases.high (a ∷ b ∷ []) c refl k;
+      between = λ k l. cases.between (a ∷ []) [] b c refl k l;
+    }))
+last_of_three (a ∷ b ∷ c ∷ d ∷ points) p q stage some few h e f above = absurd (omega (arith, few))
+
+-- a value that they say is the curve's
+pub record IsAcross (p q : ℤ × ℤ) (stage v : ℤ) : Type 0 where
+  pub low : stage ≤ℤ p.0 → v ≡ p.1
+  pub high : q.0 ≤ℤ stage → v ≡ q.1
+  pub between : p.0 ≤ℤ stage → stage ≤ℤ q.0 → v ≡ line_at p q stage
+
+pub pair_value : (points : List (ℤ × ℤ)) (p q : ℤ × ℤ) (stage v : ℤ) → IsPair points p q stage → IsAcross p q stage v → v ≡ curve_value points stage
+pair_value points p q stage v h a = by (either_way stage p.0) (either_way q.0 stage)
+  where
+    by : (stage ≤ℤ p.0) ⊎ (p.0 <ℤ stage) → (q.0 ≤ℤ stage) ⊎ (stage <ℤ q.0) → v ≡ curve_value points stage
+    by (inl k) l = a.low k ∙ sym (h.low k)
+    by (inr k) (inl l) = a.high l ∙ sym (h.high l)
+    by (inr k) (inr l) = let m : p.0 ≤ℤ stage = omega (arith, ints, k) in let n : stage ≤ℤ q.0 = omega (arith, ints, l) in a.between m n ∙ sym (h.between m n)
+
+-- one point alone says each value
+pub value_of_one : (points : List (ℤ × ℤ)) (p : ℤ × ℤ) (stage : ℤ) → length points ≡ 1 → Rises stage_of points → p ≡ get_or points 0 p → p.1 ≡ curve_value points stage
+value_of_one [] p stage one h e = absurd (omega (arith, one))
+value_of_one (a ∷ []) p stage one h e = by (either_way stage a.0)
+  where
+    by : (stage ≤ℤ a.0) ⊎ (a.0 <ℤ stage) → p.1 ≡ curve_value (a ∷ []) stage
+    by (inl k) = ap (λ (x : ℤ × ℤ). x.1) e ∙ sym ((curve_cases (a ∷ []) stage h).low a [] refl k)
+    by (inr k) = ap (λ (x : ℤ × ℤ). x.1) e ∙ sym ((curve_cases (a ∷ []) stage h).high [] a refl (omega (arith, ints, k)))
+value_of_one (a ∷ b ∷ points) p stage one h e = absurd (omega (arith, one))
 
 -- the same of series
 series_at : (at stage : ℤ) (entries es : List Entry) (e : Entry) (ns : List Entry) → IsRising entries → entries ≡ es ++ e ∷ ns → e.at ≤ℤ at

@@ -64,6 +64,7 @@ pub fn value_of(entries: &[Entry], at: Second, stage: Micro) -> Micro
 }
 
 /// The amount in force at an instant for a stage, by a search for the instant.
+#[inline(never)]
 fn value_searched(entries: &[Entry], at: Second, stage: Micro) -> Micro
     requires { IsRising entries.now }
     ensures { result ≡ series_value entries.now at stage }

@@ -1,6 +1,6 @@
 -- Straight lines between two points: how great the products are, and that a line keeps to the values of its ends.
 use Rattle.std.proofs.Common.{◌≡◌, ℕ, ◌*◌, ◌^◌, ◌≤◌, ℤ, pos, negsuc, neg_ℤ, ◌-ℤ◌, ◌*ℤ◌, ◌≤ℤ◌, ◌<ℤ◌, unsigned_abs, FitsSigned, arith}
-use Rattle.std.specs.Int.{w128}
+use Rattle.std.specs.Int.{w64, w128}
 use Rattle.std.proofs.lemmas.Nat.{mul-le}
 use Rattle.std.proofs.lemmas.Int.{ints, fits_signed_from_abs, unsigned_abs-mul}
 use Rattle.fixed_units.specs.Quantities.{IsWithin, most_millionths}
@@ -35,6 +35,20 @@ product-fits rise gone h = fits_signed_from_abs w128 (rise *ℤ gone) (omega (ar
 
 pub product-within : (rise gone : ℤ) → IsPart rise gone → (neg_ℤ (pos (10 ^ 37)) ≤ℤ (rise *ℤ gone)) × ((rise *ℤ gone) ≤ℤ pos (10 ^ 37))
 product-within rise gone h = within (rise *ℤ gone) (10 ^ 37) (omega (arith, product-abs rise gone h))
+
+-- the product of a small rise and a part of a small run
+pub record IsSmallPart (rise gone : ℤ) : Type 0 where
+  pub low : neg_ℤ (pos (2 ^ 31)) ≤ℤ rise
+  pub high : rise ≤ℤ pos (2 ^ 31)
+  pub some : pos 0 ≤ℤ gone
+  pub fits : gone ≤ℤ pos (2 ^ 31)
+
+pub small-product-fits : (rise gone : ℤ) → IsSmallPart rise gone → FitsSigned w64 (rise *ℤ gone)
+small-product-fits rise gone h =
+    let e = unsigned_abs-mul rise gone in
+    let m : unsigned_abs rise * unsigned_abs gone ≤ 2 ^ 31 * 2 ^ 31 =
+    mul-le (unsigned_abs rise) (unsigned_abs gone) (2 ^ 31) (2 ^ 31) (abs-le rise (2 ^ 31) h.low h.high) (abs-le gone (2 ^ 31) (omega (arith, ints, h.some)) h.fits) in
+    fits_signed_from_abs w64 (rise *ℤ gone) (omega (arith, e, m))
 
 -- the line keeps to each range that has both its ends
 pub line-within : (p q : ℤ × ℤ) (x least greatest : ℤ) → p.0 <ℤ q.0 → p.0 ≤ℤ x → x ≤ℤ q.0 → IsWithin least greatest p.1 → IsWithin least greatest q.1

@@ -1,12 +1,15 @@
 //! Straight lines between two points, read at whole numbers.
 
-ghost use Rattle.std.specs.Prelude.{◌≡◌, ◌*◌, ◌^◌, ℤ, pos, neg_ℤ, ◌+ℤ◌, ◌-ℤ◌, ◌*ℤ◌, ◌≤ℤ◌, ◌<ℤ◌};
+ghost use Rattle.std.specs.Prelude.{◌≡◌, ◌*◌, ◌^◌, true, IfSome, ℤ, pos, neg_ℤ, ◌+ℤ◌, ◌-ℤ◌, ◌*ℤ◌, ◌≤ℤ◌, ◌<ℤ◌};
 ghost use Rattle.fixed_units.specs.Lines.{line_at};
 ghost use Rattle.fixed_units.specs.Rounding.{round};
 ghost use Rattle.fixed_units.specs.Quantities.{IsMicro, IsWithin, most_millionths};
 
 use crate::quantities::Micro;
-use crate::rounding::div_half_away;
+use crate::rounding::{div_half_away, div_small};
+
+/// The greatest rise and run of a line that is read by numbers of 64 bits: twice their product fits, with the run.
+const MOST_SMALL: i64 = 2_147_483_648;
 
 /// What the straight line from one point to another has at `x`, rounded once to a millionth, half away from zero. It
 /// keeps to each range that has both its ends.
@@ -26,8 +29,66 @@ pub fn lines_meet_their_ends()
     ensures last { (p q : ℤ × ℤ) → p.0 <ℤ q.0 → line_at p q q.0 ≡ q.1 }
 {}
 
-/// How much the straight line from one point to another has risen at `x`, rounded.
+/// How much the straight line from one point to another has risen at `x`, rounded. Most lines are short.
+#[inline(always)]
 fn risen(from: (i64, Micro), to: (i64, Micro), x: i64) -> i128
+    requires rising { from.0 <ℤ to.0 }
+    requires first { from.0 ≤ℤ x }
+    requires last { x ≤ℤ to.0 }
+    ensures { result ≡ round ((to.1 -ℤ from.1) *ℤ (x -ℤ from.0)) (to.0 -ℤ from.0) }
+{
+    match small_run(from.0, to.0) {
+        Some(run) if has_small_rise(from.1, to.1) => i128::from(risen_little(
+            to.1.get() - from.1.get(),
+            x - from.0,
+            run,
+        )),
+        _ => risen_far(from, to, x),
+    }
+}
+
+/// A run, where it is small.
+#[inline(always)]
+fn small_run(from: i64, to: i64) -> Option<i64>
+    requires { from <ℤ to }
+    ensures run { IfSome result (λ run. run ≡ to -ℤ from) }
+    ensures small { IfSome result (λ run. run ≤ℤ pos (2 ^ 31)) }
+{
+    let run = to.wrapping_sub(from);
+    if 0 < run && run <= MOST_SMALL {
+        Some(run)
+    } else {
+        None
+    }
+}
+
+/// Whether a rise is small.
+#[inline(always)]
+fn has_small_rise(from: Micro, to: Micro) -> bool
+    ensures low { result ≡ true → neg_ℤ (pos (2 ^ 31)) ≤ℤ (to -ℤ from) }
+    ensures high { result ≡ true → (to -ℤ from) ≤ℤ pos (2 ^ 31) }
+{
+    let rise = to.get() - from.get();
+    -MOST_SMALL <= rise && rise <= MOST_SMALL
+}
+
+/// The rounded part of a small rise that is gone with a part of a small run.
+#[inline(always)]
+fn risen_little(rise: i64, gone: i64, run: i64) -> i64
+    requires low { neg_ℤ (pos (2 ^ 31)) ≤ℤ rise }
+    requires high { rise ≤ℤ pos (2 ^ 31) }
+    requires some { pos 0 ≤ℤ gone }
+    requires part { gone ≤ℤ run }
+    requires run { pos 0 <ℤ run }
+    requires small { run ≤ℤ pos (2 ^ 31) }
+    ensures { result ≡ round (rise *ℤ gone) run }
+{
+    div_small(rise * gone, run)
+}
+
+/// How much the straight line from one point to another has risen at `x`, rounded, however far they are from each other.
+#[inline(never)]
+fn risen_far(from: (i64, Micro), to: (i64, Micro), x: i64) -> i128
     requires rising { from.0 <ℤ to.0 }
     requires first { from.0 ≤ℤ x }
     requires last { x ≤ℤ to.0 }

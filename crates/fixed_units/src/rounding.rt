@@ -20,6 +20,34 @@ pub fn div_half_away(num: i128, den: i128) -> i128
     }
 }
 
+/// The same number where `num` is at most 2^62 either way and `den` at most 2^31: by numbers of 64 bits.
+#[inline(always)]
+pub(crate) fn div_small(num: i64, den: i64) -> i64
+    requires positive { pos 0 <ℤ den }
+    requires narrow { den ≤ℤ pos (2 ^ 31) }
+    requires low { neg_ℤ (pos (2 ^ 62)) ≤ℤ num }
+    requires high { num ≤ℤ pos (2 ^ 62) }
+    ensures { result ≡ round num den }
+{
+    let magnitude = small_magnitude(num.unsigned_abs(), den as u64);
+    if num < 0 {
+        -(magnitude as i64)
+    } else {
+        magnitude as i64
+    }
+}
+
+/// The whole number nearest to a small quotient, of two equally near the greater one.
+fn small_magnitude(num: u64, den: u64) -> u64
+    requires positive { 0 < den }
+    requires narrow { den ≤ 2 ^ 31 }
+    requires small { num ≤ 2 ^ 62 }
+    ensures value { result ≡ (2 * num + den) / (2 * den) }
+    ensures within { result ≤ num }
+{
+    (2 * num + den) / (den * 2)
+}
+
 /// How far that number is from zero.
 fn magnitude(num: i128, den: i128) -> u128
     requires positive { pos 0 <ℤ den }

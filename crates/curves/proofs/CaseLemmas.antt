@@ -1,8 +1,9 @@
 -- The values of curves and series by the cases of the rules, of which exactly one holds.
-use Rattle.std.specs.Prelude.{◌≡◌, Bool, true, false, cond, List, [], ◌∷◌, ◌++◌, ◌<◌, ◌≤◌, length, ℤ, pos, ◌<ℤ◌, ◌≤ℤ◌, int_lt, int_le, Some, All, ◌⊎◌}
+use Rattle.std.specs.Prelude.{◌≡◌, Bool, true, false, cond, List, [], ◌∷◌, ◌++◌, ℕ, zero, suc, ◌<◌, ◌≤◌, ◌-◌, length, slice_get, Option, unwrap_or, ℤ, pos, ◌<ℤ◌, ◌≤ℤ◌, int_lt, int_le, Some, All, ◌⊎◌}
 use Rattle.std.specs.Ordering.{int_cmp, is_le}
 use Rattle.std.proofs.Common.{arith, refl, ap, get_or, sym, ◌∙◌, subst, inl, inr}
 use Rattle.std.proofs.lemmas.Int.{ints, by_lt_z}
+use Rattle.std.proofs.lemmas.Option.{slice_get_within}
 use Rattle.std.proofs.lemmas.List.Elements.{All-head, All-cons, All-nil, All-weaker, filter-append}
 use Rattle.fixed_units.specs.Lines.{line_at}
 use Rattle.fixed_units.proofs.LineLemmas.{line-first, line-last}
@@ -278,6 +279,22 @@ series_cases entries at stage h = record {
       series_at at stage entries es e (n ∷ ns) h whole k (next_later at entries es ns e n h whole l)
       ∙ ap (λ b. cond b (amount_prorated e n at stage) (curve_value e.curve stage)) f;
 }
+
+-- the last entry governs from its instant on
+whole_at : (entries : List Entry) (k : ℕ) (e : Entry) → Some e ≡ slice_get entries k → length entries ≡ suc k → (es : List Entry) × (entries ≡ es ++ e ∷ [])
+whole_at [] k e h l = absurd (omega (arith, l))
+whole_at (x ∷ []) zero e h l = ([], ap (λ (o : Option Entry). unwrap_or o e ∷ []) (sym h))
+whole_at (x ∷ []) (suc k) e h l = absurd (omega (arith, l))
+whole_at (x ∷ y ∷ ys) zero e h l = absurd (omega (arith, l))
+whole_at (x ∷ y ∷ ys) (suc k) e h l =
+    let rest = whole_at (y ∷ ys) k e h (omega (arith, l)) in (x ∷ rest.0, ap (λ l. x ∷ l) rest.1)
+
+pub last_governs : (entries : List Entry) (e : Entry) (at stage : ℤ) → IsRising entries → Some e ≡ slice_get entries (length entries - 1) → e.at ≤ℤ at
+    → curve_value e.curve stage ≡ series_value entries at stage
+last_governs entries e at stage h found k =
+    let inside = slice_get_within entries (length entries - 1) e (sym found) in
+    let whole = whole_at entries (length entries - 1) e found (omega (arith, inside)) in
+    sym ((series_cases entries at stage h).last whole.0 e whole.1 k)
 
 same_next : (entries es : List Entry) (e n : Entry) (ns : List Entry) (at stage v w : ℤ) (b : Bool) → entries ≡ es ++ e ∷ n ∷ ns → e.at ≤ℤ at
     → at <ℤ n.at → e.prorate ≡ b → IsSeriesValue entries at stage v → IsSeriesValue entries at stage w → v ≡ w

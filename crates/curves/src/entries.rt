@@ -51,7 +51,7 @@ impl Keyed for Entry {
 /// The amount in force at an instant for a stage, by entries whose instants strictly rise: 0 before the first one;
 /// after that the value of the curve of the last one up to the instant, or where it prorates and another one follows
 /// the line between the values of the two curves, rounded once more. Most days of a record have no corrections and no
-/// shifts, so a series without entries is not searched.
+/// shifts, or one entry that holds on, so a series is searched only where its last entry is later.
 #[inline(always)]
 pub fn value_of(entries: &[Entry], at: Second, stage: Micro) -> Micro
     requires { IsRising entries.now }
@@ -60,7 +60,10 @@ pub fn value_of(entries: &[Entry], at: Second, stage: Micro) -> Micro
     if entries.is_empty() {
         return no_amount();
     }
-    value_searched(entries, at, stage)
+    match entries.last() {
+        Some(entry) if entry.at <= at => entry.curve.value(stage),
+        _ => value_searched(entries, at, stage),
+    }
 }
 
 /// The amount in force at an instant for a stage, by a search for the instant.

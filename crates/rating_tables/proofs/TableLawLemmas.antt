@@ -1,10 +1,10 @@
 -- Laws of tables: the rated discharge of a stage is the one that stands by cases.
-use Rattle.std.specs.Prelude.{◌≡◌, ◌⊎◌, Bool, true, false, List, [], ◌∷◌, ◌++◌, suc, ℤ, ◌<ℤ◌, ◌≤ℤ◌, int_lt, int_le, Option, None, Some, IsSomeAnd, filter, take, drop, All, AllPairs, Contains}
-use Rattle.std.specs.Ordering.{int_eq}
-use Rattle.std.proofs.Common.{arith, refl, ap, sym, ◌∙◌, subst, inl, inr, drop-cons}
+use Rattle.std.specs.Prelude.{◌≡◌, ◌⊎◌, Bool, true, false, List, [], ◌∷◌, ◌++◌, ℕ, suc, ◌<◌, length, ℤ, ◌<ℤ◌, ◌≤ℤ◌, int_lt, int_le, Option, None, Some, IsSomeAnd, filter, take, drop, All, AllPairs, Contains}
+use Rattle.std.specs.Ordering.{int_cmp, int_eq, is_le}
+use Rattle.std.proofs.Common.{arith, refl, ap, get_or, sym, ◌∙◌, subst, inl, inr, drop-cons}
 use Rattle.std.proofs.lemmas.Int.{ints, by_lt_z}
 use Rattle.std.proofs.lemmas.Bool.Decides.{Decides-int_eq}
-use Rattle.std.proofs.lemmas.List.{append_assoc, append-nil, take-append-drop}
+use Rattle.std.proofs.lemmas.List.{append_assoc, append-nil, get_or_default, take-append-drop}
 use Rattle.std.proofs.lemmas.List.Elements.{All-head, All-cons, All-nil, All-append, All-weaker, filter-append, Contains-append_right}
 use Rattle.rising.proofs.Selecting.{filter_all, filter_none, AllPairs-head, AllPairs-tail, All-back}
 use Rattle.rising.proofs.Parting.{lt_yes, lt_no, le_yes, le_no}
@@ -135,6 +135,27 @@ between_rated rows front back r s stage h e low high =
     (λ above.
     let same : stage ≡ s.0 = omega (arith, ints) in
     ap (rated rows) same ∙ row_rated rows (front ++ r ∷ []) back s h whole ∙ ap Value (sym (line-last r s next) ∙ ap (line_at r s) (sym same)))
+
+-- what a test of two stages says
+pub told_le : (x y : ℤ) → is_le (int_cmp x y) ≡ true → x ≤ℤ y
+told_le x y h = grind (arith, ints)
+
+-- a stage on or between the rows of two neighbouring places
+pub placed_rated : (rows : List Row) (place behind : ℕ) (r s : Row) (stage : ℤ) → IsTable rows → behind ≡ suc place → behind < length rows
+    → r ≡ get_or rows place r → s ≡ get_or rows behind s → r.0 ≤ℤ stage → stage ≤ℤ s.0 → rated rows stage ≡ Value (line_at r s stage)
+placed_rated rows place behind r s stage h next inside e f low high =
+    let here = drop-cons rows place r (omega (arith, next, inside)) in
+    let there = drop-cons rows behind s inside in
+    let first : drop place rows ≡ r ∷ drop behind rows = here ∙ ap (λ (x : Row). x ∷ drop (suc place) rows) (sym e) ∙ ap (λ (n : ℕ). r ∷ drop n rows) (sym next) in
+    let second : drop behind rows ≡ s ∷ drop (suc behind) rows = there ∙ ap (λ (x : Row). x ∷ drop (suc behind) rows) (sym f) in
+    between_rated rows (take place rows) (drop (suc behind) rows) r s stage h
+    (sym (take-append-drop place rows) ∙ ap (λ l. take place rows ++ l) (first ∙ ap (λ l. r ∷ l) second)) low high
+
+pub placed_rise : (rows : List Row) (place behind : ℕ) (r s : Row) → IsTable rows → place < behind → behind < length rows
+    → r ≡ get_or rows place r → s ≡ get_or rows behind s → r.0 <ℤ s.0
+placed_rise rows place behind r s h next inside e f =
+    let there : s ≡ get_or rows behind r = f ∙ get_or_default rows behind s r inside in
+    subst (λ (x : Row). x.0 <ℤ s.0) (sym e) (subst (λ (x : Row). (get_or rows place r).0 <ℤ x.0) (sym there) (h.order.rising place behind r next inside))
 
 -- whatever stands by cases is what is rated
 below_rated : (rows : List Row) (stage : ℤ) → IsTable rows → IsSomeAnd (first rows) (λ r. stage <ℤ r.0) → rated rows stage ≡ Below

@@ -1,8 +1,9 @@
 //! A rating table, read by straight lines both ways.
 
-ghost use Rattle.std.specs.Prelude.{◌≡◌, ◌↔◌, true, ◌+◌, ◌<◌, ◌≤◌, take, drop, length, slice_index, None, Some, unwrap_or, IfOk, IfErr, ◌<ℤ◌, ◌≤ℤ◌, AllPairs};
+ghost use Rattle.std.specs.Prelude.{◌≡◌, ◌↔◌, true, ◌+◌, ◌<◌, ◌≤◌, take, drop, length, slice_index, None, Some, unwrap_or, IfOk, IfErr, IfSome, ◌<ℤ◌, ◌≤ℤ◌, AllPairs};
 ghost use Rattle.fixed_units.specs.Lines.{line_at};
 ghost use Rattle.rating_tables.specs.RatedDischarge.{IsRated, IsStageOf};
+ghost use Rattle.rating_tables.specs.declared.table.Rated.TheVariants.{Value};
 ghost use Rattle.rating_tables.specs.Table as tables;
 ghost use Rattle.rating_tables.specs.Table.{IsRating, IsRatingRow, IsTable, rows_upto, rows_above, rows_short, rows_reaching, fault_behind, order_fault, table_fault};
 
@@ -155,8 +156,53 @@ pub fn is_rating_row(row: &(Micro, Micro)) -> bool
     is_stage(row.0.get()) && is_discharge(row.1.get())
 }
 
-/// The rated discharge of a stage by the rows of a table.
+/// The rated discharge of a stage by the rows of a table. Most expanded ratings have a row at each step of some size, so the two
+/// rows are looked at first that would stand about the stage then.
 fn find_discharge(rows: &[(Micro, Micro)], stage: Micro) -> Rated
+    requires { IsTable rows.now }
+    ensures { result ≡ tables.rated rows.now stage }
+{
+    match discharge_behind(rows, even_place(rows, stage), stage) {
+        Some(discharge) => Rated::Value(discharge),
+        None => search_discharge(rows, stage),
+    }
+}
+
+/// The place of the last row up to a stage if the rows stood at even steps, and any place where they do not.
+#[inline(always)]
+fn even_place(rows: &[(Micro, Micro)], stage: Micro) -> usize
+    requires { IsTable rows.now }
+{
+    let last = rows.len() - 1;
+    let whole = rows[last].0.get() - rows[0].0.get();
+    let gone = stage.get() - rows[0].0.get();
+    if whole <= 0 || gone < 0 {
+        return 0;
+    }
+    ((gone as u64).wrapping_mul(last as u64) / whole as u64) as usize
+}
+
+/// The discharge of a stage by the row in a place and the one behind it, where it is on one of them or between them.
+#[inline(always)]
+fn discharge_behind(rows: &[(Micro, Micro)], place: usize, stage: Micro) -> Option<Micro>
+    requires { IsTable rows.now }
+    ensures { IfSome result (λ discharge. tables.rated rows.now stage ≡ Value discharge) }
+{
+    if rows.len() - 1 <= place {
+        return None;
+    }
+    let row = rows[place];
+    let next = rows[place + 1];
+    if row.0 <= stage && stage <= next.0 {
+        Some(line_between(row, next, stage))
+    } else {
+        None
+    }
+}
+
+/// The rated discharge of a stage by a search among the rows of a table.
+#[inline(never)]
+fn search_discharge(rows: &[(Micro, Micro)], stage: Micro) -> Rated
     requires { IsTable rows.now }
     ensures { result ≡ tables.rated rows.now stage }
 {

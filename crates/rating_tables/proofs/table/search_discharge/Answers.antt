@@ -3,7 +3,7 @@ use Rattle.std.proofs.Common.{◌∙◌, arith}
 use Rattle.std.proofs.lemmas.Int.{ints}
 use Rattle.rising.proofs.Parting.{up_to_place, after_place}
 use Rattle.rating_tables.specs.Table.{stage_in}
-use Rattle.rating_tables.proofs.table.find_discharge.Goals as goal
+use Rattle.rating_tables.proofs.table.search_discharge.Goals as goal
 
 pub line_between-requires-clause-rising : goal.line_between-requires-clause-rising
 line_between-requires-clause-rising c =

@@ -19,6 +19,7 @@ use ratings::{PeriodPart, Rated, part_at};
 /// entries rise by instant and whose amounts are at most 1,000 feet either way, and by parts of rating periods, of which at
 /// most one is in force at an instant. The correction is the sum of the three sets' values at the raw stage, the shift is
 /// taken at the corrected stage, and the table in force is entered at the stage with its shift. It takes no memory.
+#[inline(always)]
 pub fn unit(
     first: &[Entry],
     second: &[Entry],

@@ -38,6 +38,7 @@ impl Extremes {
     }
 
     /// Takes in one unit value more, behind those before it.
+    #[inline(always)]
     fn add(&mut self, unit: &Unit)
         ensures { (units : List Unit) → self.old ≡ extremes_among units → self.new ≡ extremes_among (units ++ unit.now ∷ []) }
     {
@@ -49,6 +50,7 @@ impl Extremes {
 }
 
 /// Takes a unit value more into the extremes, where it is of the day.
+#[inline(always)]
 pub(crate) fn add_extremes(extremes: &mut Extremes, parts: &DayParts, unit: &Unit)
     ensures { (units : List Unit) → extremes.old ≡ extremes_among (filter (is_of_day parts.now) units) → extremes.new ≡ extremes_among (filter (is_of_day parts.now) (units ++ unit.now ∷ [])) }
 {
@@ -83,7 +85,7 @@ fn raise(most: &mut Option<Unit>, unit: &Unit, quantity: Quantity)
     ensures { (units : List Unit) → most.old ≡ greatest (value_of quantity) units → most.new ≡ greatest (value_of quantity) (units ++ unit.now ∷ []) }
 {
     if is_greater(most, unit, quantity) {
-        *most = Some(*unit);
+        keep(most, unit);
     }
 }
 
@@ -92,8 +94,16 @@ fn lower(least: &mut Option<Unit>, unit: &Unit, quantity: Quantity)
     ensures { (units : List Unit) → least.old ≡ values.least (value_of quantity) units → least.new ≡ values.least (value_of quantity) (units ++ unit.now ∷ []) }
 {
     if is_lesser(least, unit, quantity) {
-        *least = Some(*unit);
+        keep(least, unit);
     }
+}
+
+/// Keeps a unit value in place of another one.
+#[inline(never)]
+fn keep(kept: &mut Option<Unit>, unit: &Unit)
+    ensures { kept.new ≡ Some unit.now }
+{
+    *kept = Some(*unit);
 }
 
 /// Whether a unit value has a value that is greater than that of the greatest before it, if there is one.

@@ -57,6 +57,7 @@ pub(crate) fn discharge_point(unit: &Unit) -> Point
 
 /// The sum with the area under the line between two points more, cut to the day. Nothing comes to it where one of the two
 /// values is missing.
+#[inline(always)]
 pub(crate) fn add_pair(sum: Sum, parts: &DayParts, left: &Point, right: &Point, seconds: u32) -> Sum
     requires parts { AreParts parts.now }
     requires rising { left.now.0 <ℤ right.now.0 }
@@ -168,5 +169,17 @@ fn value_at(left: &(Second, Micro), right: &(Second, Micro), at: Second) -> Micr
     if at == right.0 {
         return right.1;
     }
+    value_between(left, right, at)
+}
+
+/// The value at an instant on the line between two others.
+#[inline(never)]
+fn value_between(left: &(Second, Micro), right: &(Second, Micro), at: Second) -> Micro
+    requires rising { left.now.0 <ℤ right.now.0 }
+    requires from { left.now.0 ≤ℤ at }
+    requires until { at ≤ℤ right.now.0 }
+    ensures value { result ≡ lines.line_at left.now right.now at }
+    ensures between { (least greatest : ℤ) → IsWithin least greatest left.now.1 → IsWithin least greatest right.now.1 → IsWithin least greatest result }
+{
     line_at((left.0.get(), left.1), (right.0.get(), right.1), at.get())
 }

@@ -102,6 +102,7 @@ fn totals_along(parts: &DayParts, first: Reading, rest: &[Reading]) -> Totals
 }
 
 /// The unit value of a reading of the day.
+#[inline(always)]
 pub(crate) fn unit_of(parts: &DayParts, reading: &Reading) -> Unit
     requires parts { AreParts parts.now }
     requires stage { IsStage reading.now.raw }

@@ -1,4 +1,5 @@
 pub mod ChangedLemmas
+pub mod CountLemmas
 pub mod DayLemmas
 pub mod FirstDays
 pub mod LawLemmas

@@ -1,5 +1,5 @@
 -- How far the record of a day is approved, and what an accepted edit makes of it.
-use Rattle.std.specs.Prelude.{ℕ, Bool, true, false, not, ◌&&◌, if◌then◌else◌, List, codes, bytes_eq, Option, Some, None, option_map, find, ℤ, int_le}
+use Rattle.std.specs.Prelude.{ℕ, Bool, true, false, not, ◌&&◌, if◌then◌else◌, List, codes, bytes_eq, Option, Some, None, option_map, find, count_by, ℤ, int_le}
 use Rattle.approval.specs.declared.objections.Objection.{Objection}
 use Rattle.approval.specs.declared.objections.Objection.TheVariants.{NotInReview, SamePerson, NotApproved, AlreadyApproved}
 use Rattle.approval.specs.declared.status.Status.{Status}
@@ -81,6 +81,10 @@ objection_of at by _ = None
 -- the first day of a list that is approved
 abbrev pub first_approved : (ℤ → Status) → List ℤ → Option ℤ
 first_approved at days = find (λ day. is_approved (at day)) days
+
+-- how many days of the calendar are approved
+abbrev pub approved_days : (ℤ → Status) → ℕ
+approved_days at = count_by (λ day. is_approved (at day)) calendar
 
 -- the edit takes the approval of the day back
 abbrev pub rescinds : What → ℤ → Bool

@@ -3,7 +3,7 @@
 ghost use Rattle.std.specs.Prelude.{◌≡◌, ◌≤ℤ◌, find, option_map};
 ghost use Rattle.approval.specs.Kept.{day_place, standing_at};
 ghost use Rattle.approval.specs.Questions.{holds};
-ghost use Rattle.approval.specs.Statuses.{first_day_of};
+ghost use Rattle.approval.specs.Statuses.{approved_days, first_day_of};
 ghost use Rattle.fixed_units.specs.Quantities.{IsDay};
 ghost use Rattle.rising.specs.Lists.{IsRising, after, at, from};
 
@@ -35,6 +35,16 @@ pub(crate) fn first_of_days(
     days.iter()
         .copied()
         .find(|day| question.holds(standing_on(list, *day)))
+}
+
+/// How many days are approved: each of them is among the standings.
+pub(crate) fn count_approved(list: &[DayStanding]) -> u64
+    requires { IsRising day_place list.now }
+    ensures { result ≡ approved_days (λ day. (standing_at list.now day).status) }
+{
+    list.iter()
+        .filter(|standing| standing.is_approved())
+        .count() as u64
 }
 
 /// The first of the days from one to another whose status answers the question with yes. The standings are walked along with them.

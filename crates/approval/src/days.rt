@@ -1,5 +1,9 @@
 //! The standing of a day that is in review or approved.
 
+ghost use Rattle.std.specs.Prelude.{◌≡◌, ◌&&◌};
+ghost use Rattle.approval.specs.Statuses.{is_approved};
+ghost use Rattle.fixed_units.specs.Quantities.{is_day};
+
 use crate::status::Status;
 use fixed_units::Day;
 use rising::Keyed;
@@ -13,6 +17,17 @@ pub struct DayStanding {
     pub status: Status,
     /// The number of the accepted edit that gave it this status.
     pub edit: u64,
+}
+
+impl DayStanding {
+    /// Whether the record of the day, which is one of the calendar, is approved.
+    pub(crate) fn is_approved(&self) -> bool
+        ensures { result ≡ (is_day self.now.day && is_approved self.now.status) }
+    {
+        // Read for its range, which the contract tells.
+        let _number = self.day.get();
+        self.status.is_approved()
+    }
 }
 
 impl Keyed for DayStanding {

@@ -2,13 +2,13 @@
 
 ghost use Rattle.std.specs.Prelude.{◌≡◌, ℤ, ◌≤ℤ◌};
 ghost use Rattle.approval.specs.Kept.{approval_of, day_place, days_of, kept_of, standing_at, standing_in};
-ghost use Rattle.approval.specs.Statuses.{first_approved, objection_of, worked};
+ghost use Rattle.approval.specs.Statuses.{approved_days, first_approved, objection_of, worked};
 ghost use Rattle.edits.specs.declared.content.What.TheVariants.{Decide};
 ghost use Rattle.edits.specs.declared.decisions.Decision.TheVariants.{Approve};
 ghost use Rattle.fixed_units.specs.Quantities.{SiteNumber};
 ghost use Rattle.rising.specs.Lists.{IsRising};
 
-use crate::day_lists::{first_in_span, first_of_days, standing_on};
+use crate::day_lists::{count_approved, first_in_span, first_of_days, standing_on};
 use crate::days::DayStanding;
 use crate::objections::Objection;
 use crate::questions::Question;
@@ -92,6 +92,13 @@ impl Statuses {
         ensures { result ≡ first_approved (λ day. (standing_in self.now site day).status) days.now }
     {
         first_of_days(self.days(site), days, Question::IsApproved)
+    }
+
+    /// How many days of a site are approved. Only those that are in review or approved are looked at. It takes no memory.
+    pub fn approved_days(&self, site: Site) -> u64
+        ensures { result ≡ approved_days (λ day. (standing_in self.now site day).status) }
+    {
+        count_approved(self.days(site))
     }
 }
 

@@ -1,6 +1,7 @@
 //! The office of one thread: what it keeps in memory, and the journal on a disk.
 
 ghost use Rattle.std.specs.Prelude.{◌≡◌, ℕ, List, length, option_map, IsSome, IfOk, IfSome};
+ghost use Rattle.approval.specs.Statuses.{approved_days};
 ghost use Rattle.history.specs.Accepted.{accepted, record_numbered, stations_at};
 ghost use Rattle.history.specs.Awaited.{answer_at, pending_days};
 ghost use Rattle.history.specs.Sheets.{shown_at};
@@ -119,6 +120,13 @@ impl<D: Disk> Office<D> {
         ensures { result ≡ status_at self.now.register.history.events site day }
     {
         self.register.status(site, day)
+    }
+
+    /// How many days of a site are approved, also where it is not kept. It takes no memory.
+    pub fn approved_days(&self, site: Site) -> u64
+        ensures { result ≡ approved_days (status_at self.now.register.history.events site) }
+    {
+        self.register.approved_days(site)
     }
 
     /// The primary computation sheet of a day: that which is kept of it where it is approved, also while it awaits an edit, and else that

@@ -1,9 +1,10 @@
 -- What is asked of the statuses hangs on those of the days of the calendar alone.
-use Rattle.std.specs.Prelude.{◌≡◌, ℕ, Bool, not, ◌&&◌, cond, List, [], ◌∷◌, find, All, Option, Some, option_map, ℤ}
-use Rattle.std.proofs.Common.{refl, ap, ◌∙◌}
-use Rattle.std.proofs.lemmas.List.Elements.{All-head, All-tail, All-filter}
+use Rattle.std.specs.Prelude.{◌≡◌, ℕ, Bool, not, ◌&&◌, cond, List, [], ◌∷◌, length, find, All, Option, Some, option_map, ℤ}
+use Rattle.std.proofs.Common.{refl, ap, sym, ◌∙◌}
+use Rattle.std.proofs.lemmas.List.Elements.{All-head, All-tail, All-filter, All-weaker}
+use Rattle.std.proofs.lemmas.List.Sums.{length-filter}
 use Rattle.approval.specs.Kept.{KeptSite, standing_in}
-use Rattle.approval.specs.Statuses.{Standing, first_approved, first_day_of, is_approved, is_in_review, is_reviewed_by, objection_of, or_else, spans}
+use Rattle.approval.specs.Statuses.{Standing, approved_days, first_approved, first_day_of, is_approved, is_in_review, is_reviewed_by, objection_of, or_else, spans}
 use Rattle.approval.specs.declared.objections.Objection.TheVariants.{NotInReview, SamePerson, NotApproved, AlreadyApproved}
 use Rattle.approval.specs.declared.status.Status.{Status}
 use Rattle.edits.specs.declared.content.Edit.{Edit}
@@ -12,10 +13,11 @@ use Rattle.edits.specs.declared.content.What.TheVariants.{AddStation, SetStation
 use Rattle.edits.specs.declared.decisions.Decision.{Decision}
 use Rattle.edits.specs.declared.decisions.Decision.TheVariants.{Approve, Rescind}
 use Rattle.fixed_units.specs.Calendar.{calendar}
-use Rattle.fixed_units.specs.Quantities.{IsDay}
+use Rattle.fixed_units.specs.Quantities.{IsDay, SiteNumber}
 use Rattle.history.specs.Accepted.{stations_at}
 use Rattle.history.specs.Events.{Event}
 use Rattle.history.specs.Statuses.{locked_at, objection_at, status_at}
+use Rattle.history.proofs.CountLemmas.{filter_same}
 use Rattle.history.proofs.PendingLemmas.{calendar_days}
 use Rattle.office_inputs.specs.Changes.{changed_days, keeps_day}
 use Rattle.register.specs.Keeping.{TellsStatuses}
@@ -63,6 +65,19 @@ module _ (a b : ℤ → Status) (same : (d : ℤ) → IsDay d → a d ≡ b d) w
 
   approved_same : (days : List ℤ) → All IsDay days → first_approved a days ≡ first_approved b days
   approved_same days h = find_same (λ d. is_approved (a d)) (λ d. is_approved (b d)) (λ d is. ap is_approved (same d is)) days h
+
+  counted_same : approved_days a ≡ approved_days b
+  counted_same =
+      let p : ℤ → Bool = λ d. is_approved (a d) in
+      let q : ℤ → Bool = λ d. is_approved (b d) in
+      sym (length-filter p calendar)
+      ∙ ap length (filter_same p q calendar (All-weaker IsDay (λ d. p d ≡ q d) (λ d is. ap is_approved (same d is)) calendar calendar_days))
+      ∙ length-filter q calendar
+
+pub approved_days_told : (events : List Event) (kept : List KeptSite) → TellsStatuses events kept → (site : SiteNumber)
+    → approved_days (λ day. (standing_in kept site day).status) ≡ approved_days (status_at events site)
+approved_days_told events kept told site =
+    counted_same (λ d. (standing_in kept site d).status) (status_at events site) (λ d is. ap (λ (s : Standing). s.status) (told site d is))
 
 module _ (events : List Event) (kept : List KeptSite) (told : TellsStatuses events kept) (edit : Edit) where
   told_status : (d : ℤ) → IsDay d → (standing_in kept edit.site d).status ≡ status_at events edit.site d

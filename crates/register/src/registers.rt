@@ -1,6 +1,7 @@
 //! What an office keeps in memory: what happened, in order, and beside it all that is read off that.
 
 ghost use Rattle.std.specs.Prelude.{◌≡◌, [], length, map, option_map};
+ghost use Rattle.approval.specs.Statuses.{approved_days};
 ghost use Rattle.history.specs.Accepted.{accepted, edits_of, stations_at, named, record_numbered};
 ghost use Rattle.history.specs.After.{reopen};
 ghost use Rattle.history.specs.Awaited.{answer_at, pending_days};
@@ -169,5 +170,12 @@ impl Register {
         ensures { result ≡ status_at self.now.history.events site day }
     {
         self.statuses.status(site, day)
+    }
+
+    /// How many days of a site are approved, also where it is not kept. It takes no memory.
+    pub fn approved_days(&self, site: Site) -> u64
+        ensures { result ≡ approved_days (status_at self.now.history.events site) }
+    {
+        self.statuses.approved_days(site)
     }
 }

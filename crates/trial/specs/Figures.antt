@@ -1,12 +1,11 @@
 -- What a trial comes to: six figures, each a line of text.
 use Rattle.std.specs.Prelude.{◌≡◌, ℕ, ◌+◌, ◌*◌, ◌%◌, ◌==◌, Bool, if◌then◌else◌, List, [], ◌∷◌, ◌++◌, length, codes, decimal, is_some, ℤ, pos, unsigned_abs}
 use Rattle.std.specs.List.{sum_by}
-use Rattle.approval.specs.Statuses.{is_approved}
+use Rattle.approval.specs.Statuses.{approved_days}
 use Rattle.daily_values.specs.Figures.{DayFigures}
 use Rattle.daily_values.specs.declared.day_values.DayValue.{DayValue}
 use Rattle.daily_values.specs.declared.day_values.DayValue.TheVariants as values
 use Rattle.depend.specs.Compared.{days_within}
-use Rattle.fixed_units.specs.Calendar.{calendar}
 use Rattle.fixed_units.specs.Quantities.{SiteNumber}
 use Rattle.fixed_units.specs.Rounding.{round}
 use Rattle.history.specs.Accepted.{accepted, stations_at}
@@ -41,14 +40,11 @@ publications (Published site day ∷ events) = 1 + publications events
 publications (Faulted doubt ∷ events) = publications events
 
 -- how many days of the calendar are approved, of a site and of all stations
-abbrev pub approved_on : List Event → SiteNumber → ℤ → ℕ
-approved_on events site day = one_if (is_approved (status_at events site day))
-
-abbrev pub approved_days : List Event → SiteNumber → ℕ
-approved_days events site = sum_by (approved_on events site) calendar
+abbrev pub approved_of : List Event → SiteNumber → ℕ
+approved_of events site = approved_days (status_at events site)
 
 unfoldable pub approved : Trial → ℕ
-approved t = over_stations (approved_days t.history.events)
+approved t = over_stations (approved_of t.history.events)
 
 -- the mean discharge of a day in whole millionths, half away from zero, where its discharges cover it, none of which is below 0; else 0
 unfoldable pub mean_of : DayFigures → ℕ

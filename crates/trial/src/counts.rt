@@ -3,16 +3,13 @@
 ghost use Rattle.std.specs.Prelude.{◌≡◌, ◌≤◌, ◌<◌, ◌*◌, ◌≤ℤ◌, pos, ◌+ℤ◌, []};
 ghost use Rattle.fixed_units.specs.Quantities.{IsDay, first_day, most_discharge};
 ghost use Rattle.history.specs.Awaited.{pending_days};
-ghost use Rattle.trial.specs.Figures.{approved_days, approved_on, kept_one, mean_on, means_of, over_stations};
+ghost use Rattle.trial.specs.Figures.{approved_of, kept_one, mean_on, means_of, over_stations};
 
 use crate::means::mean_of_value;
 use devices::Disk;
-use fixed_units::{Day, FIRST_DAY, Site};
+use fixed_units::{Day, Site};
 use office::{Answer, Office};
 use trial_orders::{STATIONS, site_of};
-
-/// How many days the calendar has.
-const CALENDAR_DAYS: u32 = 73_049;
 
 /// The first day whose mean is summed: 2023-01-05.
 const FIRST_SUMMED: i32 = 19_362;
@@ -41,33 +38,13 @@ fn kept_one<D: Disk>(office: &Office<D>, site: Site) -> u64
 
 /// How many days of the stations of a trial are approved.
 pub(crate) fn approved<D: Disk>(office: &Office<D>) -> u64
-    ensures { result ≡ over_stations (approved_days office.now.register.history.events) }
+    ensures { result ≡ over_stations (approved_of office.now.register.history.events) }
 {
     let mut count = 0;
     for station in 1..STATIONS + 1 {
-        count += approved_days(office, site_of(station));
+        count += office.approved_days(site_of(station));
     }
     count
-}
-
-/// How many days of a site are approved.
-fn approved_days<D: Disk>(office: &Office<D>, site: Site) -> u64
-    ensures approved { result ≡ approved_days office.now.register.history.events site }
-    ensures few { result ≤ 73_049 }
-{
-    let mut count = 0;
-    for place in 0..CALENDAR_DAYS {
-        count += approved_on(office, site, day_behind(FIRST_DAY, place));
-    }
-    count
-}
-
-/// 1 where a day of a site is approved, and else 0.
-fn approved_on<D: Disk>(office: &Office<D>, site: Site, day: Day) -> u64
-    ensures approved { result ≡ approved_on office.now.register.history.events site day }
-    ensures few { result ≤ 1 }
-{
-    u64::from(office.status(site, day).is_approved())
 }
 
 /// The sum of the mean discharges of the stations of a trial, in millionths of a cubic foot per second.

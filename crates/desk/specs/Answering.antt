@@ -22,10 +22,10 @@ told_bytes told.Made reply = reply
 told_bytes (told.JournalFault in_doubt) reply = fault_reply in_doubt
 told_bytes told.NoMemory reply = memory_reply
 
--- the text is the reply to an edit that is accepted under this number, where one is given
-abbrev pub IsAcceptance : Option ℕ → List ℕ → Type 0
-IsAcceptance None text = Unit {0}
-IsAcceptance (Some number) text = text ≡ bytes_of (replies.Edit number false)
+-- the reply to an edit that is accepted under this number, or, where none is given, the text
+abbrev pub acceptance_or : Option ℕ → List ℕ → List ℕ
+acceptance_or None text = text
+acceptance_or (Some number) text = bytes_of (replies.Edit number false)
 
 -- a reply was made, or there was no memory for it
 abbrev pub IsMade : Reply → List ℕ → Type 0

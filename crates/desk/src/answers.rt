@@ -1,7 +1,7 @@
 //! What is asked is answered by the office, in texts.
 
 ghost use Rattle.std.specs.Prelude.{◌≡◌, ◌≤◌, ◌<◌, ◌-◌, ◌^◌, ℕ, Bool, Some, length, OnOk, OnErr, IfOk, true, false};
-ghost use Rattle.desk.specs.Answering.{IsAcceptance, IsMade, IsRefusedBy, told_bytes};
+ghost use Rattle.desk.specs.Answering.{IsMade, IsRefusedBy, acceptance_or, told_bytes};
 ghost use Rattle.desk.specs.Passing.{Passes};
 ghost use Rattle.desk.specs.Replies.{IsAnswered, IsLeftBy, fault_reply, history_after, memory_reply, reply_to};
 ghost use Rattle.http_api.specs.Replies.{bytes_of};
@@ -46,7 +46,7 @@ pub(crate) struct Texts {
     acceptance: Text,
     settled: Text,
     doubtful: Text,
-    ghost acceptance_is: { IsAcceptance accepts acceptance },
+    ghost acceptance_is: { acceptance ≡ acceptance_or accepts acceptance },
     ghost settled_is: { settled ≡ fault_reply false },
     ghost doubtful_is: { doubtful ≡ fault_reply true },
 }

@@ -58,6 +58,7 @@ pub fn unit(
 }
 
 /// The correction of a raw stage in millionths of a foot.
+#[inline(always)]
 fn correction_of(first: &[Entry], second: &[Entry], third: &[Entry], at: Second, raw: Micro) -> i64
     requires first { IsSeries first.now }
     requires second { IsSeries second.now }

@@ -79,6 +79,20 @@ impl<'a> Halves<'a> {
         }
     }
 
+    /// How many readings stand before an instant, where these may be few: one binary search of the front that they stand in.
+    fn count_few_before(&self, at: Second) -> usize
+        requires { IsRising (joined self.now) }
+        ensures within { result ≤ length (joined self.now) }
+        ensures front { take result (joined self.now) ≡ before_instant at (joined self.now) }
+        ensures back { drop result (joined self.now) ≡ from_instant at (joined self.now) }
+    {
+        if self.is_on_right(at) {
+            self.left.len() + count_few_before(self.right, at)
+        } else {
+            count_few_before(self.left, at)
+        }
+    }
+
     /// How many readings stand before an instant or at it: one binary search.
     pub(crate) fn count_to(&self, at: Second) -> usize
         requires { IsRising (joined self.now) }
@@ -120,7 +134,16 @@ impl<'a> Halves<'a> {
         self.split_at(self.count_before(at))
     }
 
-    /// The readings about a day: the end is searched behind the start alone.
+    /// The same, where few readings may stand before the instant.
+    fn split_few_at_key(&self, at: Second) -> (Halves<'a>, Halves<'a>)
+        requires { IsRising (joined self.now) }
+        ensures before { joined result.0 ≡ before_instant at (joined self.now) }
+        ensures from { joined result.1 ≡ from_instant at (joined self.now) }
+    {
+        self.split_at(self.count_few_before(at))
+    }
+
+    /// The readings about a day: the end is searched behind the start alone, and near it first.
     pub(crate) fn parts(&self, a: Second, b: Second) -> Parts<'a>
         requires { IsRising (joined self.now) }
         ensures before { joined result.before ≡ before_instant a (joined self.now) }
@@ -129,7 +152,7 @@ impl<'a> Halves<'a> {
         ensures rising { IsRising (joined result.before) × (IsRising (joined result.day) × IsRising (joined result.behind)) }
     {
         let (before, rest) = self.split_at_key(a);
-        let (day, behind) = rest.split_at_key(b);
+        let (day, behind) = rest.split_few_at_key(b);
         Parts {
             before,
             day,
@@ -242,6 +265,21 @@ impl<'a> Halves<'a> {
         };
         Some(reading)
     }
+}
+
+/// How many readings of a slice stand before an instant: a front of eight, doubled until the instant belongs in it, is searched.
+fn count_few_before(list: &[Reading], at: Second) -> usize
+    requires { IsRising list.now }
+    ensures within { result ≤ length list.now }
+    ensures front { take result list.now ≡ before_instant at list.now }
+    ensures back { drop result list.now ≡ from_instant at list.now }
+{
+    let mut end = 8;
+    while end < list.len() && list[end].at.get() <= at.get() {
+        end *= 2;
+    }
+    let (left, right) = list.split_at(end.min(list.len()));
+    Halves { left, right }.count_before(at)
 }
 
 /// The reading of a slice at an instant, if there is one.

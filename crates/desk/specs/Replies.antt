@@ -2,7 +2,6 @@
 use Rattle.std.specs.Prelude.{◌≡◌, ◌⊎◌, ℕ, ◌+◌, ◌-◌, ◌≤◌, Bool, true, false, List, [], ◌∷◌, ◌++◌, length, take, Option, Some, None, is_some, Result, Ok, Err, ℤ}
 use Rattle.std.specs.List.{flat_map}
 use Rattle.approval.specs.declared.status.Status.{Status}
-use Rattle.daily_values.specs.declared.day_values.DayValue.{DayValue}
 use Rattle.depend.specs.Compared.{days_within}
 use Rattle.edits.specs.declared.content.Edit.{Edit}
 use Rattle.fixed_units.specs.Quantities.{SiteNumber}

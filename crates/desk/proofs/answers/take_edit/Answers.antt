@@ -1,4 +1,4 @@
-use Rattle.std.proofs.Common.{◌≡◌, Err, ap, false, rules}
+use Rattle.std.proofs.Common.{◌≡◌, Err, Some, ap, false, rules}
 use Rattle.desk.specs.Answering.{told_bytes}
 use Rattle.desk.specs.declared.answers.Told.{Told}
 use Rattle.desk.proofs.AnswerLemmas.{made_told, refused_by, takes_none, unwritten}
@@ -37,8 +37,9 @@ returns-in-Err-clause-passed g c =
 
 pub returns-in-Ok-2-clause-unwritten : goal.returns-in-Ok-2-clause-unwritten
 returns-in-Ok-2-clause-unwritten g c =
-    let made : c.make.new.self.reply ≡ bytes_of (replies.Edit c.saturating_add.result false) = search rules in
-    made_told c.made_for.result c.make.new.self.reply c.saturating_add.result false c.args.office.now.disk c.take.new.self.disk c.made_for.ensures.made made
+    let ready : c.prepare.new.self.accepts ≡ Some c.saturating_add.result = search rules in
+    let made : c.accept.new.self.reply ≡ bytes_of (replies.Edit c.saturating_add.result false) = c.accept.ensures c.saturating_add.result ready in
+    made_told c.made_for.result c.accept.new.self.reply c.saturating_add.result false c.args.office.now.disk c.take.new.self.disk c.made_for.ensures.made made
 
 pub returns-in-Ok-2-clause-claims : goal.returns-in-Ok-2-clause-claims
 returns-in-Ok-2-clause-claims g c =

@@ -78,6 +78,22 @@ count_blank : (n : ℕ) → count_by is_edit (replicate n 0) ≡ 0
 count_blank zero = refl
 count_blank (suc n) = count_blank n
 
+-- how long a wider column is
+pub widened_length : {X : Type 0} (xs : List X) (z : X) (front back : ℕ) → length ((replicate front z ++ xs) ++ replicate back z) ≡ front + length xs + back
+widened_length xs z front back =
+    omega (arith, length-append (replicate front z ++ xs) (replicate back z), length-append (replicate front z) xs, length-replicate front z, length-replicate back z)
+
+-- the cells that a wider column has more await no edit
+pub widened_count : (awaits : List ℕ) (front back : ℕ) → count_by is_edit ((replicate front 0 ++ awaits) ++ replicate back 0) ≡ count_by is_edit awaits
+widened_count awaits front back =
+    omega (
+      arith,
+      sum_by-append (λ n. cond (is_edit n) 1 0) (replicate front 0 ++ awaits) (replicate back 0),
+      sum_by-append (λ n. cond (is_edit n) 1 0) (replicate front 0) awaits,
+      count_blank front,
+      count_blank back,
+    )
+
 -- the pending days hang on what is said of the days alone
 maps_same : {X Y : Type 0} (f g : X → Y) (xs : List X) → ((x : X) → f x ≡ g x) → map f xs ≡ map g xs
 maps_same f g [] h = refl
@@ -115,20 +131,6 @@ module _ (cells : KeptDays) (start : ℤ) (front back : ℕ) where
     span = refl;
   }
 
-  wider_length : {X : Type 0} (xs : List X) (z : X) → length ((replicate front z ++ xs) ++ replicate back z) ≡ front + length xs + back
-  wider_length xs z =
-      omega (arith, length-append (replicate front z ++ xs) (replicate back z), length-append (replicate front z) xs, length-replicate front z, length-replicate back z)
-
-  wider_count : count_by is_edit ((replicate front 0 ++ cells.awaits) ++ replicate back 0) ≡ count_by is_edit cells.awaits
-  wider_count =
-      omega (
-        arith,
-        sum_by-append (λ n. cond (is_edit n) 1 0) (replicate front 0 ++ cells.awaits) (replicate back 0),
-        sum_by-append (λ n. cond (is_edit n) 1 0) (replicate front 0) cells.awaits,
-        count_blank front,
-        count_blank back,
-      )
-
   wider_before : (first : ℕ) → NonePendingWithin cells.awaits 0 first → NonePendingWithin wider.awaits 0 (first + front)
   wider_before first h k low high =
       elim (cases_lt k front) [
@@ -151,9 +153,9 @@ module _ (cells : KeptDays) (start : ℤ) (front back : ℕ) where
   wider_keeps pending first unclaimed h e low high =
       let n = h.columns.claims in
       let m = h.columns.values in
-      let a = wider_length cells.awaits 0 in
-      let b = wider_length cells.claims false in
-      let d = wider_length cells.values Empty in
+      let a = widened_length cells.awaits 0 front back in
+      let b = widened_length cells.claims false front back in
+      let d = widened_length cells.values Empty front back in
       let w = h.within in
       let u = h.unclaimed_within in
       record {
@@ -164,7 +166,7 @@ module _ (cells : KeptDays) (start : ℤ) (front back : ℕ) where
           high = rw a (omega (arith, ints));
           span = h.columns.span;
         };
-        counted = h.counted ∙ sym wider_count;
+        counted = h.counted ∙ sym (widened_count cells.awaits front back);
         within = omega (arith, a, w);
         before = wider_before first h.before;
         unclaimed_within = omega (arith, a, u);
@@ -173,7 +175,7 @@ module _ (cells : KeptDays) (start : ℤ) (front back : ℕ) where
 
   pub wider_has : (day : ℤ) → cells.start ≡ start +ℤ pos front → start ≤ℤ day → day <ℤ (cells.start +ℤ pos (length cells.awaits + back)) → HasCell wider day
   wider_has day e low high =
-      let a = wider_length cells.awaits 0 in
+      let a = widened_length cells.awaits 0 front back in
       record { low = low; high = rw a (omega (arith, ints)) }
 
   pub wider_kept : (day : ℤ) → cells.start ≡ start +ℤ pos front → HasCell cells day → HasCell wider day

@@ -16,6 +16,7 @@ use crate::columns::{
 };
 use crate::sites::rank;
 use crate::spans::{Span, with_day};
+use crate::values::Values;
 use crate::waiting::Waiting;
 use daily_values::DayValue;
 use fixed_units::{Day, NoMemory, Site};
@@ -34,7 +35,7 @@ pub struct DayCells {
     /// Whether the claim of a day is out.
     claims: Vec<bool>,
     /// The values that were published last.
-    values: Vec<DayValue>,
+    values: Values,
     span: Option<Span>,
     /// How many days are pending.
     pending: usize,
@@ -49,9 +50,9 @@ impl Model for DayCells {
 
     ghost Value = { KeptDays };
 
-    ghost view = { λ c. record { site = c.site; start = c.start; awaits = c.awaits.items; claims = c.claims.items; values = c.values.items; span = c.span } };
+    ghost view = { λ c. record { site = c.site; start = c.start; awaits = c.awaits.items; claims = c.claims.items; values = c.values; span = c.span } };
 
-    ghost invariant = { λ c. KeepsPlaces (record { site = c.site; start = c.start; awaits = c.awaits.items; claims = c.claims.items; values = c.values.items; span = c.span }) c.pending c.first c.first_unclaimed };
+    ghost invariant = { λ c. KeepsPlaces (record { site = c.site; start = c.start; awaits = c.awaits.items; claims = c.claims.items; values = c.values; span = c.span }) c.pending c.first c.first_unclaimed };
 }
 
 impl DayCells {
@@ -64,7 +65,7 @@ impl DayCells {
             start: day,
             awaits: Vec::new(alloc),
             claims: Vec::new(alloc),
-            values: Vec::new(alloc),
+            values: Values::new(alloc),
             span: None,
             pending: 0,
             first: 0,
@@ -110,7 +111,7 @@ impl DayCells {
         ensures { result.now ≡ value_on self.now day }
     {
         match place_of(self.start, &self.awaits, day) {
-            Some(place) => &self.values[place],
+            Some(place) => self.values.get(place, empty),
             None => empty,
         }
     }
@@ -156,11 +157,10 @@ impl DayCells {
         }
         let awaits = widened(alloc, &self.awaits, 0, front, back)?;
         let claims = widened(alloc, &self.claims, false, front, back)?;
-        let values = widened(alloc, &self.values, DayValue::Empty, front, back)?;
+        self.values.widen(alloc, front, back)?;
         self.start = start;
         self.awaits = awaits;
         self.claims = claims;
-        self.values = values;
         self.first += front;
         self.first_unclaimed += front;
         Ok(())
@@ -205,7 +205,7 @@ impl DayCells {
         if let Some(place) = place_of(self.start, &self.awaits, day) {
             self.awaits[place] = 0;
             self.claims[place] = false;
-            self.values[place] = value;
+            self.values.set(place, value);
             self.pending -= 1;
             self.first = first_pending(&self.awaits, self.first);
             self.first_unclaimed = first_unclaimed(

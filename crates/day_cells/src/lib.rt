@@ -6,6 +6,7 @@ pub mod columns;
 pub mod kept_days;
 pub mod sites;
 pub mod spans;
+pub mod values;
 pub mod waiting;
 
 pub use kept_days::DayCells;

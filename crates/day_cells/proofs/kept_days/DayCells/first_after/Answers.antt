@@ -14,7 +14,7 @@ not_after day other h = grind (arith, ints)
 
 pub returns : goal.returns
 returns c =
-    let cells : KeptDays = record { site = c.self.inside.site; start = c.self.inside.start; awaits = c.self.inside.awaits.items; claims = c.self.inside.claims.items; values = c.self.inside.values.items; span = c.self.inside.span } in
+    let cells : KeptDays = record { site = c.self.inside.site; start = c.self.inside.start; awaits = c.self.inside.awaits.items; claims = c.self.inside.claims.items; values = c.self.inside.values; span = c.self.inside.span } in
     let h : AreColumns cells = c.self.invariant.columns in
     let place = c.first_pending-place.result in
     let value = c.deref-2.ensures.value in

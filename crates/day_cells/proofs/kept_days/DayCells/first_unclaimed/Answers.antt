@@ -11,7 +11,7 @@ no_longer false out e h = absurd (false≢true e)
 
 pub returns : goal.returns
 returns c =
-    let cells : KeptDays = record { site = c.self.inside.site; start = c.self.inside.start; awaits = c.self.inside.awaits.items; claims = c.self.inside.claims.items; values = c.self.inside.values.items; span = c.self.inside.span } in
+    let cells : KeptDays = record { site = c.self.inside.site; start = c.self.inside.start; awaits = c.self.inside.awaits.items; claims = c.self.inside.claims.items; values = c.self.inside.values; span = c.self.inside.span } in
     let h : AreColumns cells = c.self.invariant.columns in
     let place = c.first_unclaimed-place.result in
     let values = rw (c.deref.ensures.value, c.deref-2.ensures.value) at c.first_unclaimed-place.ensures in

@@ -25,13 +25,13 @@ count_after awaits place edit old new waits l e was from to =
 
 pub returns-in-Some-clause-marks : goal.returns-in-Some-clause-marks
 returns-in-Some-clause-marks c =
-    let cells : KeptDays = record { site = c.self.inside.site; start = c.self.inside.start; awaits = c.self.inside.awaits.items; claims = c.self.inside.claims.items; values = c.self.inside.values.items; span = c.self.inside.span } in
+    let cells : KeptDays = record { site = c.self.inside.site; start = c.self.inside.start; awaits = c.self.inside.awaits.items; claims = c.self.inside.claims.items; values = c.self.inside.values; span = c.self.inside.span } in
     let at = rw c.deref.ensures.value at c.in-Some.ensures.found in
     rw (← c.self.view_is) (marked cells c.args.day c.in-Some.place c.args.edit c.with_day-self-inside.result c.self.invariant.columns at.0 at.1)
 
 pub returns-in-Some-clause-count : goal.returns-in-Some-clause-count
 returns-in-Some-clause-count c =
-    let cells : KeptDays = record { site = c.self.inside.site; start = c.self.inside.start; awaits = c.self.inside.awaits.items; claims = c.self.inside.claims.items; values = c.self.inside.values.items; span = c.self.inside.span } in
+    let cells : KeptDays = record { site = c.self.inside.site; start = c.self.inside.start; awaits = c.self.inside.awaits.items; claims = c.self.inside.claims.items; values = c.self.inside.values; span = c.self.inside.span } in
     let at = rw c.deref.ensures.value at c.in-Some.ensures.found in
     let place = c.in-Some.place in
     let edit = c.args.edit in
@@ -45,7 +45,7 @@ returns-in-Some-clause-count c =
 
 pub returns-in_default-clause-marks : goal.returns-in_default-clause-marks
 returns-in_default-clause-marks c =
-    let cells : KeptDays = record { site = c.self.inside.site; start = c.self.inside.start; awaits = c.self.inside.awaits.items; claims = c.self.inside.claims.items; values = c.self.inside.values.items; span = c.self.inside.span } in
+    let cells : KeptDays = record { site = c.self.inside.site; start = c.self.inside.start; awaits = c.self.inside.awaits.items; claims = c.self.inside.claims.items; values = c.self.inside.values; span = c.self.inside.span } in
     let out = rw c.deref.ensures.value at c.in_default.ensures.absent in
     let has : HasCell c.args.self.now c.args.day = c.requires.room in
     let has : HasCell cells c.args.day = rw (← c.self.view_is) at has in

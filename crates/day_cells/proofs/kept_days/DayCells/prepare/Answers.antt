@@ -4,12 +4,12 @@ use Rattle.day_cells.specs.KeptDays.{KeptDays, HasCell}
 use Rattle.day_cells.proofs.MarkLemmas.{wider, wider_same, wider_keeps, wider_has, wider_kept, waiting_same}
 use Rattle.day_cells.proofs.kept_days.DayCells.prepare.Goals as goal
 
-pub invariant_of-self : goal.invariant_of-self
-invariant_of-self c =
-    let cells : KeptDays = record { site = c.self.inside.site; start = c.self.inside.start; awaits = c.self.inside.awaits.items; claims = c.self.inside.claims.items; values = c.self.inside.values.items; span = c.self.inside.span } in
+pub invariant_of-self-2 : goal.invariant_of-self-2
+invariant_of-self-2 c =
+    let cells : KeptDays = record { site = c.self.inside.site; start = c.self.inside.start; awaits = c.self.inside.awaits.items; claims = c.self.inside.claims.items; values = c.self.inside.values; span = c.self.inside.span } in
     let a = rw c.deref-3.ensures.value at c.in_ok-awaits.ensures in
     let b = rw c.deref-4.ensures.value at c.in_ok-claims.ensures in
-    let d = rw c.deref-5.ensures.value at c.in_ok-values.ensures in
+    let d = c.in_ok-widen.ensures.ok in
     let start = c.wide_start-start.result in
     let front = c.distance-front.result in
     let back = c.room_behind-back.result in
@@ -20,10 +20,10 @@ invariant_of-self c =
 
 pub returns-clause-same : goal.returns-clause-same
 returns-clause-same c =
-    let cells : KeptDays = record { site = c.self.inside.site; start = c.self.inside.start; awaits = c.self.inside.awaits.items; claims = c.self.inside.claims.items; values = c.self.inside.values.items; span = c.self.inside.span } in
+    let cells : KeptDays = record { site = c.self.inside.site; start = c.self.inside.start; awaits = c.self.inside.awaits.items; claims = c.self.inside.claims.items; values = c.self.inside.values; span = c.self.inside.span } in
     let a = rw c.deref-3.ensures.value at c.in_ok-awaits.ensures in
     let b = rw c.deref-4.ensures.value at c.in_ok-claims.ensures in
-    let d = rw c.deref-5.ensures.value at c.in_ok-values.ensures in
+    let d = c.in_ok-widen.ensures.ok in
     let start = c.wide_start-start.result in
     let front = c.distance-front.result in
     let back = c.room_behind-back.result in
@@ -32,10 +32,10 @@ returns-clause-same c =
 
 pub returns-clause-waiting : goal.returns-clause-waiting
 returns-clause-waiting c =
-    let cells : KeptDays = record { site = c.self.inside.site; start = c.self.inside.start; awaits = c.self.inside.awaits.items; claims = c.self.inside.claims.items; values = c.self.inside.values.items; span = c.self.inside.span } in
+    let cells : KeptDays = record { site = c.self.inside.site; start = c.self.inside.start; awaits = c.self.inside.awaits.items; claims = c.self.inside.claims.items; values = c.self.inside.values; span = c.self.inside.span } in
     let a = rw c.deref-3.ensures.value at c.in_ok-awaits.ensures in
     let b = rw c.deref-4.ensures.value at c.in_ok-claims.ensures in
-    let d = rw c.deref-5.ensures.value at c.in_ok-values.ensures in
+    let d = c.in_ok-widen.ensures.ok in
     let start = c.wide_start-start.result in
     let front = c.distance-front.result in
     let back = c.room_behind-back.result in
@@ -44,10 +44,10 @@ returns-clause-waiting c =
 
 pub returns-clause-room : goal.returns-clause-room
 returns-clause-room c k z l =
-    let cells : KeptDays = record { site = c.self.inside.site; start = c.self.inside.start; awaits = c.self.inside.awaits.items; claims = c.self.inside.claims.items; values = c.self.inside.values.items; span = c.self.inside.span } in
+    let cells : KeptDays = record { site = c.self.inside.site; start = c.self.inside.start; awaits = c.self.inside.awaits.items; claims = c.self.inside.claims.items; values = c.self.inside.values; span = c.self.inside.span } in
     let a = rw c.deref-3.ensures.value at c.in_ok-awaits.ensures in
     let b = rw c.deref-4.ensures.value at c.in_ok-claims.ensures in
-    let d = rw c.deref-5.ensures.value at c.in_ok-values.ensures in
+    let d = c.in_ok-widen.ensures.ok in
     let start = c.wide_start-start.result in
     let front = c.distance-front.result in
     let back = c.room_behind-back.result in
@@ -57,10 +57,10 @@ returns-clause-room c k z l =
 
 pub returns-clause-kept : goal.returns-clause-kept
 returns-clause-kept c day h =
-    let cells : KeptDays = record { site = c.self.inside.site; start = c.self.inside.start; awaits = c.self.inside.awaits.items; claims = c.self.inside.claims.items; values = c.self.inside.values.items; span = c.self.inside.span } in
+    let cells : KeptDays = record { site = c.self.inside.site; start = c.self.inside.start; awaits = c.self.inside.awaits.items; claims = c.self.inside.claims.items; values = c.self.inside.values; span = c.self.inside.span } in
     let a = rw c.deref-3.ensures.value at c.in_ok-awaits.ensures in
     let b = rw c.deref-4.ensures.value at c.in_ok-claims.ensures in
-    let d = rw c.deref-5.ensures.value at c.in_ok-values.ensures in
+    let d = c.in_ok-widen.ensures.ok in
     let start = c.wide_start-start.result in
     let front = c.distance-front.result in
     let back = c.room_behind-back.result in

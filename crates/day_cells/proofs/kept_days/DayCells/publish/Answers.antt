@@ -13,7 +13,7 @@ no_place cells day has (inr h) = let high = has.high in omega (arith, ints)
 
 pub overflow_sub-self : goal.overflow_sub-self
 overflow_sub-self c =
-    let cells : KeptDays = record { site = c.self.inside.site; start = c.self.inside.start; awaits = c.self.inside.awaits.items; claims = c.self.inside.claims.items; values = c.self.inside.values.items; span = c.self.inside.span } in
+    let cells : KeptDays = record { site = c.self.inside.site; start = c.self.inside.start; awaits = c.self.inside.awaits.items; claims = c.self.inside.claims.items; values = c.self.inside.values; span = c.self.inside.span } in
     let at = rw c.deref.ensures.value at c.in-Some.ensures.found in
     let place = c.in-Some.place in
     let h : AreColumns cells = c.self.invariant.columns in
@@ -25,7 +25,7 @@ overflow_sub-self c =
 
 pub invariant_of-self : goal.invariant_of-self
 invariant_of-self c =
-    let cells : KeptDays = record { site = c.self.inside.site; start = c.self.inside.start; awaits = c.self.inside.awaits.items; claims = c.self.inside.claims.items; values = c.self.inside.values.items; span = c.self.inside.span } in
+    let cells : KeptDays = record { site = c.self.inside.site; start = c.self.inside.start; awaits = c.self.inside.awaits.items; claims = c.self.inside.claims.items; values = c.self.inside.values; span = c.self.inside.span } in
     let at = rw c.deref.ensures.value at c.in-Some.ensures.found in
     let place = c.in-Some.place in
     let h : AreColumns cells = c.self.invariant.columns in
@@ -41,7 +41,7 @@ invariant_of-self c =
     let n = h.claims in
     let later = rw (c.deref-in-Some-2.ensures.value, c.deref-in-Some-3.ensures.value) at c.first_unclaimed-self-inside.ensures in
     record {
-      columns = columns_written cells place 0 false (set cells.values place c.args.value) cells.span h (length-set cells.values place c.args.value) h.span;
+      columns = columns_written cells place 0 false c.set.new.self cells.span h (ap length c.set.ensures ∙ length-set cells.values place c.args.value) h.span;
       counted = omega (arith, count, counted);
       within = within;
       before = joined awaits c.self.inside.first c.first_pending-self-inside.result (before_cleared cells.awaits place c.self.inside.first at.1 c.self.invariant.before) between;
@@ -51,13 +51,13 @@ invariant_of-self c =
 
 pub returns-in-Some-clause-publishes : goal.returns-in-Some-clause-publishes
 returns-in-Some-clause-publishes c =
-    let cells : KeptDays = record { site = c.self.inside.site; start = c.self.inside.start; awaits = c.self.inside.awaits.items; claims = c.self.inside.claims.items; values = c.self.inside.values.items; span = c.self.inside.span } in
+    let cells : KeptDays = record { site = c.self.inside.site; start = c.self.inside.start; awaits = c.self.inside.awaits.items; claims = c.self.inside.claims.items; values = c.self.inside.values; span = c.self.inside.span } in
     let at = rw c.deref.ensures.value at c.in-Some.ensures.found in
-    rw (← c.self.view_is) (published cells c.args.day c.in-Some.place c.args.value c.self.invariant.columns at.0 at.1)
+    rw (← c.self.view_is, c.set.ensures) (published cells c.args.day c.in-Some.place c.args.value c.self.invariant.columns at.0 at.1)
 
 pub returns-in-Some-clause-count : goal.returns-in-Some-clause-count
 returns-in-Some-clause-count c =
-    let cells : KeptDays = record { site = c.self.inside.site; start = c.self.inside.start; awaits = c.self.inside.awaits.items; claims = c.self.inside.claims.items; values = c.self.inside.values.items; span = c.self.inside.span } in
+    let cells : KeptDays = record { site = c.self.inside.site; start = c.self.inside.start; awaits = c.self.inside.awaits.items; claims = c.self.inside.claims.items; values = c.self.inside.values; span = c.self.inside.span } in
     let at = rw c.deref.ensures.value at c.in-Some.ensures.found in
     let place = c.in-Some.place in
     let h : AreColumns cells = c.self.invariant.columns in
@@ -65,13 +65,13 @@ returns-in-Some-clause-count c =
     let was : is_edit (get_or cells.awaits place 0) ≡ true = ap is_edit (sym (on_day_at cells.start cells.awaits 0 c.args.day place at.0)) ∙ waits in
     let count = rw was at (count_written cells.awaits place 0 at.1) in
     let counted = c.self.invariant.counted in
-    let new : KeptDays = record cells { awaits = set cells.awaits place 0; claims = set cells.claims place false; values = set cells.values place c.args.value } in
-    let columns : AreColumns new = columns_written cells place 0 false (set cells.values place c.args.value) cells.span h (length-set cells.values place c.args.value) h.span in
+    let new : KeptDays = record cells { awaits = set cells.awaits place 0; claims = set cells.claims place false; values = c.set.new.self } in
+    let columns : AreColumns new = columns_written cells place 0 false c.set.new.self cells.span h (ap length c.set.ensures ∙ length-set cells.values place c.args.value) h.span in
     rw (← c.self.view_is) (omega (arith, count, waiting_count cells h, waiting_count new columns))
 
 pub returns-in_default-clause-publishes : goal.returns-in_default-clause-publishes
 returns-in_default-clause-publishes c =
-    let cells : KeptDays = record { site = c.self.inside.site; start = c.self.inside.start; awaits = c.self.inside.awaits.items; claims = c.self.inside.claims.items; values = c.self.inside.values.items; span = c.self.inside.span } in
+    let cells : KeptDays = record { site = c.self.inside.site; start = c.self.inside.start; awaits = c.self.inside.awaits.items; claims = c.self.inside.claims.items; values = c.self.inside.values; span = c.self.inside.span } in
     let out = rw c.deref.ensures.value at c.in_default.ensures.absent in
     let has : HasCell c.args.self.now c.args.day = pending_has_cell c.args.self.now c.args.day c.requires in
     let has : HasCell cells c.args.day = rw (← c.self.view_is) at has in
@@ -79,7 +79,7 @@ returns-in_default-clause-publishes c =
 
 pub returns-in_default-clause-count : goal.returns-in_default-clause-count
 returns-in_default-clause-count c =
-    let cells : KeptDays = record { site = c.self.inside.site; start = c.self.inside.start; awaits = c.self.inside.awaits.items; claims = c.self.inside.claims.items; values = c.self.inside.values.items; span = c.self.inside.span } in
+    let cells : KeptDays = record { site = c.self.inside.site; start = c.self.inside.start; awaits = c.self.inside.awaits.items; claims = c.self.inside.claims.items; values = c.self.inside.values; span = c.self.inside.span } in
     let out = rw c.deref.ensures.value at c.in_default.ensures.absent in
     let has : HasCell c.args.self.now c.args.day = pending_has_cell c.args.self.now c.args.day c.requires in
     let has : HasCell cells c.args.day = rw (← c.self.view_is) at has in

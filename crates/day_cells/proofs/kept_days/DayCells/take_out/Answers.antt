@@ -12,13 +12,13 @@ no_place cells day has (inr h) = let high = has.high in omega (arith, ints)
 
 pub returns-in-Some-clause-takes_out : goal.returns-in-Some-clause-takes_out
 returns-in-Some-clause-takes_out c =
-    let cells : KeptDays = record { site = c.self.inside.site; start = c.self.inside.start; awaits = c.self.inside.awaits.items; claims = c.self.inside.claims.items; values = c.self.inside.values.items; span = c.self.inside.span } in
+    let cells : KeptDays = record { site = c.self.inside.site; start = c.self.inside.start; awaits = c.self.inside.awaits.items; claims = c.self.inside.claims.items; values = c.self.inside.values; span = c.self.inside.span } in
     let at = rw c.deref.ensures.value at c.in-Some.ensures.found in
     rw (← c.self.view_is) (taken_out cells c.args.day c.in-Some.place true c.self.invariant.columns at.0 at.1)
 
 pub returns-in-Some-clause-count : goal.returns-in-Some-clause-count
 returns-in-Some-clause-count c =
-    let cells : KeptDays = record { site = c.self.inside.site; start = c.self.inside.start; awaits = c.self.inside.awaits.items; claims = c.self.inside.claims.items; values = c.self.inside.values.items; span = c.self.inside.span } in
+    let cells : KeptDays = record { site = c.self.inside.site; start = c.self.inside.start; awaits = c.self.inside.awaits.items; claims = c.self.inside.claims.items; values = c.self.inside.values; span = c.self.inside.span } in
     let place = c.in-Some.place in
     let h : AreColumns cells = c.self.invariant.columns in
     let new : KeptDays = record cells { claims = set cells.claims place true } in
@@ -27,7 +27,7 @@ returns-in-Some-clause-count c =
 
 pub returns-in_default-clause-takes_out : goal.returns-in_default-clause-takes_out
 returns-in_default-clause-takes_out c =
-    let cells : KeptDays = record { site = c.self.inside.site; start = c.self.inside.start; awaits = c.self.inside.awaits.items; claims = c.self.inside.claims.items; values = c.self.inside.values.items; span = c.self.inside.span } in
+    let cells : KeptDays = record { site = c.self.inside.site; start = c.self.inside.start; awaits = c.self.inside.awaits.items; claims = c.self.inside.claims.items; values = c.self.inside.values; span = c.self.inside.span } in
     let out = rw c.deref.ensures.value at c.in_default.ensures.absent in
     let has : HasCell c.args.self.now c.args.day = pending_has_cell c.args.self.now c.args.day c.requires in
     let has : HasCell cells c.args.day = rw (← c.self.view_is) at has in

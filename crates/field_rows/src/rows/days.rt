@@ -15,6 +15,18 @@ const LATE: &str = "AAA0BBB,M3.2.0/23:30,M11.1.0/12";
 // changes of exactly four hours at noon
 const WIDE: &str = "AAA0BBB-4,M3.2.0/12,M11.1.0/12";
 
+// a midnight that is skipped in spring and comes twice in autumn
+const MIDNIGHT: &str = "AAA0BBB,M3.2.0/0,M11.1.0/1";
+
+// Irish time, whose daylight saving time is the winter's, an hour behind standard time
+const IRISH: &str = "IST-1GMT0,M10.5.0,M3.5.0/1";
+
+// New Zealand, where daylight saving time runs across the new year
+const SOUTHERN: &str = "NZST-12NZDT,M9.5.0,M4.1.0/3";
+
+// from 1 March in every year to day 300 counted from 0, which a leap year has a day earlier
+const NUMBERED: &str = "AAA5BBB,J60,300";
+
 fn zone(rt: &impl Abort, alloc: Global, text: &str) -> StationZone {
     StationZone::read(alloc, text).expect(rt, "a zone")
 }
@@ -71,6 +83,45 @@ fn intervals(rt: HostRuntime) {
     }
 }
 
+// as the C library gives them, which takes these rules by its variable TZ
+const INTERVALS_OF_RULES: [(&str, &str, &str, i64); 27] = [
+    (MIDNIGHT, "2024-03-10", "2024-03-10T00:00:00Z", 82_800),
+    (MIDNIGHT, "2024-03-11", "2024-03-10T23:00:00Z", 86_400),
+    (MIDNIGHT, "2024-11-02", "2024-11-01T23:00:00Z", 86_400),
+    (MIDNIGHT, "2024-11-03", "2024-11-02T23:00:00Z", 90_000),
+    (MIDNIGHT, "2024-11-04", "2024-11-04T00:00:00Z", 86_400),
+    (IRISH, "2024-03-30", "2024-03-30T00:00:00Z", 86_400),
+    (IRISH, "2024-03-31", "2024-03-31T00:00:00Z", 82_800),
+    (IRISH, "2024-04-01", "2024-03-31T23:00:00Z", 86_400),
+    (IRISH, "2024-10-26", "2024-10-25T23:00:00Z", 86_400),
+    (IRISH, "2024-10-27", "2024-10-26T23:00:00Z", 90_000),
+    (IRISH, "2024-10-28", "2024-10-28T00:00:00Z", 86_400),
+    (SOUTHERN, "2023-12-31", "2023-12-30T11:00:00Z", 86_400),
+    (SOUTHERN, "2024-01-01", "2023-12-31T11:00:00Z", 86_400),
+    (SOUTHERN, "2024-04-06", "2024-04-05T11:00:00Z", 86_400),
+    (SOUTHERN, "2024-04-07", "2024-04-06T11:00:00Z", 90_000),
+    (SOUTHERN, "2024-04-08", "2024-04-07T12:00:00Z", 86_400),
+    (SOUTHERN, "2024-09-28", "2024-09-27T12:00:00Z", 86_400),
+    (SOUTHERN, "2024-09-29", "2024-09-28T12:00:00Z", 82_800),
+    (SOUTHERN, "2024-09-30", "2024-09-29T11:00:00Z", 86_400),
+    (NUMBERED, "2023-02-28", "2023-02-28T05:00:00Z", 86_400),
+    (NUMBERED, "2023-03-01", "2023-03-01T05:00:00Z", 82_800),
+    (NUMBERED, "2023-10-28", "2023-10-28T04:00:00Z", 90_000),
+    (NUMBERED, "2024-02-29", "2024-02-29T05:00:00Z", 86_400),
+    (NUMBERED, "2024-03-01", "2024-03-01T05:00:00Z", 82_800),
+    (NUMBERED, "2024-10-26", "2024-10-26T04:00:00Z", 86_400),
+    (NUMBERED, "2024-10-27", "2024-10-27T04:00:00Z", 90_000),
+    (NUMBERED, "2024-10-28", "2024-10-28T05:00:00Z", 86_400),
+];
+
+#[test]
+fn intervals_of_rules(rt: HostRuntime) {
+    for (text, named, first, length) in INTERVALS_OF_RULES {
+        let zone = zone(&rt, rt.alloc(), text);
+        expect_interval(&rt, &zone, day(&rt, named), instant(&rt, first), length);
+    }
+}
+
 const ZONES: [(&str, bool); 19] = [
     ("+14:59", true),
     ("+15:00", false),
@@ -82,7 +133,7 @@ const ZONES: [(&str, bool); 19] = [
     ("EST5", true),
     ("<-03>3", true),
     ("UTC0", true),
-    ("NZST-12NZDT,M9.5.0,M4.1.0/3", true),
+    (SOUTHERN, true),
     (EASTERN, true),
     ("America/New_York", false),
     ("", false),

@@ -1,7 +1,8 @@
 //! The office of one thread: what it keeps in memory, and the journal on a disk.
 
-ghost use Rattle.std.specs.Prelude.{◌≡◌, ℕ, List, length, option_map, IsSome, IfOk, IfSome};
+ghost use Rattle.std.specs.Prelude.{◌≡◌, ◌≤◌, ℕ, List, length, option_map, IsSome, IfOk, IfSome};
 ghost use Rattle.approval.specs.Statuses.{approved_days};
+ghost use Rattle.fixed_units.specs.Calendar.{days_of_calendar};
 ghost use Rattle.history.specs.Accepted.{accepted, record_numbered, stations_at};
 ghost use Rattle.history.specs.Awaited.{answer_at, pending_days};
 ghost use Rattle.history.specs.Sheets.{shown_at};
@@ -122,9 +123,10 @@ impl<D: Disk> Office<D> {
         self.register.status(site, day)
     }
 
-    /// How many days of a site are approved, also where it is not kept. It takes no memory.
+    /// How many days of a site are approved, also where it is not kept: no more than the calendar has. It takes no memory.
     pub fn approved_days(&self, site: Site) -> u64
-        ensures { result ≡ approved_days (status_at self.now.register.history.events site) }
+        ensures approved { result ≡ approved_days (status_at self.now.register.history.events site) }
+        ensures few { result ≤ days_of_calendar }
     {
         self.register.approved_days(site)
     }

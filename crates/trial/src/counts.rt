@@ -89,7 +89,7 @@ fn mean_on<D: Disk>(office: &Office<D>, site: Site, day: Day) -> u64
 /// The day that comes so many days behind another one.
 fn day_behind(first: i32, place: u32) -> Day
     requires first { first_day ≤ℤ first }
-    requires place { place < 73_049 }
+    requires place { place < 397 }
     requires day { IsDay (first +ℤ pos place) }
     ensures value { result ≡ first +ℤ pos place }
     ensures day { IsDay result }

@@ -4,6 +4,7 @@
 #![tactic(auto)]
 
 mod counts;
+mod disks;
 mod figures;
 pub mod laws;
 mod means;

@@ -7,9 +7,10 @@ ghost use Rattle.history.specs.Awaited.{pending_days};
 ghost use Rattle.trial.specs.Figures.{IsTrialText, publications, text_of};
 ghost use Rattle.trial.specs.Trials.{beginning, usual};
 
+use crate::disks::ScratchDisk;
 use crate::figures::write_figure;
 use crate::runs::Run;
-use devices::{Disk, MemoryDisk};
+use devices::Disk;
 use fixed_units::{NoMemory, Text};
 use office::Office;
 use office_inputs::Limits;
@@ -32,17 +33,21 @@ pub fn run_trial(alloc: Global, number: u32) -> Result<Text, NoMemory>
 }
 
 /// An office over a new journal on a disk in memory, with the usual limits.
-fn new_office(alloc: Global) -> Result<Office<MemoryDisk>, NoMemory>
+fn new_office(alloc: Global) -> Result<Office<ScratchDisk>, NoMemory>
     ensures { IfOk result (λ office. office.register.history ≡ reopen usual []) }
 {
-    let mut disk = MemoryDisk::empty(alloc);
+    let mut disk = ScratchDisk::empty(alloc);
     if journal::init(&mut disk).is_err() {
         return Err(NoMemory);
     }
-    match Office::open(alloc, disk, Limits::usual()) {
-        Ok(office) => Ok(office),
-        Err(_) => Err(NoMemory),
+    let Ok(office) = Office::open(alloc, disk, Limits::usual()) else {
+        return Err(NoMemory);
+    };
+    // This does not happen: the journal is new, so no record was read. The disk tells no content, so the proof knows it by this test alone.
+    if office.events() > 0 {
+        return Err(NoMemory);
     }
+    Ok(office)
 }
 
 /// The text of the trial of a number, whose orders are asked of an office over a new journal.

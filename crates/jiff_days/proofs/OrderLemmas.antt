@@ -64,19 +64,19 @@ sooner : (dt : DateTime) (greater lesser : Offset) → lesser.seconds <ℤ great
 sooner dt greater lesser h = omega (arith, signed_arith)
 
 in_fold : (dt : DateTime) (offsets : AmbiguousOffset) (before after : Offset) → IsOrdered offsets → offsets ≡ Fold before after
-    → instant_of dt (compatible_offset offsets) <ℤ instant_of dt after
+    → (compatible_offset offsets ≡ before) × (instant_of dt before <ℤ instant_of dt after)
 in_fold dt offsets before after h e =
-    rw e (sooner dt before after (subst IsOrdered e h))
+    rw e (refl, sooner dt before after (subst IsOrdered e h))
 
 in_gap : (dt : DateTime) (offsets : AmbiguousOffset) (before after : Offset) → IsOrdered offsets → offsets ≡ Gap before after
-    → instant_of dt after <ℤ instant_of dt (compatible_offset offsets)
+    → (compatible_offset offsets ≡ before) × (instant_of dt after <ℤ instant_of dt before)
 in_gap dt offsets before after h e =
-    rw e (sooner dt after before (subst IsOrdered e h))
+    rw e (refl, sooner dt after before (subst IsOrdered e h))
 
 pub earlier_in_fold : (rule : Rule) (dt : DateTime) (before after : Offset) → ambiguous_at (Posix rule) dt ≡ Fold before after
-    → instant_of dt (compatible_offset (ambiguous_at (Posix rule) dt)) <ℤ instant_of dt after
+    → (compatible_offset (ambiguous_at (Posix rule) dt) ≡ before) × (instant_of dt before <ℤ instant_of dt after)
 earlier_in_fold rule dt before after e = in_fold dt (ambiguous_at (Posix rule) dt) before after (ordered rule dt) e
 
 pub later_in_gap : (rule : Rule) (dt : DateTime) (before after : Offset) → ambiguous_at (Posix rule) dt ≡ Gap before after
-    → instant_of dt after <ℤ instant_of dt (compatible_offset (ambiguous_at (Posix rule) dt))
+    → (compatible_offset (ambiguous_at (Posix rule) dt) ≡ before) × (instant_of dt after <ℤ instant_of dt before)
 later_in_gap rule dt before after e = in_gap dt (ambiguous_at (Posix rule) dt) before after (ordered rule dt) e

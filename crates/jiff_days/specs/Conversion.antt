@@ -18,14 +18,14 @@ pub record IsCalendarDay (day : ℤ) : Type 0 where
   pub high : day ≤ℤ calendar_end
 
 -- the civil datetime is the midnight with which the day begins
-pub record IsMidnight (day : ℤ) (dt : DateTime) : Type 0 where
-  pub date : epoch_day dt.date ≡ day
-  pub time : time_nanos dt.time ≡ 0
+pub record IsMidnight (day : ℤ) (datetime : DateTime) : Type 0 where
+  pub date : epoch_day datetime.date ≡ day
+  pub time : time_nanos datetime.time ≡ 0
 
 -- what jiff's compatible conversion answers, by its contract: the instant of the datetime by the zone's offset there, where it is
 -- skipped by the one before the gap, where it comes twice by that of the earlier time
 abbrev pub IsConverted : TimeZone → DateTime → Result Timestamp Error → Type 0
-IsConverted zone dt answer = IsInstantAt dt (compatible_offset (ambiguous_at zone dt)) answer
+IsConverted zone datetime answer = IsInstantAt datetime (compatible_offset (ambiguous_at zone datetime)) answer
 
 -- the answer is an instant, and that of this second with no fraction
 pub record IsSecondOf (second : ℤ) (answer : Result Timestamp Error) : Type 0 where

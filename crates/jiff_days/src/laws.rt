@@ -39,9 +39,10 @@ pub fn zones_are_known_to_jiff()
     ensures apart { (text : List ℕ) → IsSome (read_whole text) → offset_seconds text ≡ None }
 {}
 
-/// Where the clocks of a POSIX rule show a datetime twice, jiff's compatible conversion takes the earlier of the two instants. Where
-/// they skip it, it takes the later of the two that the offsets before and after the gap give, which is that of the offset before.
-pub fn the_earlier_of_two_is_taken()
-    ensures twice { (rule : Rule) (dt : DateTime) (before after : Offset) → ambiguous_at (Posix rule) dt ≡ Fold before after → instant_of dt (compatible_offset (ambiguous_at (Posix rule) dt)) <ℤ instant_of dt after }
-    ensures skipped { (rule : Rule) (dt : DateTime) (before after : Offset) → ambiguous_at (Posix rule) dt ≡ Gap before after → instant_of dt after <ℤ instant_of dt (compatible_offset (ambiguous_at (Posix rule) dt)) }
+/// Where jiff says that the clocks of a POSIX rule show a datetime twice, its compatible conversion takes the offset before the change, which
+/// gives the earlier of the two instants. Where it says that they skip a datetime, it takes the offset before the gap too, and there that one
+/// gives the later of the two.
+pub fn the_offset_before_a_change_is_taken()
+    ensures twice { (rule : Rule) (datetime : DateTime) (before after : Offset) → ambiguous_at (Posix rule) datetime ≡ Fold before after → (compatible_offset (ambiguous_at (Posix rule) datetime) ≡ before) × (instant_of datetime before <ℤ instant_of datetime after) }
+    ensures skipped { (rule : Rule) (datetime : DateTime) (before after : Offset) → ambiguous_at (Posix rule) datetime ≡ Gap before after → (compatible_offset (ambiguous_at (Posix rule) datetime) ≡ before) × (instant_of datetime after <ℤ instant_of datetime before) }
 {}

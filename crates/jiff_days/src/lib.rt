@@ -7,6 +7,6 @@ mod laws;
 
 pub use conversion::day_start_by_jiff;
 pub use laws::{
-    offset_days_begin_by_jiff, rule_days_begin_by_jiff, the_earlier_of_two_is_taken,
+    offset_days_begin_by_jiff, rule_days_begin_by_jiff, the_offset_before_a_change_is_taken,
     zones_are_known_to_jiff,
 };

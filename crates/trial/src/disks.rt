@@ -1,5 +1,5 @@
-//! The disk under a trial: bytes in memory and nothing else, which are gone with the trial. It tells nothing of content, since no contract
-//! of a trial asks what a stop may leave.
+//! The disk under a trial: bytes in memory and nothing else, which are gone with the trial. It tells contracts no content: to tell one, a disk
+//! has to keep a list of its calls. What a trial comes to is said of its office's history, and not of what stands here.
 
 ghost use Rattle.std.specs.Prelude.{◌≡◌, ◌+◌, ◌^◌, ◌<◌, ◌≤◌, ◌↔◌, [], length, slice_range, None, Ok, IsOk, OnOk, OnErr};
 ghost use Rattle.devices.specs.Disks.{HasCause, overwritten};
@@ -40,7 +40,7 @@ impl ScratchDisk {
     }
 }
 
-// The trait's other clauses speak of a content that is told, and this disk tells none.
+// The trait's other clauses speak of a content that is told, or of what a stop may leave of it, and this disk tells none.
 impl Disk for ScratchDisk {
     ghost content = { λ _. None };
 

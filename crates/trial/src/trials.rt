@@ -24,7 +24,7 @@ const TOTALS: u64 = 1_000_000_000;
 ///
 /// # Errors
 ///
-/// [`NoMemory`]. A disk in memory has no other faults than want of it.
+/// [`NoMemory`]. A fault of the trial's disk is told as that too, and so is a new journal with a record: neither happens where there is memory.
 pub fn run_trial(alloc: Global, number: u32) -> Result<Text, NoMemory>
     ensures { IfOk result (IsTrialText number) }
 {

@@ -111,6 +111,14 @@ impl<T: Copy> Column<T> {
         self.gap.put_front(value);
     }
 
+    /// Puts values behind the last one, each copied once. Takes no memory.
+    pub fn append(&mut self, values: &[T])
+        requires room { length values.now ≤ self.old.spare }
+        ensures { self.new ≡ with_spare (self.old.list ++ values.now) (self.old.spare - length values.now) }
+    {
+        self.gap.append(values);
+    }
+
     /// Takes out the value at `at`. Its place is room again.
     pub fn remove(&mut self, at: usize) -> T
         requires { at < length self.old.list }

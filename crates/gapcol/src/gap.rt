@@ -194,6 +194,17 @@ impl<T: Copy> Gap<T> {
         self.cells.write(self.base, place, item);
     }
 
+    /// Puts values behind the last one.
+    pub(crate) fn append(&mut self, items: &[T])
+        requires { IsGap self.old × (self.old.len + length items.now ≤ self.old.capacity) }
+        ensures { Becomes self.old self.new (gap_list self.old ++ items.now) [] }
+    {
+        self.move_to(self.len);
+        for item in items {
+            self.put_front(*item);
+        }
+    }
+
     /// The values from `from` on and before `to`, cut where the gap is.
     pub(crate) fn parts(&self, from: usize, to: usize) -> (&[T], &[T])
         requires { IsGap self.now × (from ≤ to) × (to ≤ self.now.len) }
@@ -214,10 +225,9 @@ impl<T: Copy> Gap<T> {
         ensures small { IfOk result (λ g. capacity * type_size T.row < 2 ^ 63) }
     {
         let mut wide = Gap::with_capacity(self.alloc, capacity)?;
-        while wide.len < self.len {
-            let item = self.get(wide.len);
-            wide.put_front(item);
-        }
+        let (front, back) = self.parts(0, self.len);
+        wide.append(front);
+        wide.append(back);
         Ok(wide)
     }
 }

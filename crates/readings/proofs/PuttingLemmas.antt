@@ -1,15 +1,18 @@
 -- Where a reading is put, and what a list of readings put adds.
-use Rattle.std.specs.Prelude.{◌≡◌, ◌≢◌, Bool, true, false, cond, not, is_none, is_some, List, [], ◌∷◌, ◌++◌, slice_get, ◌+◌, ◌<◌, ◌≤◌, ◌<ℤ◌, ℕ, ℤ, suc, Option, Some, None, take, drop, set, get_or, length, filter, int_lt, int_le, All}
+use Rattle.std.specs.Prelude.{◌≡◌, ◌≢◌, Bool, true, false, cond, not, is_none, is_some, List, [], ◌∷◌, ◌++◌, slice_get, ◌+◌, ◌-◌, ◌<◌, ◌≤◌, ◌<ℤ◌, ◌≤ℤ◌, ℕ, ℤ, suc, Option, Some, None, take, drop, set, get_or, length, filter, int_lt, int_le, All}
 use Rattle.std.specs.Option.{option_or}
 use Rattle.std.specs.Ordering.{int_eq}
-use Rattle.std.proofs.Common.{arith, refl, ap, sym, ◌∙◌, subst, length-append, drop-cons, length-drop}
+use Rattle.std.proofs.Common.{arith, refl, ap, sym, ◌∙◌, subst, inl, inr, length-append, drop-cons, length-drop}
+use Rattle.std.proofs.lemmas.Bool.{cases_lt}
 use Rattle.std.proofs.lemmas.Bool.Decides.{Decides-int_eq}
 use Rattle.std.proofs.lemmas.Int.{ints}
-use Rattle.std.proofs.lemmas.Option.{get_or_from_slice_get}
-use Rattle.std.proofs.lemmas.List.{length-take-le, get_or_default, take-append-drop, drop-append-le, append-nil}
+use Rattle.std.proofs.lemmas.Option.{none-some, get_or_from_slice_get, slice_get-get_or}
+use Rattle.std.proofs.Math.Seq.{get_or-append_seam}
+use Rattle.std.proofs.lemmas.List.{length-take-le, get_or_default, get_or_append_left, take-append-drop, drop-append-le, append-nil, append_assoc}
 use Rattle.std.proofs.lemmas.List.Elements.{filter-append, All-weaker, All-drop, All-head, All-tail}
 use Rattle.std.proofs.lemmas.List.Filters.{length-filter_both}
-use Rattle.rising.proofs.Selecting.{AllPairs-back}
+use Rattle.rising.specs.Ends.{first, last}
+use Rattle.rising.proofs.Selecting.{AllPairs-append, AllPairs-back}
 use Rattle.rising.proofs.Parting.{IsAfter, lt_yes, le_yes}
 use Rattle.rising.proofs.Placing.{IsBefore, before_is_before, from_is_from, write_is_put, at_filter, at_put, at_put_other, none_stands, put_rises, IsTold, told, told_none}
 use Rattle.rising.proofs.Splitting.{none_before, rest_rises, rest_is_later, whole}
@@ -190,3 +193,54 @@ pub put_all_found : (n : ℤ) (ls rs : List Reading) → IsRising ls → at_inst
 put_all_found n [] rs h = refl
 put_all_found n (l ∷ ls) rs h =
     found_step n l ls rs (int_eq l.at n) refl (rest_is_later instant_of l ls h) (put_all_found n ls (put l rs) (rest_rises instant_of l ls h))
+
+-- readings that rise behind all others are put behind them
+none_after : (n : ℤ) (rs : List Reading) → All (IsBefore instant_of n) rs → after_instant n rs ≡ []
+none_after n [] h = refl
+none_after n (r ∷ rs) h =
+    let at : r.at <ℤ n = All-head (IsBefore instant_of n) r rs h in
+    let no : int_lt n r.at ≡ false = grind (arith, ints) in
+    rw no (none_after n rs (All-tail (IsBefore instant_of n) r rs h))
+
+put_behind : (r : Reading) (rs : List Reading) → All (IsBefore instant_of r.at) rs → put r rs ≡ rs ++ r ∷ []
+put_behind r rs h = let front = all_before r.at rs h in let back = none_after r.at rs h in rw (front, back) refl
+
+all_earlier : (r : Reading) (rs ls : List Reading) → IsRising (rs ++ r ∷ ls) → All (IsBefore instant_of r.at) rs
+all_earlier r rs ls h i d l =
+    let less = h i (length rs) d l (omega (arith, length-append rs (r ∷ ls))) in
+    rw (get_or_append_left rs (r ∷ ls) d i l, get_or-append_seam rs r ls d) at less
+
+pub put_all_behind : (ls rs : List Reading) → IsRising (rs ++ ls) → put_all ls rs ≡ rs ++ ls
+put_all_behind [] rs h = sym (append-nil rs)
+put_all_behind (l ∷ ls) rs h =
+    let all : (rs ++ l ∷ []) ++ ls ≡ rs ++ l ∷ ls = append_assoc rs (l ∷ []) ls in
+    ap (put_all ls) (put_behind l rs (all_earlier l rs ls h)) ∙ put_all_behind ls (rs ++ l ∷ []) (subst IsRising (sym all) h) ∙ all
+
+no_later : (rs : List Reading) (x : Reading) → IsRising rs → last rs ≡ Some x → (i : ℕ) (d : Reading) → i < length rs → (get_or rs i d).at ≤ℤ x.at
+no_later rs x h e i d l =
+    let here : get_or rs (length rs - 1) d ≡ x = get_or_from_slice_get rs (length rs - 1) x d e in
+    elim (cases_lt i (length rs - 1)) [
+      | inl m ↦ (let less : (get_or rs i d).at <ℤ (get_or rs (length rs - 1) d).at = h i (length rs - 1) d m (omega arith) in
+          let same = ap (λ (r : Reading). r.at) here in omega (arith, ints, less, same))
+      | inr m ↦ (let at : i ≡ length rs - 1 = omega arith in
+          let same : (get_or rs i d).at ≡ x.at = ap (λ k. (get_or rs k d).at) at ∙ ap (λ (r : Reading). r.at) here in omega (arith, ints, same))
+    ]
+
+no_earlier : (rs : List Reading) (y : Reading) → IsRising rs → first rs ≡ Some y → (i : ℕ) (d : Reading) → i < length rs → y.at ≤ℤ (get_or rs i d).at
+no_earlier rs y h e i d l =
+    let here : get_or rs 0 d ≡ y = get_or_from_slice_get rs 0 y d e in
+    elim (cases_lt 0 i) [
+      | inl m ↦ (let less : (get_or rs 0 d).at <ℤ (get_or rs i d).at = h 0 i d m l in
+          let same = ap (λ (r : Reading). r.at) here in omega (arith, ints, less, same))
+      | inr m ↦ (let at : i ≡ 0 = omega arith in
+          let same : (get_or rs i d).at ≡ y.at = ap (λ k. (get_or rs k d).at) at ∙ ap (λ (r : Reading). r.at) here in omega (arith, ints, same))
+    ]
+
+pub rises_on : (rs ls : List Reading) (x y : Reading) → IsRising rs → IsRising ls → last rs ≡ Some x → first ls ≡ Some y → x.at <ℤ y.at → IsRising (rs ++ ls)
+rises_on rs ls x y h k e f less =
+    AllPairs-append (λ r s. r.at <ℤ s.at) rs ls h k
+    (λ i d l j z m. let a = no_later rs x h e i d l in let b = no_earlier ls y k f j z m in omega (arith, ints, a, b, less))
+
+pub nothing_last : (rs : List Reading) → last rs ≡ None → rs ≡ []
+nothing_last [] e = refl
+nothing_last (r ∷ rs) e = absurd (none-some (get_or (r ∷ rs) (length (r ∷ rs) - 1) r) (sym e ∙ slice_get-get_or (r ∷ rs) (length (r ∷ rs) - 1) r (omega arith)))

@@ -98,9 +98,24 @@ impl Readings {
         ensures list { self.new.list ≡ put_all list.now self.old.list }
         ensures room { length self.new.list + self.new.spare ≡ length self.old.list + self.old.spare }
     {
+        if self.ends_before(list) {
+            self.kept.append(list);
+            return;
+        }
         let mut from = 0;
         for reading in list {
             from = self.put_from(from, *reading);
+        }
+    }
+
+    /// Whether each of these readings, which rise, stands behind all that are kept, as those of a logger mostly do.
+    fn ends_before(&self, list: &[Reading]) -> bool
+        requires { IsRising list.now }
+        ensures { result ≡ true → put_all list.now self.now.list ≡ self.now.list ++ list.now }
+    {
+        match (self.halves().last(), list.first()) {
+            (Some(last), Some(first)) => last.at < first.at,
+            _ => true,
         }
     }
 
@@ -214,6 +229,9 @@ impl Readings {
         requires { IsRising list.now }
         ensures { length (put_all list.now self.now.list) ≡ length self.now.list + result }
     {
+        if self.ends_before(list) {
+            return list.len();
+        }
         let mut rest = self.halves();
         let mut count = 0;
         for reading in list {

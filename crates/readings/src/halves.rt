@@ -8,7 +8,7 @@ ghost use Rattle.readings.specs.Readings.{IsRising, instant_of, before_instant, 
 ghost use Rattle.readings.specs.Window.{of_day};
 
 use crate::reach::{head, tail};
-use crate::used;
+use crate::{places, used};
 use fixed_units::{Reading, Second};
 
 /// Readings that rise, lent in two slices, one behind the other: those before a column's gap and those behind it.
@@ -54,7 +54,7 @@ impl<'a> Halves<'a> {
     }
 
     /// Whether an instant lies no earlier than the right slice begins: then what stands about it stands there, else in the left one.
-    fn is_on_right(&self, at: Second) -> bool
+    pub(crate) fn is_on_right(&self, at: Second) -> bool
         requires { IsRising (joined self.now) }
         ensures right { result ≡ true → All (λ r. r.at <ℤ at) self.now.left.now }
         ensures left { result ≡ false → All (λ r. at <ℤ r.at) self.now.right.now }
@@ -66,7 +66,7 @@ impl<'a> Halves<'a> {
     }
 
     /// How many readings stand before an instant: one binary search.
-    pub(crate) fn count_before(&self, at: Second) -> usize
+    pub(crate) fn count_searched(&self, at: Second) -> usize
         requires { IsRising (joined self.now) }
         ensures within { result ≤ length (joined self.now) }
         ensures front { take result (joined self.now) ≡ before_instant at (joined self.now) }
@@ -79,6 +79,20 @@ impl<'a> Halves<'a> {
         }
     }
 
+    /// How many readings stand before an instant: a search about the place that it would have among readings at even steps.
+    pub(crate) fn count_before(&self, at: Second) -> usize
+        requires { IsRising (joined self.now) }
+        ensures within { result ≤ length (joined self.now) }
+        ensures front { take result (joined self.now) ≡ before_instant at (joined self.now) }
+        ensures back { drop result (joined self.now) ≡ from_instant at (joined self.now) }
+    {
+        if self.is_on_right(at) {
+            self.left.len() + places::count_before(self.right, at)
+        } else {
+            places::count_before(self.left, at)
+        }
+    }
+
     /// How many readings stand before an instant, where these may be few: one binary search of the front that they stand in.
     fn count_few_before(&self, at: Second) -> usize
         requires { IsRising (joined self.now) }
@@ -87,9 +101,9 @@ impl<'a> Halves<'a> {
         ensures back { drop result (joined self.now) ≡ from_instant at (joined self.now) }
     {
         if self.is_on_right(at) {
-            self.left.len() + count_few_before(self.right, at)
+            self.left.len() + places::count_few_before(self.right, at)
         } else {
-            count_few_before(self.left, at)
+            places::count_few_before(self.left, at)
         }
     }
 
@@ -265,21 +279,6 @@ impl<'a> Halves<'a> {
         };
         Some(reading)
     }
-}
-
-/// How many readings of a slice stand before an instant: a front of eight, doubled until the instant belongs in it, is searched.
-fn count_few_before(list: &[Reading], at: Second) -> usize
-    requires { IsRising list.now }
-    ensures within { result ≤ length list.now }
-    ensures front { take result list.now ≡ before_instant at list.now }
-    ensures back { drop result list.now ≡ from_instant at list.now }
-{
-    let mut end = 8;
-    while end < list.len() && list[end].at.get() <= at.get() {
-        end *= 2;
-    }
-    let (left, right) = list.split_at(end.min(list.len()));
-    Halves { left, right }.count_before(at)
 }
 
 /// The reading of a slice at an instant, if there is one.

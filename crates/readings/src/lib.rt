@@ -6,6 +6,7 @@ pub mod equality;
 pub mod halves;
 pub mod laws;
 pub mod lists;
+mod places;
 mod reach;
 pub mod reading_list;
 mod used;

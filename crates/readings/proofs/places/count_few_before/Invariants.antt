@@ -1,5 +1,5 @@
 use Rattle.std.proofs.Common.{length, ◌-◌, ◌≤◌}
-use Rattle.readings.proofs.halves.count_few_before.Given as goal
+use Rattle.readings.proofs.places.count_few_before.Given as goal
 
 abbrev pub invariant-loop-end : goal.invariant-loop-end
 invariant-loop-end l = 8 ≤ l.end

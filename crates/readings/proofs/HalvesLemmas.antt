@@ -126,6 +126,26 @@ front_of at rs n h e = ap (take n) (cut at rs h) ∙ take_at (before_instant at 
 pub back_of : (at : ℤ) (rs : List Reading) (n : ℕ) → IsRising rs → length (before_instant at rs) ≡ n → drop n rs ≡ from_instant at rs
 back_of at rs n h e = ap (drop n) (cut at rs h) ∙ drop_at (before_instant at rs) (from_instant at rs) n e
 
+-- a count in the half that an instant belongs to is one in the whole: what stands before it, and what from it on
+module _ (at : ℤ) (xs ys rs : List Reading) (n : ℕ) (whole : rs ≡ xs ++ ys) (rising : IsRising rs) where
+  on_right : All (IsBefore instant_of at) xs → (j : ℕ) → j ≤ length ys → take j ys ≡ before_instant at ys → n ≡ length xs + j → length (before_instant at rs) ≡ n
+  on_right early j le e sum = ap (λ l. length (before_instant at l)) whole ∙ before_on_right at xs ys j early le e ∙ sym sum
+
+  on_left : All (IsAfter instant_of at) ys → n ≤ length xs → take n xs ≡ before_instant at xs → length (before_instant at rs) ≡ n
+  on_left late le e = ap (λ l. length (before_instant at l)) whole ∙ before_on_left at xs ys n late le e
+
+  pub front_right : All (IsBefore instant_of at) xs → (j : ℕ) → j ≤ length ys → take j ys ≡ before_instant at ys → n ≡ length xs + j → take n rs ≡ before_instant at rs
+  front_right early j le e sum = front_of at rs n rising (on_right early j le e sum)
+
+  pub back_right : All (IsBefore instant_of at) xs → (j : ℕ) → j ≤ length ys → take j ys ≡ before_instant at ys → n ≡ length xs + j → drop n rs ≡ from_instant at rs
+  back_right early j le e sum = back_of at rs n rising (on_right early j le e sum)
+
+  pub front_left : All (IsAfter instant_of at) ys → n ≤ length xs → take n xs ≡ before_instant at xs → take n rs ≡ before_instant at rs
+  front_left late le e = front_of at rs n rising (on_left late le e)
+
+  pub back_left : All (IsAfter instant_of at) ys → n ≤ length xs → take n xs ≡ before_instant at xs → drop n rs ≡ from_instant at rs
+  back_left late le e = back_of at rs n rising (on_left late le e)
+
 -- what is found in the whole is found in the one list, or in the other
 pub first_found : (p : Reading → Bool) (xs ys : List Reading) (o q : Option Reading) → o ≡ find p xs → q ≡ find p ys → option_or o q ≡ find p (xs ++ ys)
 first_found p xs ys o q e f = rw (e, f) (sym (find-append p xs ys))

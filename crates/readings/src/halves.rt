@@ -65,21 +65,8 @@ impl<'a> Halves<'a> {
         }
     }
 
-    /// How many readings stand before an instant: one binary search.
-    pub(crate) fn count_searched(&self, at: Second) -> usize
-        requires { IsRising (joined self.now) }
-        ensures within { result ≤ length (joined self.now) }
-        ensures front { take result (joined self.now) ≡ before_instant at (joined self.now) }
-        ensures back { drop result (joined self.now) ≡ from_instant at (joined self.now) }
-    {
-        if self.is_on_right(at) {
-            self.left.len() + rising::count_before(self.right, at)
-        } else {
-            rising::count_before(self.left, at)
-        }
-    }
-
     /// How many readings stand before an instant: a search about the place that it would have among readings at even steps.
+    #[tactic(auto, using(crate::proofs::HalvesLemmas::front_right, crate::proofs::HalvesLemmas::back_right, crate::proofs::HalvesLemmas::front_left, crate::proofs::HalvesLemmas::back_left))]
     pub(crate) fn count_before(&self, at: Second) -> usize
         requires { IsRising (joined self.now) }
         ensures within { result ≤ length (joined self.now) }
@@ -94,6 +81,7 @@ impl<'a> Halves<'a> {
     }
 
     /// How many readings stand before an instant, where these may be few: one binary search of the front that they stand in.
+    #[tactic(auto, using(crate::proofs::HalvesLemmas::front_right, crate::proofs::HalvesLemmas::back_right, crate::proofs::HalvesLemmas::front_left, crate::proofs::HalvesLemmas::back_left))]
     fn count_few_before(&self, at: Second) -> usize
         requires { IsRising (joined self.now) }
         ensures within { result ≤ length (joined self.now) }

@@ -40,6 +40,7 @@ pub(crate) fn count_few_before(list: &[Reading], at: Second) -> usize
 
 /// How many readings of a slice stand before an instant, which likely belongs from one place to another: these are searched
 /// if it does.
+#[tactic(auto, using(crate::proofs::HalvesLemmas::front_right, crate::proofs::HalvesLemmas::back_right, crate::proofs::HalvesLemmas::front_left, crate::proofs::HalvesLemmas::back_left))]
 fn count_within(list: &[Reading], from: usize, to: usize, at: Second) -> usize
     requires places { (from ≤ to) × (to ≤ length list.now) }
     requires rising { IsRising list.now }
@@ -55,19 +56,16 @@ fn count_within(list: &[Reading], from: usize, to: usize, at: Second) -> usize
     if ends.is_on_right(at) {
         return to + rising::count_before(late, at);
     }
-    count_from(front, from, at)
-}
-
-/// How many readings of a slice stand before an instant, which likely belongs behind a place.
-fn count_from(list: &[Reading], from: usize, at: Second) -> usize
-    requires place { from ≤ length list.now }
-    requires rising { IsRising list.now }
-    ensures within { result ≤ length list.now }
-    ensures front { take result list.now ≡ before_instant at list.now }
-    ensures back { drop result list.now ≡ from_instant at list.now }
-{
-    let (left, right) = list.split_at(from);
-    Halves { left, right }.count_searched(at)
+    let (early, near) = front.split_at(from);
+    let begins = Halves {
+        left: early,
+        right: near,
+    };
+    if begins.is_on_right(at) {
+        from + rising::count_before(near, at)
+    } else {
+        rising::count_before(early, at)
+    }
 }
 
 /// The place that an instant would have if the readings of a slice lay at even steps.

@@ -61,6 +61,20 @@ fn a_value_goes_between(rt: HostRuntime) -> Result<(), Fail> {
 }
 
 #[test]
+fn values_go_behind_the_last(rt: HostRuntime) -> Result<(), Fail> {
+    let mut column = one_two_four(&rt)?;
+    column.reserve(3)?;
+    column.insert(2, 3);
+    let spare = column.spare();
+    column.append(&[5, 6]);
+    assert_eq!(rt; column.spare() + 2, spare);
+    column.append(&[]);
+    assert!(rt; column.len() == 6);
+    assert!(rt; lends(&column, 0, 6, &[1, 2, 3, 4, 5, 6]));
+    Ok(())
+}
+
+#[test]
 fn both_sides_of_the_gap(rt: HostRuntime) -> Result<(), Fail> {
     let mut column = one_two_four(&rt)?;
     assert_eq!(rt; column.remove(1), 2);

@@ -9,6 +9,9 @@ an earlier edit was answered 507. Then the same batch is sent once more over the
 every edit must be accepted or told to be repeated, and the day must be computed. With `--year` the three readings are a logger's year
 in one body, settled, with the table of its days (some minutes).
 
+`init` is run so too: it makes a journal, or ends by a status of its own and leaves nothing that keeps a second `init` from making
+one. And `trial --number 1`, for each of its first allocations and then one in `--step`: the whole text comes, or a status and no text.
+
 It needs a C compiler (`cc`) for the few lines that stand before the system's allocator, and says so where there is none.
 """
 import argparse
@@ -178,6 +181,48 @@ def refused_run(program, shim, folder, requests, due, number):
     return came
 
 
+def count_allocations(words, shim, folder):
+    """How many allocations a command makes, and what it writes."""
+    count = os.path.join(folder, "count")
+    ran = subprocess.run(words, capture_output=True, env={**os.environ, "LD_PRELOAD": shim, "ALLOCATIONS": count})
+    if ran.returncode != 0:
+        raise SystemExit("%s: status %d, %r" % (words[1:], ran.returncode, ran.stderr))
+    return int(pathlib.Path(count).read_text()), ran.stdout
+
+
+def refused(words, shim, number):
+    environment = {**os.environ, "LD_PRELOAD": shim, "REFUSED_ALLOCATION": str(number)}
+    return subprocess.run(words, capture_output=True, env=environment)
+
+
+def refused_init(program, shim, folder, number):
+    """Makes a journal with one allocation refused, and then with all the memory there is; the status of the first."""
+    journal = os.path.join(folder, "made-%d" % number)
+    words = [program, "init", "--journal", journal]
+    ran = refused(words, shim, number)
+    again = subprocess.run(words, capture_output=True)
+    if ran.returncode not in (0, 1, 4, 6) or again.returncode != (2 if ran.returncode == 0 else 0):
+        raise SystemExit("init, allocation %d: status %d, and then %d" % (number, ran.returncode, again.returncode))
+    if subprocess.run([program, "batch", "--journal", journal], input=b"", capture_output=True).returncode != 0:
+        raise SystemExit("init, allocation %d: no journal was made" % number)
+    os.unlink(journal)
+    return ran.returncode
+
+
+def refused_trial(program, shim, text, number):
+    """Runs a trial with one allocation refused; its status."""
+    ran = refused([program, "trial", "--number", "1"], shim, number)
+    if ran.stdout != (text if ran.returncode == 0 else b"") or ran.returncode not in (0, 1, 6):
+        raise SystemExit("trial, allocation %d: status %d, %d bytes" % (number, ran.returncode, len(ran.stdout)))
+    return ran.returncode
+
+
+def tell(name, statuses):
+    statuses = list(statuses)
+    told = ", ".join("%d: %d" % (status, statuses.count(status)) for status in sorted(set(statuses)))
+    print("%s with one allocation refused, by status: %s" % (name, told))
+
+
 def main():
     words = argparse.ArgumentParser()
     words.add_argument("program")
@@ -185,6 +230,7 @@ def main():
     words.add_argument("--folder", default=".")
     words.add_argument("--jobs", type=int, default=4)
     words.add_argument("--from", dest="first", type=int, default=1)
+    words.add_argument("--step", type=int, default=50)
     given = words.parse_args()
     program = str(pathlib.Path(given.program).resolve())
     if not shutil.which("cc"):
@@ -208,6 +254,11 @@ def main():
             for call in calls:
                 came = call.result()
                 table[came] = table.get(came, 0) + 1
+            made, _ = count_allocations([program, "init", "--journal", os.path.join(folder, "made")], shim, folder)
+            tell("init", pool.map(lambda n: refused_init(program, shim, folder, n), range(1, made + 1)))
+            made, text = count_allocations([program, "trial", "--number", "1"], shim, folder)
+            turns = [*range(1, min(made, 300)), *range(300, made + 1, given.step)]
+            tell("trial", pool.map(lambda n: refused_trial(program, shim, text, n), turns))
     print("statuses other than 200 | runs")
     for came, runs in sorted(table.items(), key=str):
         print("%-23s | %d" % (", ".join(str(status) for status in came) or "none", runs))

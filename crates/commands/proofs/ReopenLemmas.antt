@@ -8,33 +8,8 @@ use Rattle.history.specs.After.{doubt, doubt_back, go_on, reopen}
 use Rattle.history.specs.Events.{Event, Accepted, History}
 use Rattle.journal.specs.JournalBytes.{IsJournalOf, StandsFor}
 use Rattle.office.specs.Stops.{IsLeft, IsLeftBefore, IsLeftBetween}
-use Rattle.office_inputs.specs.declared.limits.Limits.{Limits}
-use Rattle.office_inputs.specs.declared.limits.TheConstants.{USUAL_STATIONS, USUAL_READINGS, USUAL_DAY_READINGS, USUAL_CELLS, USUAL_EVENTS, USUAL_JOURNAL_BYTES}
+use Rattle.office_inputs.specs.Usual.{usual}
 use Rattle.records.specs.Sheets.{Record}
-use Rattle.trial.specs.Trials.{usual}
-
--- an office keeps to these numbers
-abbrev with_all : ℕ → ℕ → ℕ → ℕ → ℕ → ℕ → Limits
-with_all stations readings day_readings cells events journal_bytes = record {
-  stations = stations;
-  readings = readings;
-  day_readings = day_readings;
-  cells = cells;
-  events = events;
-  journal_bytes = journal_bytes;
-}
-
--- numbers that are those of every run one by one
-pub are_usual : (limits : Limits) → limits.stations ≡ USUAL_STATIONS → limits.readings ≡ USUAL_READINGS
-    → limits.day_readings ≡ USUAL_DAY_READINGS → limits.cells ≡ USUAL_CELLS → limits.events ≡ USUAL_EVENTS
-    → limits.journal_bytes ≡ USUAL_JOURNAL_BYTES → limits ≡ usual
-are_usual limits stations readings day_readings cells events journal_bytes =
-    ap (λ (n : ℕ). with_all n limits.readings limits.day_readings limits.cells limits.events limits.journal_bytes) stations
-    ∙ ap (λ (n : ℕ). with_all USUAL_STATIONS n limits.day_readings limits.cells limits.events limits.journal_bytes) readings
-    ∙ ap (λ (n : ℕ). with_all USUAL_STATIONS USUAL_READINGS n limits.cells limits.events limits.journal_bytes) day_readings
-    ∙ ap (λ (n : ℕ). with_all USUAL_STATIONS USUAL_READINGS USUAL_DAY_READINGS n limits.events limits.journal_bytes) cells
-    ∙ ap (λ (n : ℕ). with_all USUAL_STATIONS USUAL_READINGS USUAL_DAY_READINGS USUAL_CELLS n limits.journal_bytes) events
-    ∙ ap (λ (n : ℕ). with_all USUAL_STATIONS USUAL_READINGS USUAL_DAY_READINGS USUAL_CELLS USUAL_EVENTS n) journal_bytes
 
 -- no fault is among the edits that were found
 pub count_reopened : (pieces : List Record) (since : List Event) → fault_count (map Accepted pieces ++ since) ≡ fault_count since

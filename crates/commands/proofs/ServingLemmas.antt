@@ -26,7 +26,7 @@ use Rattle.journal.specs.declared.opening.OpenFault.TheVariants as opening
 use Rattle.office.specs.Openings.{IsDamagedFor, IsNotOpened}
 use Rattle.office.specs.Stops.{IsLeft, IsLeftBetween}
 use Rattle.records.specs.Sheets.{Record}
-use Rattle.trial.specs.Trials.{usual}
+use Rattle.office_inputs.specs.Usual.{usual}
 
 -- a disk that tells its bytes has these
 both_told : (o : Option (List ℕ)) (P : List ℕ → Type 0) → IsSome o → IfSome o P → IsSomeAnd o P

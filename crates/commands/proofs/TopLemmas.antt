@@ -26,7 +26,7 @@ use Rattle.commands.specs.declared.trying.TrialEnd.TheVariants as trials
 use Rattle.station_loading.specs.Loading.{IsLoaded, IsUnasked, LoadingCause}
 use Rattle.station_loading.specs.declared.loading.LoadingEnd.{LoadingEnd}
 use Rattle.station_loading.specs.declared.loading.LoadingEnd.TheVariants as loadings
-use Rattle.trial.specs.Trials.{usual}
+use Rattle.office_inputs.specs.Usual.{usual}
 
 -- wrong words have their status alone
 session_not_usage : (end : SessionEnd) → session_status end ≢ 1

@@ -19,7 +19,7 @@ use Rattle.journal.specs.Moments.{SyncsFirst}
 use Rattle.office.specs.Openings.{IsDamagedFor}
 use Rattle.office.specs.Stops.{IsLeft, IsLeftBetween}
 use Rattle.records.specs.Sheets.{Record}
-use Rattle.trial.specs.Trials.{usual}
+use Rattle.office_inputs.specs.Usual.{usual}
 
 -- What was done over an office ended so, from one history to another: a session, or the loading of a document.
 abbrev pub IsWorked : RunEnd → Work → History → History → Option (List ℕ) → Option (List ℕ) → Option (List ℕ) → Option (List ℕ) → Type 0

@@ -19,7 +19,7 @@ use Rattle.commands.specs.declared.runs.Work.{Work}
 use Rattle.commands.specs.declared.trying.TrialEnd.{TrialEnd}
 use Rattle.edits.specs.declared.content.Edit.{Edit}
 use Rattle.station_documents.specs.Documents.{StatesStations}
-use Rattle.trial.specs.Trials.{usual}
+use Rattle.office_inputs.specs.Usual.{usual}
 
 -- the sink of faults has the line at its end, or where it failed a front of it
 abbrev pub IsReported : List ℕ → Option (List ℕ) → Option (List ℕ) → ℕ → ℕ → Type 0

@@ -75,8 +75,8 @@ IsFresh d Failed = ⊤
 
 -- a failure comes only where the count of faults rose
 abbrev pub HasCause : {D : Type 0} → ℕ → ℕ → Opened D → Type 0
-HasCause before now (Disk disk) = ⊤
-HasCause before now Absent = ⊤
+HasCause before now (Disk disk) = now ≡ before
+HasCause before now Absent = now ≡ before
 HasCause before now Failed = Rose before now
 
 -- the disk is under its name, and nothing has changed under the other names

@@ -20,7 +20,7 @@ Puts before bytes after put = IfSome before (λ b. after ≡ Some (with_put b by
 
 -- a failure comes only where the count of faults rose
 abbrev pub HasCause : ℕ → ℕ → Put → Type 0
-HasCause before now (Bytes n) = ⊤
+HasCause before now (Bytes n) = now ≡ before
 HasCause before now Failed = Rose before now
 
 -- the bytes that were written are a front of these, and not all

@@ -22,8 +22,8 @@ Takes before into after took = IfSome before (λ b. IsSomeAnd after (λ a. Takes
 
 -- a failure comes only where the count of faults rose
 abbrev pub HasCause : ℕ → ℕ → Took → Type 0
-HasCause before now (Bytes n) = ⊤
-HasCause before now End = ⊤
+HasCause before now (Bytes n) = now ≡ before
+HasCause before now End = now ≡ before
 HasCause before now Failed = Rose before now
 
 -- the count of ends rises where nothing was left, and only there

@@ -5,3 +5,4 @@ pub mod Places
 pub mod Refusals
 pub mod Stations
 pub mod Touched
+pub mod Usual

@@ -1,6 +1,7 @@
 //! How large a record may grow.
 
 ghost use Rattle.std.specs.Prelude.{◌≡◌};
+ghost use Rattle.office_inputs.specs.Usual.{usual};
 
 /// How many stations an office usually keeps at most.
 pub const USUAL_STATIONS: u32 = 500;
@@ -40,12 +41,7 @@ pub struct Limits {
 impl Limits {
     /// Those of every run.
     pub fn usual() -> Limits
-        ensures stations { result.stations ≡ USUAL_STATIONS }
-        ensures readings { result.readings ≡ USUAL_READINGS }
-        ensures day_readings { result.day_readings ≡ USUAL_DAY_READINGS }
-        ensures cells { result.cells ≡ USUAL_CELLS }
-        ensures events { result.events ≡ USUAL_EVENTS }
-        ensures journal_bytes { result.journal_bytes ≡ USUAL_JOURNAL_BYTES }
+        ensures { result ≡ usual }
     {
         Limits {
             stations: USUAL_STATIONS,

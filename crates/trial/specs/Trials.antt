@@ -4,8 +4,7 @@ use Rattle.edits.specs.declared.content.Edit.{Edit}
 use Rattle.history.specs.After.{after_edit, after_settlement, reopen}
 use Rattle.history.specs.Events.{History}
 use Rattle.history.specs.Verdicts.{Verdict, Accepts, Refuses, Repeats, verdict}
-use Rattle.office_inputs.specs.declared.limits.Limits.{Limits}
-use Rattle.office_inputs.specs.declared.limits.TheConstants.{USUAL_STATIONS, USUAL_READINGS, USUAL_DAY_READINGS, USUAL_CELLS, USUAL_EVENTS, USUAL_JOURNAL_BYTES}
+use Rattle.office_inputs.specs.Usual.{usual}
 use Rattle.trial.specs.Refusals.{locks}
 use Rattle.trial_orders.specs.Orders.{Order, Ask, Settle}
 use Rattle.trial_orders.specs.References.{IsAsked}
@@ -15,17 +14,6 @@ pub record Trial : Type 0 where
   pub history : History
   pub asked : ℕ
   pub locked : ℕ
-
--- the numbers that every run keeps to
-abbrev pub usual : Limits
-usual = record {
-  stations = USUAL_STATIONS;
-  readings = USUAL_READINGS;
-  day_readings = USUAL_DAY_READINGS;
-  cells = USUAL_CELLS;
-  events = USUAL_EVENTS;
-  journal_bytes = USUAL_JOURNAL_BYTES;
-}
 
 -- before the first order: an office that is opened on a journal of no records
 abbrev pub beginning : Trial

@@ -1,6 +1,6 @@
 //! The orders of a trial, asked phase by phase, and in each station by station.
 
-ghost use Rattle.std.specs.Prelude.{◌≡◌, ◌+◌, ◌*◌, ◌^◌, ◌<◌, ◌≤◌, [], OnOk};
+ghost use Rattle.std.specs.Prelude.{◌≡◌, ◌+◌, ◌^◌, ◌<◌, ◌≤◌, [], OnOk};
 ghost use Rattle.edits.specs.Lawful.{IsLawful};
 ghost use Rattle.history.specs.Awaited.{pending_days};
 ghost use Rattle.trial.specs.Phases.{orders_in};

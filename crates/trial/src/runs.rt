@@ -6,7 +6,7 @@ ghost use Rattle.history.specs.Accepted.{accepted};
 ghost use Rattle.history.specs.Awaited.{pending_days};
 ghost use Rattle.trial.specs.Figures as figures;
 ghost use Rattle.trial.specs.Told.{locks_told};
-ghost use Rattle.trial.specs.Trials.{Follows, after_asking, after_settling};
+ghost use Rattle.trial.specs.Trials.{Follows, after_asking};
 ghost use Rattle.trial_orders.specs.Orders.{Ask, Settle};
 
 use crate::counts;

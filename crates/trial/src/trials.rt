@@ -5,7 +5,8 @@ ghost use Rattle.history.specs.Accepted.{accepted};
 ghost use Rattle.history.specs.After.{reopen};
 ghost use Rattle.history.specs.Awaited.{pending_days};
 ghost use Rattle.trial.specs.Figures.{IsTrialText, publications, text_of};
-ghost use Rattle.trial.specs.Trials.{beginning, usual};
+ghost use Rattle.office_inputs.specs.Usual.{usual};
+ghost use Rattle.trial.specs.Trials.{beginning};
 
 use crate::disks::ScratchDisk;
 use crate::figures::write_figure;

@@ -1,5 +1,4 @@
 use Rattle.std.proofs.Common.{sym, ◌∙◌, ap, subst}
-use Rattle.commands.proofs.ReopenLemmas.{are_usual}
 use Rattle.commands.proofs.ServingLemmas.{carries, not_opened, worked_on}
 use Rattle.commands.proofs.runs.work_on.Goals as goal
 use Rattle.desk.specs.Passing.{Passes}
@@ -12,10 +11,9 @@ use Rattle.office_inputs.specs.declared.limits.Limits.{Limits}
 pub returns-in-Ok-clause-serves : goal.returns-in-Ok-clause-serves
 returns-in-Ok-clause-serves g c =
     let opened = c.in-Ok.ensures.opened in
-    let limits = c.usual.ensures in
     let reopened = opened.reopened
     ∙ ap (λ (l : Limits). reopen l opened.pieces)
-    (are_usual c.usual.result limits.stations limits.readings limits.day_readings limits.cells limits.events limits.journal_bytes) in
+    c.usual.ensures in
     let after = c.work_over-end.new.office.register.history in
     worked_on g.D.Disk c.args.work c.work_over-end.result c.args.disk c.close.result
     (g.S.Source.left c.args.input.now) (g.S.Source.left c.work_over-end.new.input)
@@ -38,7 +36,6 @@ returns-in-Ok-clause-serves g c =
 
 pub returns-in-Err-clause-serves : goal.returns-in-Err-clause-serves
 returns-in-Err-clause-serves g c =
-    let limits = c.usual.ensures in
     let laws = g.met.D.Disk g.world.𝓛 g.world.𝓜 g.world.𝓡 ((λ s x. x), (λ x. x), (λ x. x), λ x. x) in
     not_opened g.D.Disk c.args.work c.in-Err.refused.fault
     c.end_of_opening.result c.args.disk c.in-Err.refused.disk
@@ -46,6 +43,6 @@ returns-in-Err-clause-serves g c =
     laws.counts_now c.end_of_opening.ensures
     (subst
     (λ (l : Limits). IsNotOpened (g.D.Disk.content c.args.disk) l c.in-Err.refused.fault (g.D.Disk.faults c.args.disk) (g.D.Disk.faults c.in-Err.refused.disk))
-    (are_usual c.usual.result limits.stations limits.readings limits.day_readings limits.cells limits.events limits.journal_bytes)
+    c.usual.ensures
     c.in-Err.ensures.refused)
     c.in-Err.ensures.refused_same c.in-Err.ensures.refused_any_moment

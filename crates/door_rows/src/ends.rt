@@ -239,12 +239,28 @@ const CUT_LINE: Due = Due {
     left: Some(KEPT),
 };
 
-const PIECES: [Run; 5] = [
+/// The output fails within the figures of a trial.
+const CUT_TRIAL: Due = Due {
+    status: 3,
+    written: &[b"stations 4\nedits 68\n"],
+    told: b"streamoffice: output fault\n",
+    is_read: false,
+    left: None,
+};
+
+const PIECES: [Run; 6] = [
     (BATCH, NO_RECORDS, &BYTE_BY_BYTE, &[ADDITION], &ACCEPTED),
     (BATCH, NO_RECORDS, &NO_INPUT, &[ADDITION], &INPUT_FAULT),
     (BATCH, NO_RECORDS, &CUT_INPUT, &[ADDITION], &INPUT_FAULT),
     (BATCH, NO_RECORDS, &CUT_OUTPUT, &[ADDITION], &OUTPUT_FAULT),
     (BATCH, NO_RECORDS, &CUT_FAULTS, &[ADDITION], &CUT_LINE),
+    (
+        &["trial", "--number", "1"],
+        NO_RECORDS,
+        &CUT_OUTPUT,
+        &[STATUS],
+        &CUT_TRIAL,
+    ),
 ];
 
 #[test]

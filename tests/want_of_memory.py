@@ -1,7 +1,7 @@
 #!/usr/bin/env python3
 """Makes each allocation of a run fail in turn, and looks at what is replied and kept.
 
-    python3 tests/want_of_memory.py PROGRAM [--year] [--folder .] [--jobs 4]
+    python3 tests/want_of_memory.py PROGRAM [--year] [--folder .] [--jobs 4] [--from 1] [--step 47]
 
 A whole batch (a station, its rating, the rating's period, three readings in one edit, a review and an approval of three other days with
 their sheets, a day before and after turns, and its sheet) is run once for each allocation that it makes, with that one refused. Every request must be answered: by its reply, by 507, or by what follows where
@@ -9,8 +9,8 @@ an earlier edit was answered 507. Then the same batch is sent once more over the
 every edit must be accepted or told to be repeated, and the day must be computed. With `--year` the three readings are a logger's year
 in one body, settled, with the table of its days (some minutes).
 
-`init` is run so too: it makes a journal, or ends by a status of its own and leaves nothing that keeps a second `init` from making
-one. And `trial --number 1`, for each of its first allocations and then one in `--step`: the whole text comes, or a status and no text.
+`init` is run so too: it makes a journal, or ends by a status and leaves nothing that keeps a second `init` from making one. And
+`trial --number 1`, for each of its first 300 allocations and then one in `--step`: its whole text comes, or a status and no text.
 
 It needs a C compiler (`cc`) for the few lines that stand before the system's allocator, and says so where there is none.
 """
@@ -183,11 +183,15 @@ def refused_run(program, shim, folder, requests, due, number):
 
 def count_allocations(words, shim, folder):
     """How many allocations a command makes, and what it writes."""
-    count = os.path.join(folder, "count")
+    count = os.path.join(folder, "count-of-one")
     ran = subprocess.run(words, capture_output=True, env={**os.environ, "LD_PRELOAD": shim, "ALLOCATIONS": count})
     if ran.returncode != 0:
         raise SystemExit("%s: status %d, %r" % (words[1:], ran.returncode, ran.stderr))
-    return int(pathlib.Path(count).read_text()), ran.stdout
+    made = int(pathlib.Path(count).read_text())
+    os.unlink(count)
+    if made == 0:
+        raise SystemExit("%s: no allocation was seen" % words[1:])
+    return made, ran.stdout
 
 
 def refused(words, shim, number):
@@ -201,7 +205,7 @@ def refused_init(program, shim, folder, number):
     words = [program, "init", "--journal", journal]
     ran = refused(words, shim, number)
     again = subprocess.run(words, capture_output=True)
-    if ran.returncode not in (0, 1, 4, 6) or again.returncode != (2 if ran.returncode == 0 else 0):
+    if ran.returncode not in (0, 1, 4, 6) or again.returncode != (8 if ran.returncode == 0 else 0):
         raise SystemExit("init, allocation %d: status %d, and then %d" % (number, ran.returncode, again.returncode))
     if subprocess.run([program, "batch", "--journal", journal], input=b"", capture_output=True).returncode != 0:
         raise SystemExit("init, allocation %d: no journal was made" % number)
@@ -218,7 +222,10 @@ def refused_trial(program, shim, text, number):
 
 
 def tell(name, statuses):
+    """Tells how often each status came. The words come first, so 1 comes before each 6, and some allocation is missed."""
     statuses = list(statuses)
+    if 6 not in statuses or 1 in statuses[statuses.index(6) :]:
+        raise SystemExit("%s: the statuses were %s" % (name, statuses))
     told = ", ".join("%d: %d" % (status, statuses.count(status)) for status in sorted(set(statuses)))
     print("%s with one allocation refused, by status: %s" % (name, told))
 
@@ -230,7 +237,7 @@ def main():
     words.add_argument("--folder", default=".")
     words.add_argument("--jobs", type=int, default=4)
     words.add_argument("--from", dest="first", type=int, default=1)
-    words.add_argument("--step", type=int, default=50)
+    words.add_argument("--step", type=int, default=47)
     given = words.parse_args()
     program = str(pathlib.Path(given.program).resolve())
     if not shutil.which("cc"):
@@ -257,7 +264,7 @@ def main():
             made, _ = count_allocations([program, "init", "--journal", os.path.join(folder, "made")], shim, folder)
             tell("init", pool.map(lambda n: refused_init(program, shim, folder, n), range(1, made + 1)))
             made, text = count_allocations([program, "trial", "--number", "1"], shim, folder)
-            turns = [*range(1, min(made, 300)), *range(300, made + 1, given.step)]
+            turns = [*range(1, min(made, 300) + 1), *range(301, made + 1, given.step)]
             tell("trial", pool.map(lambda n: refused_trial(program, shim, text, n), turns))
     print("statuses other than 200 | runs")
     for came, runs in sorted(table.items(), key=str):

@@ -73,7 +73,7 @@ IsFresh d (Disk disk) = d.faults disk ≡ 0
 IsFresh d Absent = ⊤
 IsFresh d Failed = ⊤
 
--- a failure comes only where the count of faults rose
+-- the count of faults rises where it failed, and stays where it did not
 abbrev pub HasCause : {D : Type 0} → ℕ → ℕ → Opened D → Type 0
 HasCause before now (Disk disk) = now ≡ before
 HasCause before now Absent = now ≡ before

@@ -18,7 +18,7 @@ with_put before bytes Failed = before
 abbrev pub Puts : Option (List ℕ) → List ℕ → Option (List ℕ) → Put → Type 0
 Puts before bytes after put = IfSome before (λ b. after ≡ Some (with_put b bytes put))
 
--- a failure comes only where the count of faults rose
+-- the count of faults rises where it failed, and stays where it did not
 abbrev pub HasCause : ℕ → ℕ → Put → Type 0
 HasCause before now (Bytes n) = now ≡ before
 HasCause before now Failed = Rose before now

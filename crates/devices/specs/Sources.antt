@@ -20,7 +20,7 @@ TakesFrom before into after Failed = after ≡ before
 abbrev pub Takes : Option (List ℕ) → List ℕ → Option (List ℕ) → Took → Type 0
 Takes before into after took = IfSome before (λ b. IsSomeAnd after (λ a. TakesFrom b into a took))
 
--- a failure comes only where the count of faults rose
+-- the count of faults rises where it failed, and stays where it did not
 abbrev pub HasCause : ℕ → ℕ → Took → Type 0
 HasCause before now (Bytes n) = now ≡ before
 HasCause before now End = now ≡ before

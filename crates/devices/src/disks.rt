@@ -42,6 +42,7 @@ pub trait Disk: Send {
         ensures time { Elapses (moment self.old) (moment self.new) (left_since self.old) (left_since self.new) (may_leave self.new) }
         ensures listed { IsListed (content self.old) (calls self.old) result (calls self.new) (faults self.new) }
         ensures counted { faults self.old ≤ faults self.new }
+        ensures done { OnOk result (faults self.new ≡ faults self.old) }
         ensures cause { HasCause (faults self.old) (faults self.new) result };
 
     /// Reads the bytes from an offset on; they stand within the content.
@@ -53,6 +54,7 @@ pub trait Disk: Send {
         ensures time { Elapses (moment self.old) (moment self.new) (left_since self.old) (left_since self.new) (may_leave self.new) }
         ensures listed { IsListed (content self.old) (calls self.old) result (calls self.new) (faults self.new) }
         ensures counted { faults self.old ≤ faults self.new }
+        ensures done { OnOk result (faults self.new ≡ faults self.old) }
         ensures cause { HasCause (faults self.old) (faults self.new) result };
 
     /// Writes bytes from an offset on, over what is there and past the end; it begins at the end at most. A write that
@@ -66,6 +68,7 @@ pub trait Disk: Send {
         ensures time { Elapses (moment self.old) (moment self.new) (left_since self.old) (left_since self.new) (may_leave self.new) }
         ensures listed { IsListed (content self.old) (calls self.old) result (calls self.new) (faults self.new) }
         ensures counted { faults self.old ≤ faults self.new }
+        ensures done { OnOk result (faults self.new ≡ faults self.old) }
         ensures cause { HasCause (faults self.old) (faults self.new) result };
 
     /// After it a stop leaves what a read gives. A sync that failed settles nothing.
@@ -76,6 +79,7 @@ pub trait Disk: Send {
         ensures time { Elapses (moment self.old) (moment self.new) (left_since self.old) (left_since self.new) (may_leave self.new) }
         ensures listed { IsListed (content self.old) (calls self.old) result (calls self.new) (faults self.new) }
         ensures counted { faults self.old ≤ faults self.new }
+        ensures done { OnOk result (faults self.new ≡ faults self.old) }
         ensures cause { HasCause (faults self.old) (faults self.new) result };
 
     /// The disk as it stands is one of those that a stop may leave.

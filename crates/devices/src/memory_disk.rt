@@ -143,6 +143,7 @@ impl Disk for MemoryDisk {
         ensures listed { IsListed (Some (content_of self.old.recorded)) (calls_of self.old.recorded) result (calls_of self.new.recorded) self.new.counts.faults }
         ensures on_command { AnswersOnCommand self.old.counts result self.new.counts }
         ensures counted { self.old.counts.faults ≤ self.new.counts.faults }
+        ensures done { OnOk result (self.new.counts.faults ≡ self.old.counts.faults) }
         ensures cause { HasCause self.old.counts.faults self.new.counts.faults result }
     {
         self.call(Change::Nothing)?;
@@ -160,6 +161,7 @@ impl Disk for MemoryDisk {
         ensures listed { IsListed (Some (content_of self.old.recorded)) (calls_of self.old.recorded) result (calls_of self.new.recorded) self.new.counts.faults }
         ensures on_command { AnswersOnCommand self.old.counts result self.new.counts }
         ensures counted { self.old.counts.faults ≤ self.new.counts.faults }
+        ensures done { OnOk result (self.new.counts.faults ≡ self.old.counts.faults) }
         ensures cause { HasCause self.old.counts.faults self.new.counts.faults result }
     {
         self.call(Change::Nothing)?;
@@ -180,6 +182,7 @@ impl Disk for MemoryDisk {
         ensures listed { IsListed (Some (content_of self.old.recorded)) (calls_of self.old.recorded) result (calls_of self.new.recorded) self.new.counts.faults }
         ensures on_command { AnswersOnCommand self.old.counts result self.new.counts }
         ensures counted { self.old.counts.faults ≤ self.new.counts.faults }
+        ensures done { OnOk result (self.new.counts.faults ≡ self.old.counts.faults) }
         ensures cause { HasCause self.old.counts.faults self.new.counts.faults result }
     {
         let count = bytes.len() as u64;
@@ -205,6 +208,7 @@ impl Disk for MemoryDisk {
         ensures listed { IsListed (Some (content_of self.old.recorded)) (calls_of self.old.recorded) result (calls_of self.new.recorded) self.new.counts.faults }
         ensures on_command { AnswersOnCommand self.old.counts result self.new.counts }
         ensures counted { self.old.counts.faults ≤ self.new.counts.faults }
+        ensures done { OnOk result (self.new.counts.faults ≡ self.old.counts.faults) }
         ensures cause { HasCause self.old.counts.faults self.new.counts.faults result }
     {
         self.call(Change::Synced)

@@ -1,6 +1,6 @@
 //! Where bytes go.
 
-ghost use Rattle.std.specs.Prelude.{◌≡◌, ℕ, ◌<◌, ◌≤◌, false, List, length, Option};
+ghost use Rattle.std.specs.Prelude.{◌≡◌, ℕ, ◌<◌, ◌≤◌, true, false, List, length, Option};
 ghost use Rattle.devices.specs.Faults.{Rose};
 ghost use Rattle.devices.specs.Sinks.{AreWritten, IsPutWithin, Puts, HasCause};
 
@@ -34,6 +34,7 @@ pub trait Sink {
 pub fn put_all<K: Sink>(sink: &mut K, bytes: &[u8]) -> bool
     ensures written { AreWritten (K.written sink.old) bytes.now (K.written sink.new) result }
     ensures counted { K.faults sink.old ≤ K.faults sink.new }
+    ensures done { result ≡ true → K.faults sink.new ≡ K.faults sink.old }
     ensures cause { result ≡ false → Rose (K.faults sink.old) (K.faults sink.new) }
 {
     let mut rest = bytes;

@@ -11,13 +11,14 @@ use Rattle.fixed_units.specs.declared.readings.Flag.{Flag}
 use Rattle.rising.proofs.Parting.{yes_lt, yes_le}
 use Rattle.rising.proofs.Placing.{filter_rises}
 use Rattle.rising.proofs.Selecting.{none_found, filter_none}
-use Rattle.readings.specs.Readings.{IsRising, instant_of, at_instant, put_all, is_used, in_span, without_span, with_flag}
+use Rattle.readings.specs.Readings.{IsRising, instant_of, at_instant, before_instant, from_instant, put_all, is_used, in_span, without_span, with_flag}
 use Rattle.readings.specs.Window.{is_of_day, of_day, inner}
 use Rattle.readings.specs.Equality.{same_flag, same_readings}
 use Rattle.readings.specs.Changes.{changed, changed_by, put_list, IsRisingChange}
 use Rattle.readings.specs.declared.changes.Change.{Change}
 use Rattle.readings.specs.declared.changes.Change.TheVariants.{Put, Drop, Flag as Flagged}
 use Rattle.readings.proofs.EqualityLemmas.{flags_decide}
+use Rattle.readings.proofs.NearLemmas.{before_from}
 use Rattle.readings.proofs.Selecting.{find_none, find_kept, none_kept}
 use Rattle.readings.proofs.WindowParts.{inner_found}
 use Rattle.readings.proofs.UnionLemmas.{part_put_all, IsUsedAlike, used_stay, used_stayed}
@@ -147,6 +148,15 @@ change_told a b change list rs put part t h e f told =
     (ap (λ (l : List Reading). changed_by change l part) f ∙ ap (changed_by change (of_day a b list)) e
     ∙ sym (part_changed (λ n. int_le a n && int_lt n b) change list rs h))
     told
+
+-- the same of what a change puts, parted at the day's start and at its end
+pub told_of_day : (a b : ℤ) (change : Change) (rs part put rest list : List Reading) (t : Bool) → IsRising rs → part ≡ of_day a b rs → list ≡ put_list change
+    → rest ≡ from_instant a list → put ≡ before_instant b rest
+    → t ≡ not (same_readings (filter is_used part) (filter is_used (changed_by change put part)))
+    → t ≡ not (same_readings (inner a b rs) (inner a b (changed change rs)))
+told_of_day a b change rs part put rest list t h e f g k told =
+    let day : put ≡ of_day a b (put_list change) = k ∙ ap (before_instant b) (g ∙ ap (from_instant a) f) ∙ before_from b a (put_list change) in
+    change_told a b change (put_list change) rs put part t h e day told
 
 -- a day whose readings are all unused, and one that has a used reading
 none_by : (o : Option Reading) → is_some o ≡ false → o ≡ None

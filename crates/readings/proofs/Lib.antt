@@ -15,5 +15,6 @@ pub mod Selecting
 pub mod SpanLemmas
 pub mod Standing
 pub mod UnionLemmas
+pub mod WindowCases
 pub mod WindowLemmas
 pub mod WindowParts

@@ -110,6 +110,9 @@ inner_found a b rs =
     filter_both (is_of_day a b) is_used rs
     ∙ filter_agree (λ r. is_of_day a b r && is_used r) (is_inner a b) (λ r. swapped (is_of_day a b r) (is_used r)) rs
 
+pub own_used : (a b : ℤ) (rs list day : List Reading) → day ≡ of_day a b list → list ≡ rs → filter is_used day ≡ inner a b rs
+own_used a b rs list day e f = ap (filter is_used) (e ∙ ap (of_day a b) f) ∙ inner_found a b rs
+
 -- what holds of each reading holds of each of a window
 pub both_true : (x y : Bool) → (x && y) ≡ true → y ≡ true
 both_true true y h = h
@@ -176,6 +179,13 @@ pub window_whole : (a b gap : ℤ) (rs left right : List Reading) (before after 
 window_whole a b gap rs left right before after e f g =
     let own : filter is_used (left ++ right) ≡ inner a b rs = ap (filter is_used) f ∙ inner_found a b rs in
     rw (e, own, g) (kept_neighbours (neighbour_before a gap rs) (inner a b rs) (neighbour_after b gap rs))
+
+pub window_joined : (a b gap : ℤ) (rs left right : List Reading) (before after : Option Reading) → before ≡ window_before a b gap rs
+    → left ++ right ≡ of_day a b rs → after ≡ window_after a b gap rs
+    → option_to_list before ++ (filter is_used (left ++ right) ++ option_to_list after) ≡ window a b gap rs
+window_joined a b gap rs left right before after e f g =
+    let own : filter is_used (left ++ right) ≡ inner a b rs = ap (filter is_used) f ∙ inner_found a b rs in
+    rw (e, own, g) (in_row (neighbour_before a gap rs) (inner a b rs) (neighbour_after b gap rs))
 
 -- a row of used readings with its neighbours
 pub row_used : (n m : Option Reading) (left right : List Reading) (r : Reading) → Some r ≡ find is_used (left ++ right)

@@ -1,6 +1,6 @@
 -- The window of a day: the used readings of the day, and the nearest used reading on either side where it is
 -- near enough. A filter over the whole list (this project's choice of which neighbours count).
-use Rattle.std.specs.Prelude.{Bool, ◌&&◌, List, [], ◌∷◌, ◌++◌, filter, find, reverse, Option, Some, None, option_and_then, option_to_list, ℤ, int_lt, int_le, ◌-ℤ◌, if◌then◌else◌}
+use Rattle.std.specs.Prelude.{◌≡◌, Bool, ◌&&◌, List, [], ◌∷◌, ◌++◌, filter, find, reverse, Option, Some, None, option_and_then, option_to_list, ℤ, int_lt, int_le, ◌-ℤ◌, ◌<ℤ◌, ◌≤ℤ◌, if◌then◌else◌}
 use Rattle.fixed_units.specs.declared.readings.Reading.{Reading}
 use Rattle.readings.specs.Readings.{is_used}
 
@@ -57,3 +57,33 @@ window_before a b gap readings = if_some (inner a b readings) (neighbour_before 
 
 abbrev pub window_after : ℤ → ℤ → ℤ → List Reading → Option Reading
 window_after a b gap readings = if_some (inner a b readings) (neighbour_after b gap readings)
+
+-- the used readings before a, and those from b on
+abbrev pub used_before : ℤ → List Reading → List Reading
+used_before a readings = filter (λ r. is_used r && int_lt r.at a) readings
+
+abbrev pub used_from : ℤ → List Reading → List Reading
+used_from b readings = filter (λ r. is_used r && int_le b r.at) readings
+
+-- The neighbour before a day by cases: the last used reading before a, which is at most gap seconds before it; none where the last one,
+-- if there is any, is farther.
+abbrev pub IsLead : ℤ → ℤ → List Reading → Option Reading → Type 0
+IsLead a gap readings (Some r) =
+    ((front : List Reading) × (used_before a readings ≡ front ++ r ∷ [])) × ((a -ℤ r.at) ≤ℤ gap)
+IsLead a gap readings None =
+    (front : List Reading) (r : Reading) → used_before a readings ≡ front ++ r ∷ [] → gap <ℤ (a -ℤ r.at)
+
+-- and that behind it: the first used reading from b on
+abbrev pub IsFollow : ℤ → ℤ → List Reading → Option Reading → Type 0
+IsFollow b gap readings (Some r) =
+    ((rest : List Reading) × (used_from b readings ≡ r ∷ rest)) × ((r.at -ℤ b) ≤ℤ gap)
+IsFollow b gap readings None =
+    (rest : List Reading) (r : Reading) → used_from b readings ≡ r ∷ rest → gap <ℤ (r.at -ℤ b)
+
+-- a window by cases: the used readings of the day with those neighbours, or nothing where there are none
+pub record IsWindow (a b gap : ℤ) (readings list : List Reading) : Type 0 where
+  pub before : Option Reading
+  pub after : Option Reading
+  pub lead : IsLead a gap readings before
+  pub follow : IsFollow b gap readings after
+  pub whole : list ≡ with_neighbours before (inner a b readings) after

@@ -1,4 +1,4 @@
-//! Readings that rise, lent in two slices, and what is found in them by binary search.
+//! Readings that rise, lent in two slices, and what is found in them.
 
 ghost use Rattle.std.specs.Prelude.{◌≡◌, true, false, ◌≤◌, ◌<ℤ◌, ◌≤ℤ◌, length, take, drop, find, reverse, is_some, All};
 ghost use Rattle.rising.specs.Ends.{first, last};

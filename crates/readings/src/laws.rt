@@ -6,7 +6,7 @@ ghost use Rattle.fixed_units.specs.declared.readings.Flag.{Flag};
 ghost use Rattle.fixed_units.specs.declared.readings.Reading.{Reading};
 ghost use Rattle.readings.specs.Reach.{IsFar};
 ghost use Rattle.readings.specs.Readings.{IsRising, at_instant, is_used, put_all, in_span, without_span, with_flag};
-ghost use Rattle.readings.specs.Window.{window};
+ghost use Rattle.readings.specs.Window.{IsWindow, window};
 
 /// A list with readings put is the union of both: at each instant stands the one that was put, else the one that stood there.
 pub fn puts_unite()
@@ -36,4 +36,10 @@ pub fn windows_rise()
     ensures without_span { (from to : ℤ) (rs : List Reading) → IsRising rs → IsRising (without_span from to rs) }
     ensures with_flag { (from to : ℤ) (flag : Flag) (rs : List Reading) → IsRising rs → IsRising (with_flag from to flag rs) }
     ensures window { (a b gap : ℤ) (rs : List Reading) → IsRising rs → IsRising (window a b gap rs) }
+{}
+
+/// A list that meets the cases of a day's window is the window, and the window meets them: so there is one such list, and no other.
+pub fn windows_are_told_by_cases()
+    ensures one { (a b gap : ℤ) (rs list : List Reading) → IsWindow a b gap rs list → list ≡ window a b gap rs }
+    ensures some { (a b gap : ℤ) (rs : List Reading) → IsWindow a b gap rs (window a b gap rs) }
 {}

@@ -7,8 +7,8 @@ ghost use Rattle.readings.specs.Readings.{IsRising, before_instant, from_instant
 use crate::halves::Halves;
 use fixed_units::{Reading, Second};
 
-/// A slice of no more readings is searched as a whole, which takes no longer than a division and a look about.
-const FEW: usize = 1_000;
+/// A slice of at most so many readings is searched as a whole, which takes no longer than a division and a look about.
+const SHORT: usize = 1_000;
 
 /// How many readings of a slice stand before an instant: searched about the place that it would have if they lay at even steps.
 pub(crate) fn count_before(list: &[Reading], at: Second) -> usize
@@ -17,10 +17,10 @@ pub(crate) fn count_before(list: &[Reading], at: Second) -> usize
     ensures front { take result list.now ≡ before_instant at list.now }
     ensures back { drop result list.now ≡ from_instant at list.now }
 {
-    if list.len() <= FEW {
+    if list.len() <= SHORT {
         return rising::count_before(list, at);
     }
-    let (from, to) = about(list, even_place(list, at), at);
+    let (from, to) = stretch_about(list, even_place(list, at), at);
     count_within(list, from, to, at)
 }
 
@@ -88,7 +88,7 @@ fn even_place(list: &[Reading], at: Second) -> usize
 }
 
 /// A stretch of a slice about a place in which an instant belongs, if the slice rises.
-fn about(list: &[Reading], place: usize, at: Second) -> (usize, usize)
+fn stretch_about(list: &[Reading], place: usize, at: Second) -> (usize, usize)
     requires { place ≤ length list.now }
     ensures { (result.0 ≤ result.1) × (result.1 ≤ length list.now) }
 {
@@ -108,5 +108,5 @@ fn belongs(list: &[Reading], place: usize, reach: usize, at: Second) -> bool
 {
     let from = place.saturating_sub(reach);
     let to = place + reach;
-    (from == 0 || list[from].at < at) && (list.len() <= to || at <= list[to].at)
+    (from == 0 || list[from].at <= at) && (list.len() <= to || at < list[to].at)
 }

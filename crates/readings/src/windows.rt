@@ -51,6 +51,7 @@ impl Readings {
         ensures before { result.before ≡ window_before a b (pos (60 * gap)) self.now.list }
         ensures inner { result.left.now ++ result.right.now ≡ of_day a b self.now.list }
         ensures after { result.after ≡ window_after a b (pos (60 * gap)) self.now.list }
+        ensures joined { option_to_list result.before ++ (filter is_used (result.left.now ++ result.right.now) ++ option_to_list result.after) ≡ window a b (pos (60 * gap)) self.now.list }
     {
         let parts = self.halves().parts(a, b);
         let Halves { left, right } = parts.day;

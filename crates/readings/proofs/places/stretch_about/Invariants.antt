@@ -1,5 +1,5 @@
 use Rattle.std.proofs.Common.{length, ◌-◌, ◌≤◌}
-use Rattle.readings.proofs.places.about.Given as goal
+use Rattle.readings.proofs.places.stretch_about.Given as goal
 
 abbrev pub invariant-loop-reach : goal.invariant-loop-reach
 invariant-loop-reach l = 8 ≤ l.reach

@@ -1,5 +1,5 @@
 -- A sum along the pairs of a day: what is summed and what is left make up the whole.
-use Rattle.std.proofs.Common.{◌≡◌, refl, ap, sym, ℕ, ◌+◌, ◌<◌, ◌≤◌, get_or, List, [], ◌∷◌, length, drop, ℤ, pos, ◌+ℤ◌, ◌<ℤ◌, arith, subst, add-one, drop-cons}
+use Rattle.std.proofs.Common.{◌≡◌, refl, ap, sym, ◌∙◌, ℕ, ◌+◌, ◌<◌, ◌≤◌, get_or, List, [], ◌∷◌, length, drop, ℤ, pos, ◌+ℤ◌, ◌<ℤ◌, arith, subst, add-one, drop-cons}
 use Rattle.std.specs.Prelude.{All, map, sum_by}
 use Rattle.std.proofs.lemmas.Int.{ints}
 use Rattle.std.proofs.lemmas.List.{drop_all}
@@ -12,7 +12,7 @@ use Rattle.day_inputs.specs.declared.day_inputs.DayParts.{DayParts}
 use Rattle.day_inputs.specs.DayInputs.{AreParts}
 use Rattle.daily_values.specs.declared.sums.Sum.{Sum}
 use Rattle.daily_values.specs.DayValue.{Point, unit_of, units_of, neighbours, pair_area, pair_seconds, twice_areas, sum_of}
-use Rattle.daily_values.proofs.AreaLemmas.{ArePoints, rising-first, rising-tail}
+use Rattle.daily_values.proofs.AreaLemmas.{ArePoints, AreRising, covered-le, day_length-le, points-rise, rising-first, rising-tail, units-rise}
 
 -- a sum, and the pairs that are still to be summed, make up all pairs
 pub record IsSumOfRest (day : DayParts) (rest all : List (Point × Point)) (sum : Sum) : Type 0 where
@@ -105,3 +105,45 @@ pairs-keep {X = X} P (x ∷ []) h = All-nil (λ (p : X × X). P p.0 × P p.1)
 pairs-keep {X = X} P (x ∷ y ∷ xs) h =
     let behind = All-tail P x (y ∷ xs) h in
     All-cons (λ (p : X × X). P p.0 × P p.1) (x, y) (neighbours (y ∷ xs)) (All-head P x (y ∷ xs) h, All-head P y xs behind) (pairs-keep P (y ∷ xs) behind)
+
+-- the pairs of a day, as they are made one step after the other: they rise, and they find room
+pub pairs-made : (point : Unit → Point) (day : DayParts) (points given : List Point) (made pairs : List (Point × Point)) → given ≡ points
+    → points ≡ map point (units_of day) → pairs ≡ made → made ≡ neighbours given → pairs ≡ neighbours (map point (units_of day))
+pairs-made point day points given made pairs e f g h = g ∙ h ∙ ap neighbours (e ∙ f)
+
+module _ (point : Unit → Point) (at : (u : Unit) → (point u).0 ≡ u.at) (day : DayParts) (are : AreParts day) where
+  pub made-rise : (pairs : List (Point × Point)) → pairs ≡ neighbours (map point (units_of day)) → All (λ (p : Point × Point). p.0.0 <ℤ p.1.0) pairs
+  made-rise pairs e =
+      subst (All (λ (p : Point × Point). p.0.0 <ℤ p.1.0)) (sym e)
+      (pairs-rise (map point (units_of day)) (points-rise point at (units_of day) (units-rise day day.window are.rising)))
+
+  pub made-room : (pairs : List (Point × Point)) → pairs ≡ neighbours (map point (units_of day)) → sum_by (pair_seconds day) pairs ≤ 100_800
+  made-room pairs e =
+      let all = covered-le point at day are in
+      let long = day_length-le day are in
+      let seconds = ap (sum_by (pair_seconds day)) e in
+      omega (arith, all, long, seconds)
+
+  -- along a window: the next point is later, and its pair finds room
+  module _ (rest : List Reading) (i : ℕ) (r : Reading) (left right : Unit) (p q : Point) where
+    pub next-rises : i < length rest → r ≡ get_or rest i r → right ≡ unit_of day r → p ≡ point left → q ≡ point right
+        → AreRising (left ∷ map (unit_of day) (drop i rest)) → p.0 <ℤ q.0
+    next-rises l h k e f rising =
+        let step = units-step day rest i r right l h k in
+        let less = rising-first (λ (u : Unit). u.at) left right (map (unit_of day) (drop (i + 1) rest)) (subst (λ (us : List Unit). AreRising (left ∷ us)) step rising) in
+        let from = ap (λ (x : Point). x.0) e ∙ at left in
+        let to = ap (λ (x : Point). x.0) f ∙ at right in
+        omega (arith, ints, less, from, to)
+
+    pub next-room : (sum : Sum) → i < length rest → r ≡ get_or rest i r → right ≡ unit_of day r → p ≡ point left → q ≡ point right
+        → IsSumOfRest day (neighbours (map point (left ∷ map (unit_of day) (drop i rest)))) (neighbours (map point (units_of day))) sum
+        → sum.covered + pair_seconds day (p, q) ≤ 100_800
+    next-room sum l h k e f summed =
+        let all = neighbours (map point (units_of day)) in
+        let step = units-step day rest i r right l h k in
+        let next = subst (λ (us : List Unit). IsSumOfRest day (neighbours (map point (left ∷ us))) all sum) step summed in
+        let covered = covered-le point at day are in
+        let long = day_length-le day are in
+        let room = sum-room day (point left, point right) (neighbours (map point (right ∷ map (unit_of day) (drop (i + 1) rest)))) all sum 100_800 next (omega (arith, covered, long)) in
+        let pair = ap (pair_seconds day) (pair-same p q (point left) (point right) e f) in
+        omega (arith, room, pair)

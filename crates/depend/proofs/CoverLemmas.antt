@@ -74,25 +74,27 @@ pub record IsClipped (number day : ℤ) : Type 0 where
   pub before : number <ℤ first_day → day ≡ first_day
   pub behind : last_day <ℤ number → day ≡ last_day
 
+-- a day that is not clipped
+inside_by : (number day : ℤ) → IsClipped number day → first_day ≤ℤ number → number ≤ℤ last_day → day ≡ number
+inside_by number day c low high = c.inside (record { low = low; high = high })
+
 pub before_from : (own number before : ℤ) → IsDay own → number ≡ own -ℤ pos 1 → IsClipped number before → IsBefore own before
 before_from own number before k e c =
-    let low = k.low in
     let high = k.high in
     record {
       own = k;
       other = c.range;
-      one = λ l. c.inside (record { low = omega (arith, ints); high = omega (arith, ints) }) ∙ e;
+      one = λ l. inside_by number before c (omega (arith, ints)) (omega (arith, ints)) ∙ e;
       end = λ f. c.before (omega (arith, ints));
     }
 
 pub after_from : (own number after : ℤ) → IsDay own → number ≡ own +ℤ pos 1 → IsClipped number after → IsAfter own after
 after_from own number after k e c =
     let low = k.low in
-    let high = k.high in
     record {
       own = k;
       other = c.range;
-      one = λ l. c.inside (record { low = omega (arith, ints); high = omega (arith, ints) }) ∙ e;
+      one = λ l. inside_by number after c (omega (arith, ints)) (omega (arith, ints)) ∙ e;
       end = λ f. c.behind (omega (arith, ints));
     }
 

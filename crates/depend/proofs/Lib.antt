@@ -1,5 +1,6 @@
 pub mod CalendarLemmas
 pub mod CoverLemmas
+pub mod DayNumbers
 pub mod EntryLemmas
 pub mod IntervalLemmas
 pub mod PeriodLemmas

@@ -38,7 +38,7 @@ fn rating_number_at(fields: &Fields<'_>) -> Option<u32>
 }
 
 /// The rating of this number, or `None` exactly where there is none.
-fn rating_number_from(number: u64) -> Option<u32>
+pub fn rating_number_from(number: u64) -> Option<u32>
     ensures value { result ≡ kept_within 1 999_999 number }
     ensures number { IfSome result IsRatingNumber }
 {

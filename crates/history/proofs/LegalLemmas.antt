@@ -29,11 +29,12 @@ use Rattle.records.specs.Sheets.{Record}
 abbrev Split : List Event → Event → List Event → Event → List Event → Type 0
 Split events e before x after = ((before ≡ events) × (x ≡ e)) ⊎ ((rest : List Event) × (events ≡ before ++ x ∷ rest))
 
-head_of : Event → List Event → Event
+-- the first event of some, or this one, and those behind it
+unfoldable pub head_of : Event → List Event → Event
 head_of e [] = e
 head_of e (x ∷ xs) = x
 
-tail_of : List Event → List Event
+unfoldable pub tail_of : List Event → List Event
 tail_of [] = []
 tail_of (x ∷ xs) = xs
 

@@ -6,13 +6,16 @@ pub mod FirstDayLemmas
 pub mod FirstLockLemmas
 pub mod FrontLemmas
 pub mod JobLemmas
+pub mod KeptStationLemmas
 pub mod LastChangeLemmas
 pub mod LegalLemmas
 pub mod LockedLemmas
 pub mod MergeLemmas
 pub mod NamedLemmas
+pub mod NeverLockedLemmas
 pub mod OpenedDayLemmas
 pub mod OpeningLemmas
+pub mod OrderlyLemmas
 pub mod PendingLemmas
 pub mod RepeatLemmas
 pub mod SheetLemmas

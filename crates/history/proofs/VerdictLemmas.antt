@@ -14,6 +14,12 @@ use Rattle.office_inputs.specs.declared.refusals.Refusal.{Refusal}
 use Rattle.office_inputs.specs.declared.refusals.Refusal.TheVariants.{RefReused, Locked, HistoryFull, JournalFull}
 use Rattle.office_inputs.specs.declared.refusals.Full.TheVariants as fulls
 
+-- for what there is no room, of an edit: its events, its cells or its record
+abbrev pub full_of : History → Edit → Option Refusal
+full_of h edit =
+    or_else (refused_where (is_full_of_events h edit) (HistoryFull fulls.Events))
+    (or_else (refused_where (is_full_of_cells h edit) (HistoryFull fulls.Cells)) (refused_where (is_journal_full h edit) JournalFull))
+
 -- its reference names no accepted edit, neither the stations in force nor the statuses of its days refuse it, it approves no day that
 -- awaits an edit and changes no approved one, and there is room
 pub record IsAccepted (h : History) (edit : Edit) : Type 0 where
@@ -38,11 +44,11 @@ not_refused : (r : Option Refusal) → verdict_of_refusal r ≡ Accepts → r �
 not_refused None h = refl
 not_refused (Some refusal) h = absurd (cc)
 
-first_none : (a b : Option Refusal) → or_else a b ≡ None → a ≡ None
+pub first_none : (a b : Option Refusal) → or_else a b ≡ None → a ≡ None
 first_none None b h = refl
 first_none (Some refusal) b h = absurd (cc)
 
-later_none : (a b : Option Refusal) → or_else a b ≡ None → b ≡ None
+pub later_none : (a b : Option Refusal) → or_else a b ≡ None → b ≡ None
 later_none None b h = h
 later_none (Some refusal) b h = absurd (cc)
 
@@ -62,7 +68,7 @@ accepted_parts h edit v =
     let events = refused_where (is_full_of_events h edit) (HistoryFull fulls.Events) in
     let cells = refused_where (is_full_of_cells h edit) (HistoryFull fulls.Cells) in
     let journal = refused_where (is_journal_full h edit) JournalFull in
-    let full = or_else events (or_else cells journal) in
+    let full = full_of h edit in
     let locked = refused_as_locked h edit in
     let awaited = refused_as_awaiting h edit in
     let behind = later_none (refused_by_stations h edit) (or_else (refused_by_statuses h edit) (or_else awaited (or_else locked full))) whole in

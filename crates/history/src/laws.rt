@@ -3,6 +3,8 @@
 ghost use Rattle.std.specs.Prelude.{◌≡◌, ◌≢◌, ◌↔◌, ℕ, ◌+◌, ◌≤◌, List, [], ◌∷◌, ℤ, ◌++◌, length, map, slice_get, Some, None, is_some, true, false};
 ghost use Rattle.approval.specs.Statuses.{is_approved};
 ghost use Rattle.edits.specs.declared.content.Edit.{Edit};
+ghost use Rattle.edits.specs.declared.content.What.TheVariants.{Review, Decide};
+ghost use Rattle.edits.specs.declared.decisions.Decision.{Decision};
 ghost use Rattle.fixed_units.specs.Quantities.{IsDay, SiteNumber};
 ghost use Rattle.history.specs.Accepted.{accepted, edit_of, edits_of, stations_at};
 ghost use Rattle.history.specs.After.{doubt, go_on, reopen};
@@ -12,9 +14,11 @@ ghost use Rattle.history.specs.LastChanges.{ChangedLast, NoneChanges};
 ghost use Rattle.history.specs.Legal.{IsLegal};
 ghost use Rattle.history.specs.Locks.{ChangesApproved, IsFirstChanged, ReachesTheLocks};
 ghost use Rattle.history.specs.Rescissions.{NoneRescinds};
+ghost use Rattle.history.specs.Sheets.{Text, shown_at};
 ghost use Rattle.history.specs.Statuses.{locked_at, standing_at, status_at, stored_sheet};
 ghost use Rattle.history.specs.Verdicts.{Accepts, Refuses, Repeats, verdict, with_record};
 ghost use Rattle.office_inputs.specs.Changes.{keeps_day};
+ghost use Rattle.office_inputs.specs.Stations.{station_of};
 ghost use Rattle.office_inputs.specs.declared.limits.Limits.{Limits};
 ghost use Rattle.office_inputs.specs.declared.refusals.Refusal.TheVariants.{Locked};
 ghost use Rattle.records.specs.Sheets.{Record};
@@ -53,9 +57,12 @@ pub fn an_approved_day_does_not_move()
     ensures sheet { (h : History) (events since : List Event) (site : SiteNumber) (day : ℤ) → IsLegal h → IsDay day → h.events ≡ events ++ since → is_approved (status_at events site day) ≡ true → NoneRescinds site day (edits_of since) → stored_sheet h.events site day ≡ stored_sheet events site day }
 {}
 
-/// In a legal history each approved day has its sheet, also one that was approved before the office was opened.
+/// In a legal history each approved day has its sheet, also one that was approved before the office was opened; its station is in force,
+/// and that very sheet is what is shown of it, also while it awaits an edit.
 pub fn an_approved_day_has_its_sheet()
-    ensures { (h : History) (site : SiteNumber) (day : ℤ) → IsLegal h → is_approved (status_at h.events site day) ≡ true → is_some (stored_sheet h.events site day) ≡ true }
+    ensures sheet { (h : History) (site : SiteNumber) (day : ℤ) → IsLegal h → is_approved (status_at h.events site day) ≡ true → is_some (stored_sheet h.events site day) ≡ true }
+    ensures station { (h : History) (site : SiteNumber) (day : ℤ) → IsLegal h → is_approved (status_at h.events site day) ≡ true → is_some (station_of (stations_at h.events) site) ≡ true }
+    ensures shown { (h : History) (site : SiteNumber) (day : ℤ) → IsLegal h → is_approved (status_at h.events site day) ≡ true → (text : List ℕ) × (stored_sheet h.events site day ≡ Some text) × (shown_at h.events site day ≡ Text text) }
 {}
 
 /// A legal history was legal at each point since its opening.
@@ -84,7 +91,7 @@ pub fn behind_an_opening_days_await_their_last_edits()
 
 /// An edit is refused as locked exactly where nothing refuses it that is asked before and it would change the inputs of an approved day:
 /// the first such day is named. Whatever is asked before or behind, an edit that would change an approved day's inputs is not accepted,
-/// and one that would change none is not refused as locked.
+/// and one that would change none is not refused as locked; no review, approval or rescission ever is.
 pub fn an_edit_is_locked_where_it_would_change_an_approved_day()
     ensures exactly { (h : History) (edit : Edit) (day : ℤ) → verdict h edit ≡ Refuses (Locked day) ↔ ReachesTheLocks h edit × IsFirstChanged h.events edit day }
     ensures some { (h : History) (edit : Edit) (day : ℤ) → ReachesTheLocks h edit → ChangesApproved h.events edit day → (first : ℤ) × IsFirstChanged h.events edit first × (verdict h edit ≡ Refuses (Locked first)) }
@@ -92,5 +99,7 @@ pub fn an_edit_is_locked_where_it_would_change_an_approved_day()
     ensures not_locked { (h : History) (edit : Edit) (named : ℤ) → ((day : ℤ) → ¬ ChangesApproved h.events edit day) → verdict h edit ≢ Refuses (Locked named) }
     ensures first { (h : History) (edit : Edit) (day : ℤ) → verdict h edit ≡ Refuses (Locked day) → locked_at h.events edit ≡ Some day }
     ensures changes { (h : History) (edit : Edit) (day : ℤ) → verdict h edit ≡ Refuses (Locked day) → (is_approved (status_at h.events edit.site day) ≡ true) × (keeps_day (stations_at h.events) edit day ≡ false) }
+    ensures review { (h : History) (edit : Edit) (from to day : ℤ) → edit.what ≡ Review from to → verdict h edit ≢ Refuses (Locked day) }
+    ensures decision { (h : History) (edit : Edit) (from to day : ℤ) (decision : Decision) → edit.what ≡ Decide from to decision → verdict h edit ≢ Refuses (Locked day) }
     ensures accepted { (h : History) (edit : Edit) (day : ℤ) → verdict h edit ≡ Accepts → IsDay day → is_approved (status_at h.events edit.site day) ≡ true → keeps_day (stations_at h.events) edit day ≡ true }
 {}

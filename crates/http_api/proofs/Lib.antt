@@ -1,8 +1,7 @@
 mod ApartLemmas
-mod AskLemmas
+pub mod AskLemmas
 mod FindingLemmas
 mod FittingLemmas
-mod NumberLemmas
 mod RdbLemmas
 mod ReplyLemmas
 mod RouteLemmas

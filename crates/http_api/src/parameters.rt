@@ -11,7 +11,8 @@ ghost use Rattle.edits.specs.Lawful.{IsRatingNumber};
 ghost use Rattle.http_api.specs.Parameters.{by_in, count_in, count_of, day_in, from_in, is_number, is_table_span, measurement_in, measurement_of, number_of, rating_in, rating_of, reference_in, site_in, to_in, turns_of};
 
 use civil_days::read_day;
-use edits::{By, Ref, is_rating_number};
+use edit_bodies::rating_number_from;
+use edits::{By, Ref};
 use fixed_units::{Day, Site};
 use matchit::Params;
 use site_texts::read_site;
@@ -127,20 +128,7 @@ fn rating_of(text: &[u8]) -> Option<u32>
     ensures value { result ≡ rating_of text.now }
     ensures number { IfSome result IsRatingNumber }
 {
-    rating_from(number_of(text)?)
-}
-
-/// The rating of this number, or `None` exactly where there is none.
-fn rating_from(number: u64) -> Option<u32>
-    ensures value { result ≡ kept_within 1 999_999 number }
-    ensures number { IfSome result IsRatingNumber }
-{
-    let rating = u32::try_from(number).ok()?;
-    if is_rating_number(rating) {
-        Some(rating)
-    } else {
-        None
-    }
+    rating_number_from(number_of(text)?)
 }
 
 /// The number of a measurement that a text states: 1 to 9 digits, from 1.

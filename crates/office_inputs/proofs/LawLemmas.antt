@@ -1,5 +1,5 @@
 -- What an edit leaves alone, and which days have inputs only since it.
-use Rattle.std.specs.Prelude.{◌≡◌, Bool, true, false, not, cond, List, [], ◌∷◌, ◌++◌, filter, Contains, Option, Some, None, ℕ, zero, suc, ℤ, pos, ◌+ℤ◌}
+use Rattle.std.specs.Prelude.{◌≡◌, Bool, true, false, not, cond, List, [], ◌∷◌, ◌++◌, filter, Contains, Option, Some, None, is_some, ℕ, zero, suc, ℤ, pos, ◌+ℤ◌}
 use Rattle.std.proofs.Common.{arith, refl, ap, sym, subst, ◌∙◌}
 use Rattle.std.proofs.lemmas.Bool.Decides.{Decides-int_eq}
 use Rattle.std.proofs.lemmas.Int.{ints, by_lt_z}
@@ -21,7 +21,7 @@ use Rattle.office_inputs.specs.Stations.{added, station_of, stations_after, stat
 use Rattle.station_inputs.specs.Stations.{StationRecord, new_station, station_after}
 use Rattle.office_inputs.specs.Touched.{is_filled}
 use Rattle.station_inputs.specs.Touched.{has_inputs}
-use Rattle.office_inputs.proofs.KeepLemmas.{at_place, same_place}
+use Rattle.office_inputs.proofs.KeepLemmas.{at_place, put_there, same_place}
 
 other_place : (a b : SiteNumber) → same_site a b ≡ false → site_place a ≡ site_place b → ⊥
 other_place a b n e = let t = (Decides-int_eq (site_place a) (site_place b)).1 e in absurd (cc)
@@ -57,6 +57,31 @@ station_left stations edit site n = left_step stations edit.site site edit.what 
 pub inputs_left : (stations : List StationRecord) (edit : Edit) (site : SiteNumber) (day : ℤ) → same_site edit.site site ≡ false
     → inputs_of_day (stations_after stations edit) site day ≡ inputs_of_day stations site day
 inputs_left stations edit site day n = ap (λ (o : Option StationRecord). day_of_station o day) (station_left stations edit site n)
+
+-- a station that is kept stays kept
+kept_some : (o : Option StationRecord) → is_some o ≡ true → (s : StationRecord) × (o ≡ Some s)
+kept_some None e = absurd (cc)
+kept_some (Some s) e = (s, refl)
+
+stays_here : (stations : List StationRecord) (site : SiteNumber) (what : What) (s : StationRecord) (o : Option StationRecord) → added site what ≡ o
+    → station_of stations site ≡ Some s → is_some (station_of (with_added site what o stations) site) ≡ true
+stays_here stations site what s None a e =
+    ap (λ (p : Option StationRecord). is_some (station_of (with_changed (station_after what) p stations) site)) e
+    ∙ ap is_some (put_there stations site (station_after what s) (same_place what s ∙ at_place place_of (site_place site) stations s e))
+stays_here stations site what s (Some n) a e = ap is_some (put_there stations site n (added_place site what n a))
+
+stays_step : (stations : List StationRecord) (edit : Edit) (site : SiteNumber) (b : Bool) → same_site edit.site site ≡ b
+    → is_some (station_of stations site) ≡ true → is_some (station_of (stations_after stations edit) site) ≡ true
+stays_step stations edit site false n k = ap is_some (station_left stations edit site n) ∙ k
+stays_step stations edit site true e k =
+    let one : site_place edit.site ≡ site_place site = (Decides-int_eq (site_place edit.site) (site_place site)).0 e in
+    let here = kept_some (station_of stations edit.site) (ap (λ (n : ℤ). is_some (at place_of n stations)) one ∙ k) in
+    ap (λ (n : ℤ). is_some (at place_of n (stations_after stations edit))) (sym one)
+    ∙ stays_here stations edit.site edit.what here.0 (added edit.site edit.what) refl here.1
+
+pub kept_stays : (stations : List StationRecord) (edit : Edit) (site : SiteNumber) → is_some (station_of stations site) ≡ true
+    → is_some (station_of (stations_after stations edit) site) ≡ true
+kept_stays stations edit site k = stays_step stations edit site (same_site edit.site site) refl k
 
 pub edit_more : (edits : List Edit) (edit : Edit) → stations_after (stations_of edits) edit ≡ stations_of (edits ++ edit ∷ [])
 edit_more edits edit = sym (fold_push stations_after [] edits edit)

@@ -9,20 +9,12 @@ use Rattle.history.specs.Legal.{MayBeKept}
 use Rattle.history.specs.Statuses.{locked_at, objection_at}
 use Rattle.history.specs.Verdicts.{or_else, refused_as_locked, refused_by_stations, refused_by_statuses}
 use Rattle.history.proofs.ApprovalLemmas.{sheets_fit}
-use Rattle.history.proofs.VerdictLemmas.{none_mapped}
+use Rattle.history.proofs.VerdictLemmas.{first_none, later_none, none_mapped}
 use Rattle.office_inputs.specs.Refusals as inputs
 use Rattle.office_inputs.specs.declared.refusals.Refusal.{Refusal}
 use Rattle.office_inputs.specs.declared.refusals.Refusal.TheVariants.{Locked}
 use Rattle.records.specs.Sheets.{AreSheetsOf, Record}
 use Rattle.register.specs.Asked.{readmission_refusal, refused_at_once, reused}
-
-first_none : (a b : Option Refusal) → or_else a b ≡ None → a ≡ None
-first_none None b h = refl
-first_none (Some refusal) b h = absurd (cc)
-
-later_none : (a b : Option Refusal) → or_else a b ≡ None → b ≡ None
-later_none None b h = h
-later_none (Some refusal) b h = absurd (cc)
 
 not_named : (o : Option Numbered) → reused o ≡ None → o ≡ None
 not_named None h = refl

@@ -5,15 +5,10 @@ use Rattle.edits.specs.declared.content.Edit.{Edit}
 use Rattle.history.specs.Accepted.{Numbered, edits_of, named}
 use Rattle.history.specs.Events.{History}
 use Rattle.history.specs.Statuses.{locked_at}
-use Rattle.history.specs.Verdicts.{Refuses, is_full_of_cells, is_full_of_events, is_journal_full, or_else, refused_as_awaiting, refused_as_locked, refused_by_stations, refused_by_statuses, refused_where, refusal_of, verdict, verdict_by, verdict_of_refusal}
-use Rattle.office_inputs.specs.declared.refusals.Full.TheVariants as fulls
+use Rattle.history.specs.Verdicts.{Refuses, or_else, refused_as_awaiting, refused_as_locked, refused_by_stations, refused_by_statuses, refusal_of, verdict, verdict_by, verdict_of_refusal}
+use Rattle.history.proofs.VerdictLemmas.{full_of}
 use Rattle.office_inputs.specs.declared.refusals.Refusal.{Refusal}
-use Rattle.office_inputs.specs.declared.refusals.Refusal.TheVariants.{HistoryFull, JournalFull, Locked}
-
-abbrev pub full_of : History → Edit → Option Refusal
-full_of h edit =
-    or_else (refused_where (is_full_of_events h edit) (HistoryFull fulls.Events))
-    (or_else (refused_where (is_full_of_cells h edit) (HistoryFull fulls.Cells)) (refused_where (is_journal_full h edit) JournalFull))
+use Rattle.office_inputs.specs.declared.refusals.Refusal.TheVariants.{Locked}
 
 module _ (h : History) (edit : Edit) (new : named (edits_of h.events) edit.reference ≡ None) (stations : refused_by_stations h edit ≡ None)
     (statuses : refused_by_statuses h edit ≡ None) (awaits : refused_as_awaiting h edit ≡ None) where

@@ -1,6 +1,6 @@
 -- The days of a review, gone over one after another, and the sheets of an approval.
 use Rattle.std.specs.Prelude.{◌≡◌, ℕ, Bool, true, false, ◌&&◌, List, [], ◌∷◌, ◌++◌, length, map, filter, All, Option, Some, None, is_some, option_map, ℤ, pos, ◌+ℤ◌, ◌-ℤ◌, ◌≤ℤ◌, ◌<ℤ◌}
-use Rattle.std.proofs.Common.{arith, refl, ap, sym, ◌∙◌, append_assoc}
+use Rattle.std.proofs.Common.{arith, refl, ap, sym, subst, ◌∙◌, append_assoc}
 use Rattle.std.proofs.lemmas.Int.{ints}
 use Rattle.std.proofs.lemmas.List.{append-nil, length-map}
 use Rattle.std.proofs.lemmas.List.Elements.{All-append, All-cons, All-nil}
@@ -11,6 +11,7 @@ use Rattle.depend.proofs.CalendarLemmas.{calendar_span, counted, within_cons, wi
 use Rattle.fixed_units.specs.Calendar.{calendar}
 use Rattle.fixed_units.specs.Quantities.{IsDay, SiteNumber}
 use Rattle.fixed_units.proofs.CalendarLemmas.{filter_days_all, length_from}
+use Rattle.daily_values.specs.declared.day_values.DayValue.{DayValue}
 use Rattle.day_cells.specs.KeptDays.{KeptDays}
 use Rattle.history.specs.Awaited.{awaited, is_pending, value_at}
 use Rattle.history.specs.Events.{Event}
@@ -22,6 +23,7 @@ use Rattle.office_inputs.specs.declared.refusals.Refusal.TheVariants.{Awaits}
 use Rattle.recompute.specs.Cells.{awaited_in, value_in}
 use Rattle.records.specs.Sheets.{AreSheetsOfDays, IsSheet}
 use Rattle.register.specs.Keeping.{Tells}
+use Rattle.register.specs.Registered.{Registered}
 
 -- the days of a span stand one after another
 pub days_spanned : (from to : ℤ) → IsDay from → IsDay to → from ≤ℤ to → filter (spans from to) calendar ≡ days_within from to
@@ -87,6 +89,20 @@ made_are text from to next sheets o past h =
     let long = ap length whole ∙ length-map (days_within from to) text ∙ length_from from (count_of (to +ℤ pos 1 -ℤ from)) in
     let count = counted (to +ℤ pos 1 -ℤ from) (omega (arith, ints)) in
     record { one_a_day = ap pos long ∙ count ∙ omega (arith, ints); each = h.each }
+
+-- the cells within a register, seen from outside
+pub cells_seen : (view seen : Registered) → view ≡ seen → Tells view.history.events view.cells → Tells seen.history.events seen.cells
+cells_seen view seen is tell = subst (λ (r : Registered). Tells r.history.events r.cells) is tell
+
+pub awaited_seen : (view seen : Registered) → view ≡ seen → (site : SiteNumber) (day number : ℤ) → day ≡ number → (own : Option ℕ) → own ≡ awaited_in view.cells site day
+    → own ≡ awaited_in seen.cells site number
+awaited_seen view seen is site day number same own e =
+    e ∙ ap (λ (d : ℤ). awaited_in view.cells site d) same ∙ ap (λ (r : Registered). awaited_in r.cells site number) is
+
+pub value_seen : (view seen : Registered) → view ≡ seen → (site : SiteNumber) (day number : ℤ) → day ≡ number → (own : DayValue) → own ≡ value_in view.cells site day
+    → own ≡ value_in seen.cells site number
+value_seen view seen is site day number same own e =
+    e ∙ ap (λ (d : ℤ). value_in view.cells site d) same ∙ ap (λ (r : Registered). value_in r.cells site number) is
 
 -- the cells tell which day of a span awaits an edit
 module _ (events : List Event) (cells : List KeptDays) (told : Tells events cells) (site : SiteNumber) (from to : ℤ) where

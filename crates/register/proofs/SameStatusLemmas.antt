@@ -1,10 +1,11 @@
 -- What is asked of the statuses hangs on those of the days of the calendar alone.
 use Rattle.std.specs.Prelude.{◌≡◌, ℕ, Bool, not, ◌&&◌, cond, List, [], ◌∷◌, length, find, All, Option, Some, option_map, ℤ}
-use Rattle.std.proofs.Common.{refl, ap, sym, ◌∙◌}
+use Rattle.std.proofs.Common.{refl, ap, sym, subst, ◌∙◌}
 use Rattle.std.proofs.lemmas.List.Elements.{All-head, All-tail, All-filter, All-weaker}
 use Rattle.std.proofs.lemmas.List.Sums.{length-filter}
 use Rattle.approval.specs.Kept.{KeptSite, standing_in}
 use Rattle.approval.specs.Statuses.{Standing, approved_days, first_approved, first_day_of, is_approved, is_in_review, is_reviewed_by, objection_of, or_else, spans}
+use Rattle.approval.specs.declared.objections.Objection.{Objection}
 use Rattle.approval.specs.declared.objections.Objection.TheVariants.{NotInReview, SamePerson, NotApproved, AlreadyApproved}
 use Rattle.approval.specs.declared.status.Status.{Status}
 use Rattle.edits.specs.declared.content.Edit.{Edit}
@@ -21,6 +22,7 @@ use Rattle.history.proofs.CountLemmas.{filter_same}
 use Rattle.history.proofs.PendingLemmas.{calendar_days}
 use Rattle.office_inputs.specs.Changes.{changed_days, keeps_day}
 use Rattle.register.specs.Keeping.{TellsStatuses}
+use Rattle.register.specs.Registered.{Registered}
 
 find_step : (b c : Bool) (x : ℤ) (o p : Option ℤ) → b ≡ c → o ≡ p → cond b (Some x) o ≡ cond c (Some x) p
 find_step b c x o p e f = rw (e, f) refl
@@ -91,3 +93,25 @@ module _ (events : List Event) (kept : List KeptSite) (told : TellsStatuses even
       ap (first_approved (λ day. (standing_in kept edit.site day).status)) e
       ∙ approved_same (λ d. (standing_in kept edit.site d).status) (λ d. status_at events edit.site d) told_status (changed_days (stations_at events) edit)
       (All-filter (λ day. not (keeps_day (stations_at events) edit day)) IsDay calendar calendar_days)
+
+-- the statuses within a register, seen from outside
+pub statuses_seen : (view seen : Registered) → view ≡ seen → TellsStatuses view.history.events view.statuses → TellsStatuses seen.history.events seen.statuses
+statuses_seen view seen is tell = subst (λ (r : Registered). TellsStatuses r.history.events r.statuses) is tell
+
+-- what they have against an edit, and the approved day that it would change
+pub objection_seen : (view seen : Registered) → view ≡ seen → TellsStatuses view.history.events view.statuses → (own edit : Edit) → own ≡ edit → (told : Option Objection)
+    → told ≡ objection_of (λ day. (standing_in view.statuses own.site day).status) own.by own.what → told ≡ objection_at seen.history.events edit
+objection_seen view seen is tell own edit same told e =
+    e
+    ∙ ap (λ (x : Edit). objection_of (λ day. (standing_in view.statuses x.site day).status) x.by x.what) same
+    ∙ ap (λ (r : Registered). objection_of (λ day. (standing_in r.statuses edit.site day).status) edit.by edit.what) is
+    ∙ objection_told seen.history.events seen.statuses (statuses_seen view seen is tell) edit
+
+pub locked_seen : (view seen : Registered) → view ≡ seen → TellsStatuses view.history.events view.statuses → (own edit : Edit) → own ≡ edit → (days : List ℤ)
+    → days ≡ changed_days (stations_at seen.history.events) edit → (locked : Option ℤ)
+    → locked ≡ first_approved (λ day. (standing_in view.statuses own.site day).status) days → locked ≡ locked_at seen.history.events edit
+locked_seen view seen is tell own edit same days changed locked e =
+    e
+    ∙ ap (λ (x : Edit). first_approved (λ day. (standing_in view.statuses x.site day).status) days) same
+    ∙ ap (λ (r : Registered). first_approved (λ day. (standing_in r.statuses edit.site day).status) days) is
+    ∙ locked_told seen.history.events seen.statuses (statuses_seen view seen is tell) edit days changed

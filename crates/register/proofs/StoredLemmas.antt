@@ -7,7 +7,7 @@ use Rattle.std.proofs.lemmas.Bool.Decides.{Decides-int_eq}
 use Rattle.std.proofs.lemmas.Int.{ints}
 use Rattle.std.proofs.lemmas.List.{append-nil, append_assoc}
 use Rattle.std.proofs.lemmas.List.Elements.{All-head, All-tail}
-use Rattle.approval.specs.Statuses.{Standing, after_what, is_approved, spans}
+use Rattle.approval.specs.Statuses.{Standing, is_approved, spans}
 use Rattle.day_inputs.specs.declared.day_inputs.DayInputs.{DayInputs}
 use Rattle.daily_values.specs.DayValue.{day_value}
 use Rattle.daily_values.specs.declared.day_values.DayValue.{DayValue}
@@ -22,17 +22,17 @@ use Rattle.edits.specs.Lawful.{IsLawful, IsReviewSpan}
 use Rattle.fixed_units.specs.Calendar.{calendar, days_from}
 use Rattle.fixed_units.specs.Quantities.{SiteNumber, IsDay, IsSite, site_place, same_site}
 use Rattle.fixed_units.proofs.SiteLemmas.{Decides-same_site}
-use Rattle.history.specs.Accepted.{accepted, changes, stations_at, record_numbered}
+use Rattle.history.specs.Accepted.{accepted, stations_at, record_numbered}
 use Rattle.history.specs.Awaited.{inputs_at, value_at}
 use Rattle.history.specs.Events.{Event, Accepted, Published, Faulted}
 use Rattle.history.specs.Legal.{IsMade, IsOrderly, MayBeKept}
 use Rattle.history.specs.Sheets.{IsFromScratch}
-use Rattle.history.specs.Statuses.{sheet_by, sheet_in, sheet_kept, sheet_of, standing_at, status_at, stored_sheet}
+use Rattle.history.specs.Statuses.{sheet_by, sheet_in, sheet_of, standing_at, status_at, stored_sheet}
 use Rattle.history.specs.Verdicts.{sheets_of}
-use Rattle.history.proofs.ApprovalLemmas.{IsApproval, distance, last_numbered, made_by, spans_is}
+use Rattle.history.proofs.ApprovalLemmas.{IsApproval, distance, spans_is}
 use Rattle.history.proofs.ApprovedLemmas.{inputs_step, record_stays, same_records, sheet_stays, standing_within}
-use Rattle.history.proofs.EventLemmas.{accepted_accepted, accepted_all, accepted_published, accepted_faulted, stations_accepted}
-use Rattle.history.proofs.StandingLemmas.{standing_accepted}
+use Rattle.history.proofs.EventLemmas.{accepted_all, accepted_published, accepted_faulted, stations_accepted}
+use Rattle.history.proofs.StandingLemmas.{approved_behind, last_record, standing_elsewhere}
 use Rattle.history.proofs.StationLemmas.{found_place, places_equal, same_day}
 use Rattle.office_inputs.specs.Stations as in_force
 use Rattle.office_inputs.specs.Stations.{day_of_station, inputs_of_day, place_of, station_of, stations_after, with_changed}
@@ -122,16 +122,14 @@ module _ (limits : Limits) (first : List Record) (site : SiteNumber) (day : ℤ)
 
   -- a day that is approved by this very edit
   approved_now : (events : List Event) (piece : Record) → IsMade events piece → same_site piece.edit.site site ≡ true
-      → (t : Standing) → standing_at (events ++ Accepted piece ∷ []) site day ≡ t → IsApproval (length (accepted events) + 1) piece.edit.what day t
-      → is_approved t.status ≡ true → IsStored (events ++ Accepted piece ∷ [])
-  approved_now events piece made same t is_t a approved =
+      → IsApproval (length (accepted events) + 1) piece.edit.what day (standing_at (events ++ Accepted piece ∷ []) site day)
+      → is_approved (status_at (events ++ Accepted piece ∷ []) site day) ≡ true → IsStored (events ++ Accepted piece ∷ [])
+  approved_now events piece made same a approved =
       let more = events ++ Accepted piece ∷ [] in
-      let number = length (accepted events) + 1 in
       let place = places_equal piece.edit.site site same in
       let text : ℤ → List ℕ = λ d. sheet piece.edit.site d (value_at events piece.edit.site d) true in
       let span : IsReviewSpan a.from a.to = subst IsLawful a.what_is piece.edit.lawful in
-      let kept : record_numbered more number ≡ Some piece =
-      ap (λ (ps : List Record). cond (number == 0) None (slice_get ps (number - 1))) (accepted_accepted events piece) ∙ last_numbered (accepted events) piece in
+      let kept = last_record events piece in
       let sheets : piece.sheets ≡ map text (filter (spans a.from a.to) calendar) =
       made.sheets ∙ ap (λ (w : What). sheets_of events piece.edit.site w) a.what_is in
       let found : sheet_in day piece ≡ Some (text day) =
@@ -144,11 +142,10 @@ module _ (limits : Limits) (first : List Record) (site : SiteNumber) (day : ℤ)
       ∙ decided_inputs (stations_at events) piece.edit site day a.from a.to Approve a.what_is)) in
       record {
         approval = piece;
-        approved_by = ap (λ (s : Standing). record_numbered more s.edit) is_t ∙ ap (record_numbered more) a.edit_is ∙ kept;
+        approved_by = ap (record_numbered more) a.edit_is ∙ kept;
         of_site = same;
         text =
-            ap (sheet_kept more site day) is_t
-            ∙ ap (λ (b : Bool). cond b (sheet_of (record_numbered more t.edit) day) None) approved
+            ap (λ (b : Bool). cond b (sheet_of (record_numbered more (standing_at more site day).edit) day) None) approved
             ∙ ap (λ n. sheet_of (record_numbered more n) day) a.edit_is
             ∙ ap (λ (o : Option Record). sheet_of o day) kept
             ∙ found
@@ -158,22 +155,11 @@ module _ (limits : Limits) (first : List Record) (site : SiteNumber) (day : ℤ)
   accepted_step : (events : List Event) (piece : Record) (b : Bool) → same_site piece.edit.site site ≡ b → MayBeKept limits events piece → IsMade events piece
       → Told events → Told (events ++ Accepted piece ∷ [])
   accepted_step events piece false e m made told approved late =
-      told_on events (Accepted piece)
-      (standing_accepted events piece site day
-      ∙ ap (λ (b : Bool). cond b (after_what (length (accepted events) + 1) piece.edit.by piece.edit.what (changes (stations_at events) piece.edit site day) day (standing_at events site day))
-      (standing_at events site day)) e)
-      (inputs_step limits site day is events piece m) told approved late
+      told_on events (Accepted piece) (standing_elsewhere events piece site day e) (inputs_step limits site day is events piece m) told approved late
   accepted_step events piece true e m made told approved late =
-      let more = events ++ Accepted piece ∷ [] in
-      let number = length (accepted events) + 1 in
-      let changed = changes (stations_at events) piece.edit site day in
-      let s = standing_at events site day in
-      let t = after_what number piece.edit.by piece.edit.what changed day s in
-      let is_t : standing_at more site day ≡ t = standing_accepted events piece site day ∙ ap (λ (b : Bool). cond b t s) e in
-      let approved_t = ap (λ (x : Standing). is_approved x.status) (sym is_t) ∙ approved in
-      elim (made_by number piece.edit.by piece.edit.what changed day s approved_t) [
-        | inl same ↦ told_on events (Accepted piece) (is_t ∙ same) (inputs_step limits site day is events piece m) told approved late
-        | inr a ↦ approved_now events piece made e t is_t a approved_t
+      elim (approved_behind events piece site day e approved) [
+        | inl same ↦ told_on events (Accepted piece) same (inputs_step limits site day is events piece m) told approved late
+        | inr a ↦ approved_now events piece made e a approved
       ]
 
   other_step : (events : List Event) (e : Event) → accepted (events ++ e ∷ []) ≡ accepted events → Told events → Told (events ++ e ∷ [])

@@ -1,5 +1,5 @@
 -- The inputs of a day where a series of its station is changed: they stay exactly where the entries that bear on its window do.
-use Rattle.std.specs.Prelude.{◌≡◌, ℕ, Bool, true, false, not, cond, ◌==◌, ◌||◌, List, [], ◌∷◌, Option, Some, None, IfSome, ℤ, pos, ◌+ℤ◌, ◌≤ℤ◌}
+use Rattle.std.specs.Prelude.{◌≡◌, ℕ, Bool, true, false, not, cond, ◌==◌, ◌||◌, List, [], Option, Some, None, IfSome, ℤ, pos, ◌+ℤ◌, ◌≤ℤ◌}
 use Rattle.std.proofs.Common.{refl, ap, sym, subst, ◌∙◌}
 use Rattle.fixed_units.specs.declared.readings.Reading.{Reading}
 use Rattle.curves.specs.declared.entries.Entry.{Entry}
@@ -10,8 +10,8 @@ use Rattle.curves.specs.Equality.{same_entries, has_entry}
 use Rattle.curves.proofs.ChangeLemmas.{bearing_put, bearing_without}
 use Rattle.curves.proofs.EqualityLemmas.{lists_decide}
 use Rattle.ratings.specs.Numbered.{StationRatings}
-use Rattle.ratings.specs.Parts as rating_parts
-use Rattle.day_inputs.specs.DayInputs.{last_at, window_ends, with_window}
+use Rattle.ratings.specs.Parts.{parts}
+use Rattle.day_inputs.specs.DayInputs.{window_ends}
 use Rattle.day_inputs.specs.Equality.{same_inputs}
 use Rattle.day_inputs.specs.declared.day_inputs.DayInputs.{DayInputs}
 use Rattle.day_inputs.specs.declared.day_inputs.DayInputs.TheVariants.{Empty, Day}
@@ -20,7 +20,8 @@ use Rattle.station_inputs.specs.Stations.{StationRecord, estimated_discharge, se
 use Rattle.station_inputs.specs.declared.series.StationSeries.{StationSeries}
 use Rattle.station_inputs.specs.declared.series.StationSeries.TheVariants.{Correction, Shift}
 use Rattle.station_inputs.proofs.SeriesLemmas.{nothing_taken}
-use Rattle.station_inputs.proofs.StationLemmas.{same_of, other_of}
+use Rattle.station_inputs.proofs.StationLemmas.{same_of, told_by}
+use Rattle.station_inputs.proofs.WindowDays.{carried, carrying, with_ends, without_window}
 
 -- the entries that a day's inputs carry
 abbrev in_first : DayInputs → List Entry
@@ -40,25 +41,13 @@ in_shifts Empty = []
 in_shifts (Day p) = p.shifts
 
 -- the inputs of a day that has this window
-module _ (gap : ℕ) (stages discharges : List ℕ) (from until : ℤ) (w : List Reading) (lo hi : ℤ) (ratings : StationRatings) (estimate : Option ℤ) where
-  abbrev carrying : List Entry → List Entry → List Entry → List Entry → DayInputs
-  carrying one two three four = Day (record {
-    gap = gap;
-    stage_array = stages;
-    discharge_array = discharges;
-    from = from;
-    until = until;
-    window = w;
-    first = one;
-    second = two;
-    third = three;
-    shifts = four;
-    periods = rating_parts.parts lo hi ratings.tables ratings.periods;
-    estimate = estimate;
-  })
+module _ (gap : ℕ) (stages discharges : List ℕ) (from until : ℤ) (w : List Reading) (estimate : Option ℤ) (lo hi : ℤ) (ratings : StationRatings) where
+  -- with these entries of its series
+  abbrev bearing_day : List Entry → List Entry → List Entry → List Entry → DayInputs
+  bearing_day one two three four = carrying gap stages discharges from until w estimate one two three four (parts lo hi ratings.tables ratings.periods)
 
   abbrev day_with : Corrections → List Entry → DayInputs
-  day_with c sh = carrying (bearing lo hi c.first) (bearing lo hi c.second) (bearing lo hi c.third) (bearing lo hi sh)
+  day_with c sh = carried gap stages discharges from until w estimate lo hi c sh ratings
 
   -- with one of the sets changed
   abbrev set_in : Bool → Bool → Corrections → List Entry
@@ -72,9 +61,9 @@ module _ (gap : ℕ) (stages discharges : List ℕ) (from until : ℤ) (w : List
 
   set_same : (one two : Bool) (change : List Entry → List Entry) (c : Corrections) (sh : List Entry)
       → bearing lo hi (set_in one two c) ≡ bearing lo hi (change (set_in one two c)) → day_with c sh ≡ day_with (set_changed one two change c) sh
-  set_same true two change c sh e = ap (λ (x : List Entry). carrying x (bearing lo hi c.second) (bearing lo hi c.third) (bearing lo hi sh)) e
-  set_same false true change c sh e = ap (λ (x : List Entry). carrying (bearing lo hi c.first) x (bearing lo hi c.third) (bearing lo hi sh)) e
-  set_same false false change c sh e = ap (λ (x : List Entry). carrying (bearing lo hi c.first) (bearing lo hi c.second) x (bearing lo hi sh)) e
+  set_same true two change c sh e = ap (λ (x : List Entry). bearing_day x (bearing lo hi c.second) (bearing lo hi c.third) (bearing lo hi sh)) e
+  set_same false true change c sh e = ap (λ (x : List Entry). bearing_day (bearing lo hi c.first) x (bearing lo hi c.third) (bearing lo hi sh)) e
+  set_same false false change c sh e = ap (λ (x : List Entry). bearing_day (bearing lo hi c.first) (bearing lo hi c.second) x (bearing lo hi sh)) e
 
   set_back : (one two : Bool) (change : List Entry → List Entry) (c : Corrections) (sh : List Entry)
       → day_with c sh ≡ day_with (set_changed one two change c) sh → bearing lo hi (set_in one two c) ≡ bearing lo hi (change (set_in one two c))
@@ -87,7 +76,7 @@ module _ (gap : ℕ) (stages discharges : List ℕ) (from until : ℤ) (w : List
       → bearing lo hi (entries_in which c sh) ≡ bearing lo hi (change (entries_in which c sh))
       → day_with c sh ≡ day_with (corrections_with which change c) (shifts_with which change sh)
   same_days (Correction set) change c sh e = set_same (set == 1) (set == 2) change c sh e
-  same_days Shift change c sh e = ap (λ (x : List Entry). carrying (bearing lo hi c.first) (bearing lo hi c.second) (bearing lo hi c.third) x) e
+  same_days Shift change c sh e = ap (λ (x : List Entry). bearing_day (bearing lo hi c.first) (bearing lo hi c.second) (bearing lo hi c.third) x) e
 
   same_back : (which : StationSeries) (change : List Entry → List Entry) (c : Corrections) (sh : List Entry)
       → day_with c sh ≡ day_with (corrections_with which change c) (shifts_with which change sh)
@@ -95,25 +84,14 @@ module _ (gap : ℕ) (stages discharges : List ℕ) (from until : ℤ) (w : List
   same_back (Correction set) change c sh e = set_back (set == 1) (set == 2) change c sh e
   same_back Shift change c sh e = ap in_shifts e
 
-  told_step : (which : StationSeries) (change : List Entry → List Entry) (c : Corrections) (sh : List Entry) (b : Bool)
-      → same_entries (bearing lo hi (entries_in which c sh)) (bearing lo hi (change (entries_in which c sh))) ≡ b
-      → b ≡ same_inputs (day_with c sh) (day_with (corrections_with which change c) (shifts_with which change sh))
-  told_step which change c sh true e =
-      let bearing_same = (lists_decide (bearing lo hi (entries_in which c sh)) (bearing lo hi (change (entries_in which c sh)))).0 e in
-      sym (same_of (day_with c sh) (day_with (corrections_with which change c) (shifts_with which change sh)) (same_days which change c sh bearing_same))
-  told_step which change c sh false e =
-      sym (other_of (day_with c sh) (day_with (corrections_with which change c) (shifts_with which change sh))
-      (λ d. absurd (let t = (lists_decide (bearing lo hi (entries_in which c sh)) (bearing lo hi (change (entries_in which c sh)))).1 (same_back which change c sh d) in cc)))
-
--- the inputs of a day by the ends of its window
-with_ends : (gap : ℕ) (stages discharges : List ℕ) (from until : ℤ) (w : List Reading) (lo hi : ℤ) (c : Corrections) (sh : List Entry) (ratings : StationRatings) (estimate : Option ℤ)
-    → window_ends w ≡ Some (lo, hi) → with_window gap stages discharges from until c sh ratings w estimate ≡ day_with gap stages discharges from until w lo hi ratings estimate c sh
-with_ends gap stages discharges from until [] lo hi c sh ratings estimate e = absurd (cc)
-with_ends gap stages discharges from until (r ∷ rs) lo hi c sh ratings estimate e =
-    let p : ◌≡◌ {A = ℤ × ℤ} (r.at, last_at r rs) (lo, hi) = cc in
-    let f : lo ≡ r.at = sym (ap (λ (x : ℤ × ℤ). x.0) p) in
-    let g : hi ≡ last_at r rs = sym (ap (λ (x : ℤ × ℤ). x.1) p) in
-    rw (f, g) refl
+  series_step : (which : StationSeries) (change : List Entry → List Entry) (c : Corrections) (sh : List Entry)
+      → same_entries (bearing lo hi (entries_in which c sh)) (bearing lo hi (change (entries_in which c sh)))
+      ≡ same_inputs (day_with c sh) (day_with (corrections_with which change c) (shifts_with which change sh))
+  series_step which change c sh =
+      let old = bearing lo hi (entries_in which c sh) in
+      let new = bearing lo hi (change (entries_in which c sh)) in
+      told_by (day_with c sh) (day_with (corrections_with which change c) (shifts_with which change sh)) (same_entries old new)
+      (λ e. same_days which change c sh ((lists_decide old new).0 e)) (λ d. (lists_decide old new).1 (same_back which change c sh d))
 
 -- a day keeps its inputs where its bearing entries stay
 series_told : (s : StationRecord) (day : ℤ) (which : StationSeries) (change : List Entry → List Entry) (lo hi : ℤ) → window_ends (station_window s day) ≡ Some (lo, hi)
@@ -125,24 +103,18 @@ series_told s day which change lo hi e =
     let q = estimated_discharge s day in
     let c = corrections_with which change s.corrections in
     let sh = shifts_with which change s.shifts in
-    told_step s.gap s.stage_array s.discharge_array a b w lo hi s.ratings q which change s.corrections s.shifts
-    (same_entries (bearing lo hi (series_of which s)) (bearing lo hi (change (series_of which s)))) refl
-    ∙ ap (λ (x : DayInputs). same_inputs x (day_with s.gap s.stage_array s.discharge_array a b w lo hi s.ratings q c sh))
-    (sym (with_ends s.gap s.stage_array s.discharge_array a b w lo hi s.corrections s.shifts s.ratings q e))
-    ∙ ap (λ (x : DayInputs). same_inputs (station_day s day) x) (sym (with_ends s.gap s.stage_array s.discharge_array a b w lo hi c sh s.ratings q e))
+    series_step s.gap s.stage_array s.discharge_array a b w q lo hi s.ratings which change s.corrections s.shifts
+    ∙ ap (λ (x : DayInputs). same_inputs x (day_with s.gap s.stage_array s.discharge_array a b w q lo hi s.ratings c sh))
+    (sym (with_ends s.gap s.stage_array s.discharge_array a b w q lo hi s.corrections s.shifts s.ratings e))
+    ∙ ap (λ (x : DayInputs). same_inputs (station_day s day) x) (sym (with_ends s.gap s.stage_array s.discharge_array a b w q lo hi c sh s.ratings e))
 
 -- a day without a window keeps them whatever is changed
-empty_step : (gap : ℕ) (stages discharges : List ℕ) (from until : ℤ) (w : List Reading) (c d : Corrections) (sh th : List Entry) (ratings : StationRatings) (estimate : Option ℤ) → window_ends w ≡ None
-    → with_window gap stages discharges from until c sh ratings w estimate ≡ with_window gap stages discharges from until d th ratings w estimate
-empty_step gap stages discharges from until [] c d sh th ratings estimate e = refl
-empty_step gap stages discharges from until (r ∷ rs) c d sh th ratings estimate e = absurd (cc)
-
 pub empty_told : (s : StationRecord) (day : ℤ) (which : StationSeries) (change : List Entry → List Entry) → window_ends (station_window s day) ≡ None
     → true ≡ same_inputs (station_day s day) (station_day (with_series which change s) day)
 empty_told s day which change e =
     sym (same_of (station_day s day) (station_day (with_series which change s) day)
-    (empty_step s.gap s.stage_array s.discharge_array (day_start s day) (day_start s (day +ℤ pos 1)) (station_window s day) s.corrections
-    (corrections_with which change s.corrections) s.shifts (shifts_with which change s.shifts) s.ratings (estimated_discharge s day) e))
+    (without_window s.gap s.stage_array s.discharge_array (day_start s day) (day_start s (day +ℤ pos 1)) (station_window s day) (estimated_discharge s day)
+    s.corrections (corrections_with which change s.corrections) s.shifts (shifts_with which change s.shifts) s.ratings s.ratings e))
 
 -- the window of a day goes from one instant to another, not before it
 pub record IsSpanned (s : StationRecord) (day lo hi : ℤ) : Type 0 where

@@ -11,4 +11,5 @@ pub mod PeriodDays
 pub mod SeriesLemmas
 pub mod SpanLemmas
 pub mod StationLemmas
+pub mod WindowDays
 pub mod WindowSpans

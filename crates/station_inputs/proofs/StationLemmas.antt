@@ -195,23 +195,25 @@ other_step p q false n e = refl
 pub other_of : (p q : DayInputs) → p ≢ q → same_inputs p q ≡ false
 other_of p q n = other_step p q (same_inputs p q) n refl
 
+-- a test tells whether two days' inputs are the same, where it holds exactly if they are
+pub told_by : (p q : DayInputs) (b : Bool) → (b ≡ true → p ≡ q) → (p ≡ q → b ≡ true) → b ≡ same_inputs p q
+told_by p q true there back = sym (same_of p q (there refl))
+told_by p q false there back = sym (other_of p q (λ d. absurd (let t = back d in cc)))
+
 -- the inputs of a day stay where its window does
-window_same : (gap : ℕ) (stages discharges : List ℕ) (from until : ℤ) (sets : Corrections) (shifts : List Entry) (ratings : StationRatings) (estimate : Option ℤ) (old new : List Reading) (b : Bool)
-    → same_readings old new ≡ b → b ≡ same_inputs (inputs gap stages discharges from until sets shifts ratings old estimate) (inputs gap stages discharges from until sets shifts ratings new estimate)
-window_same gap stages discharges from until sets shifts ratings estimate old new true e =
+window_same : (gap : ℕ) (stages discharges : List ℕ) (from until : ℤ) (sets : Corrections) (shifts : List Entry) (ratings : StationRatings) (estimate : Option ℤ) (old new : List Reading)
+    → same_readings old new ≡ same_inputs (inputs gap stages discharges from until sets shifts ratings old estimate) (inputs gap stages discharges from until sets shifts ratings new estimate)
+window_same gap stages discharges from until sets shifts ratings estimate old new =
     let day : List Reading → DayInputs = λ w. inputs gap stages discharges from until sets shifts ratings w estimate in
-    sym (same_of (day old) (day new) (ap day ((lists_decide old new).0 e)))
-window_same gap stages discharges from until sets shifts ratings estimate old new false e =
-    let day : List Reading → DayInputs = λ w. inputs gap stages discharges from until sets shifts ratings w estimate in
-    sym (other_of (day old) (day new) (λ f.
-    let same : old ≡ new = sym (window_told gap stages discharges from until sets shifts ratings old estimate) ∙ ap window_of f ∙ window_told gap stages discharges from until sets shifts ratings new estimate in
-    absurd (let t = (lists_decide old new).1 same in cc)))
+    told_by (day old) (day new) (same_readings old new) (λ e. ap day ((lists_decide old new).0 e))
+    (λ f. (lists_decide old new).1
+    (sym (window_told gap stages discharges from until sets shifts ratings old estimate) ∙ ap window_of f ∙ window_told gap stages discharges from until sets shifts ratings new estimate))
 
 pub readings_told : (s : StationRecord) (day : ℤ) (change : List Reading → List Reading)
     → same_readings (station_window s day) (station_window (with_readings change s) day) ≡ same_inputs (station_day s day) (station_day (with_readings change s) day)
 readings_told s day change =
     window_same s.gap s.stage_array s.discharge_array (day_start s day) (day_start s (day +ℤ pos 1)) s.corrections s.shifts s.ratings (estimated_discharge s day)
-    (station_window s day) (station_window (with_readings change s) day) (same_readings (station_window s day) (station_window (with_readings change s) day)) refl
+    (station_window s day) (station_window (with_readings change s) day)
 
 -- the same as it is asked at the instants of a day, of a station that is kept with room
 not_not : (b : Bool) → not (not b) ≡ b
@@ -237,22 +239,19 @@ altered_kept kept view e day change from until altered =
     subst (λ (k : KeptStation). AlteredDay day change from until altered view k) e (altered_here view.station day change from until altered)
 
 -- the inputs of a day stay where its estimate does
-estimate_same : (gap : ℕ) (stages discharges : List ℕ) (from until : ℤ) (sets : Corrections) (shifts : List Entry) (ratings : StationRatings) (w : List Reading) (old new : Option ℤ) (b : Bool)
-    → same_estimate old new ≡ b → b ≡ same_inputs (inputs gap stages discharges from until sets shifts ratings w old) (inputs gap stages discharges from until sets shifts ratings w new)
-estimate_same gap stages discharges from until sets shifts ratings w old new true e =
+estimate_same : (gap : ℕ) (stages discharges : List ℕ) (from until : ℤ) (sets : Corrections) (shifts : List Entry) (ratings : StationRatings) (w : List Reading) (old new : Option ℤ)
+    → same_estimate old new ≡ same_inputs (inputs gap stages discharges from until sets shifts ratings w old) (inputs gap stages discharges from until sets shifts ratings w new)
+estimate_same gap stages discharges from until sets shifts ratings w old new =
     let day : Option ℤ → DayInputs = λ q. inputs gap stages discharges from until sets shifts ratings w q in
-    sym (same_of (day old) (day new) (ap day ((estimates_decide old new).0 e)))
-estimate_same gap stages discharges from until sets shifts ratings w old new false e =
-    let day : Option ℤ → DayInputs = λ q. inputs gap stages discharges from until sets shifts ratings w q in
-    sym (other_of (day old) (day new) (λ f.
-    let same : old ≡ new = sym (estimate_told gap stages discharges from until sets shifts ratings w old) ∙ ap estimate_in f ∙ estimate_told gap stages discharges from until sets shifts ratings w new in
-    absurd (let t = (estimates_decide old new).1 same in cc)))
+    told_by (day old) (day new) (same_estimate old new) (λ e. ap day ((estimates_decide old new).0 e))
+    (λ f. (estimates_decide old new).1
+    (sym (estimate_told gap stages discharges from until sets shifts ratings w old) ∙ ap estimate_in f ∙ estimate_told gap stages discharges from until sets shifts ratings w new))
 
 pub estimates_told : (s : StationRecord) (day : ℤ) (change : List Estimate → List Estimate)
     → same_estimate (estimated_discharge s day) (estimated_discharge (with_estimates change s) day) ≡ same_inputs (station_day s day) (station_day (with_estimates change s) day)
 estimates_told s day change =
     estimate_same s.gap s.stage_array s.discharge_array (day_start s day) (day_start s (day +ℤ pos 1)) s.corrections s.shifts s.ratings (station_window s day)
-    (estimated_discharge s day) (estimated_discharge (with_estimates change s) day) (same_estimate (estimated_discharge s day) (estimated_discharge (with_estimates change s) day)) refl
+    (estimated_discharge s day) (estimated_discharge (with_estimates change s) day)
 
 -- a station described as it is keeps each day
 pub described_same : (s : StationRecord) (day : ℤ) (name : List ℕ) (gap : ℕ) (stages discharges : List ℕ)

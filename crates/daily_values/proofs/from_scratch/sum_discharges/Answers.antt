@@ -1,36 +1,26 @@
 -- The pairs are those of the discharges of a day.
-use Rattle.std.proofs.Common.{refl, ap, sym, ◌∙◌, ◌<ℤ◌, subst, arith}
-use Rattle.std.specs.Prelude.{All, map, sum_by}
+use Rattle.std.proofs.Common.{refl, ap, sym, ◌∙◌, subst}
+use Rattle.std.specs.Prelude.{All, sum_by}
 use Rattle.fixed_units.specs.Quantities.{most_discharge}
-use Rattle.daily_values.specs.DayValue.{Point, units_of, neighbours, discharge_point, pair_seconds, twice_areas}
+use Rattle.daily_values.specs.DayValue.{Point, neighbours, discharge_point, pair_seconds, twice_areas}
 use Rattle.daily_values.specs.Figures.{IsValueWithin}
-use Rattle.daily_values.proofs.AreaLemmas.{covered-le, day_length-le, points-rise, units-rise}
-use Rattle.daily_values.proofs.SumLemmas.{pairs-keep, pairs-rise, sum-is}
+use Rattle.daily_values.proofs.SumLemmas.{made-rise, made-room, pairs-keep, pairs-made, sum-is}
 use Rattle.daily_values.proofs.from_scratch.sum_discharges.Goals as goal
 
 pub add_areas-requires-clause-rising : goal.add_areas-requires-clause-rising
 add_areas-requires-clause-rising c =
-    let day = c.args.parts.now in
-    let points = c.deref.ensures.value ∙ c.in_ok-points.ensures.points in
-    let pairs = c.deref-2.ensures.value ∙ c.in_ok-pairs.ensures ∙ ap neighbours points in
-    let rising = pairs-rise (map discharge_point (units_of day)) (points-rise discharge_point (λ u. refl) (units_of day) (units-rise day day.window c.requires.rising)) in
-    subst (All (λ (p : Point × Point). p.0.0 <ℤ p.1.0)) (sym pairs) rising
+    made-rise discharge_point (λ u. refl) c.args.parts.now c.requires _
+    (pairs-made discharge_point c.args.parts.now _ _ _ _ c.deref.ensures.value c.in_ok-points.ensures.points c.deref-2.ensures.value c.in_ok-pairs.ensures)
 
 pub add_areas-requires-clause-room : goal.add_areas-requires-clause-room
 add_areas-requires-clause-room c =
-    let day = c.args.parts.now in
-    let points = c.deref.ensures.value ∙ c.in_ok-points.ensures.points in
-    let pairs = c.deref-2.ensures.value ∙ c.in_ok-pairs.ensures ∙ ap neighbours points in
-    let all = covered-le discharge_point (λ u. refl) day c.requires in
-    let long = day_length-le day c.requires in
-    let seconds = ap (sum_by (pair_seconds day)) pairs in
-    omega (arith, all, long, seconds)
+    made-room discharge_point (λ u. refl) c.args.parts.now c.requires _
+    (pairs-made discharge_point c.args.parts.now _ _ _ _ c.deref.ensures.value c.in_ok-points.ensures.points c.deref-2.ensures.value c.in_ok-pairs.ensures)
 
 pub returns-clause-sum : goal.returns-clause-sum
 returns-clause-sum c =
     let day = c.args.parts.now in
-    let points = c.deref.ensures.value ∙ c.in_ok-points.ensures.points in
-    let pairs = c.deref-2.ensures.value ∙ c.in_ok-pairs.ensures ∙ ap neighbours points in
+    let pairs = pairs-made discharge_point c.args.parts.now _ _ _ _ c.deref.ensures.value c.in_ok-points.ensures.points c.deref-2.ensures.value c.in_ok-pairs.ensures in
     sum-is discharge_point day c.add_areas.result
     (c.add_areas.ensures.twice ∙ ap (twice_areas day) pairs) (c.add_areas.ensures.covered ∙ ap (sum_by (pair_seconds day)) pairs)
 

@@ -1,17 +1,16 @@
 -- A step takes the pair of the last unit value and the next one.
 use Rattle.std.proofs.Common.{refl, subst, ap, sym, ◌∙◌, ◌+◌, ◌+ℤ◌, ◌∷◌, List, drop, arith}
 use Rattle.std.specs.Prelude.{map}
-use Rattle.std.proofs.lemmas.Int.{ints}
 use Rattle.fixed_units.specs.Quantities.{IsDischarge, most_discharge, most_millionths}
 use Rattle.unit_discharge.specs.declared.unit_values.Unit.{Unit}
 use Rattle.unit_discharge.specs.Unit.{most_corrected}
 use Rattle.daily_values.specs.declared.sums.Sum.{Sum}
 use Rattle.daily_values.specs.DayValue.{Point, unit_of, units_of, neighbours, stage_point, discharge_point, pair_area, pair_seconds}
 use Rattle.daily_values.specs.Figures.{IsSumWithin, IsValueWithin}
-use Rattle.daily_values.proofs.AreaLemmas.{AreRising, covered-le, day_length-le, discharge-IfSome, none-within, rising-first, rising-tail, units-rise}
+use Rattle.daily_values.proofs.AreaLemmas.{AreRising, covered-le, discharge-IfSome, none-within, rising-tail, units-rise}
 use Rattle.daily_values.proofs.CountLemmas.{AreCountsOfRest, counts-few, counts-start, counts-step, counts-whole}
 use Rattle.daily_values.proofs.ExtremeLemmas.{AreExtremesOfRest, extremes-done, extremes-start, extremes-step}
-use Rattle.daily_values.proofs.SumLemmas.{IsSumOfRest, next-stage, pair-same, sum-done, sum-is, sum-room, sum-start, sum-step, units-done, units-start, units-step}
+use Rattle.daily_values.proofs.SumLemmas.{IsSumOfRest, next-rises, next-room, next-stage, pair-same, sum-done, sum-is, sum-start, sum-step, units-done, units-start, units-step}
 use Rattle.daily_values.proofs.totals.totals_along.Goals as goal
 
 pub loop-reading-init : goal.loop-reading-init
@@ -49,65 +48,23 @@ unit_of-right-requires-clause-stage c =
 
 pub add_pair-stage-requires-clause-rising : goal.add_pair-stage-requires-clause-rising
 add_pair-stage-requires-clause-rising c =
-    let day = c.args.parts.now in
-    let i = c.loop-reading.reading-index in
-    let left = c.loop-reading.left in
-    let right = c.unit_of-right.result in
-    let behind = map (unit_of day) (drop (i + 1) c.args.rest.now) in
-    let step = units-step day c.args.rest.now i c.reading-item.result right c.loop-reading-test.true c.reading-item.is c.unit_of-right.ensures.unit in
-    let rising = subst (λ (us : List Unit). AreRising (left ∷ us)) step c.loop-reading.invariant.rising in
-    let less = rising-first (λ (u : Unit). u.at) left right behind rising in
-    let from = ap (λ (p : Point). p.0) c.stage_point.ensures in
-    let to = ap (λ (p : Point). p.0) c.stage_point-in-loop-reading.ensures in
-    omega (arith, ints, less, from, to)
+    next-rises stage_point (λ u. refl) c.args.parts.now c.requires.parts c.args.rest.now c.loop-reading.reading-index c.reading-item.result c.loop-reading.left c.unit_of-right.result _ _
+    c.loop-reading-test.true c.reading-item.is c.unit_of-right.ensures.unit c.stage_point.ensures c.stage_point-in-loop-reading.ensures c.loop-reading.invariant.rising
 
 pub add_pair-stage-requires-clause-room : goal.add_pair-stage-requires-clause-room
 add_pair-stage-requires-clause-room c =
-    let day = c.args.parts.now in
-    let i = c.loop-reading.reading-index in
-    let left = c.loop-reading.left in
-    let right = c.unit_of-right.result in
-    let behind = map (unit_of day) (drop (i + 1) c.args.rest.now) in
-    let step = units-step day c.args.rest.now i c.reading-item.result right c.loop-reading-test.true c.reading-item.is c.unit_of-right.ensures.unit in
-    let all = neighbours (map stage_point (units_of day)) in
-    let summed = subst (λ (us : List Unit). IsSumOfRest day (neighbours (map stage_point (left ∷ us))) all c.loop-reading.stage) step c.loop-reading.invariant.stages in
-    let covered = covered-le stage_point (λ u. refl) day c.requires.parts in
-    let long = day_length-le day c.requires.parts in
-    let room =
-    sum-room day (stage_point left, stage_point right) (neighbours (map stage_point (right ∷ behind))) all c.loop-reading.stage 100_800 summed (omega (arith, covered, long)) in
-    let pair = ap (pair_seconds day) (pair-same _ _ _ _ c.stage_point.ensures c.stage_point-in-loop-reading.ensures) in
-    omega (arith, room, pair)
+    next-room stage_point (λ u. refl) c.args.parts.now c.requires.parts c.args.rest.now c.loop-reading.reading-index c.reading-item.result c.loop-reading.left c.unit_of-right.result _ _ c.loop-reading.stage
+    c.loop-reading-test.true c.reading-item.is c.unit_of-right.ensures.unit c.stage_point.ensures c.stage_point-in-loop-reading.ensures c.loop-reading.invariant.stages
 
 pub add_pair-discharge-requires-clause-rising : goal.add_pair-discharge-requires-clause-rising
 add_pair-discharge-requires-clause-rising c =
-    let day = c.args.parts.now in
-    let i = c.loop-reading.reading-index in
-    let left = c.loop-reading.left in
-    let right = c.unit_of-right.result in
-    let behind = map (unit_of day) (drop (i + 1) c.args.rest.now) in
-    let step = units-step day c.args.rest.now i c.reading-item.result right c.loop-reading-test.true c.reading-item.is c.unit_of-right.ensures.unit in
-    let rising = subst (λ (us : List Unit). AreRising (left ∷ us)) step c.loop-reading.invariant.rising in
-    let less = rising-first (λ (u : Unit). u.at) left right behind rising in
-    let from = ap (λ (p : Point). p.0) c.discharge_point.ensures in
-    let to = ap (λ (p : Point). p.0) c.discharge_point-in-loop-reading.ensures in
-    omega (arith, ints, less, from, to)
+    next-rises discharge_point (λ u. refl) c.args.parts.now c.requires.parts c.args.rest.now c.loop-reading.reading-index c.reading-item.result c.loop-reading.left c.unit_of-right.result _ _
+    c.loop-reading-test.true c.reading-item.is c.unit_of-right.ensures.unit c.discharge_point.ensures c.discharge_point-in-loop-reading.ensures c.loop-reading.invariant.rising
 
 pub add_pair-discharge-requires-clause-room : goal.add_pair-discharge-requires-clause-room
 add_pair-discharge-requires-clause-room c =
-    let day = c.args.parts.now in
-    let i = c.loop-reading.reading-index in
-    let left = c.loop-reading.left in
-    let right = c.unit_of-right.result in
-    let behind = map (unit_of day) (drop (i + 1) c.args.rest.now) in
-    let step = units-step day c.args.rest.now i c.reading-item.result right c.loop-reading-test.true c.reading-item.is c.unit_of-right.ensures.unit in
-    let all = neighbours (map discharge_point (units_of day)) in
-    let summed = subst (λ (us : List Unit). IsSumOfRest day (neighbours (map discharge_point (left ∷ us))) all c.loop-reading.discharge) step c.loop-reading.invariant.discharges in
-    let covered = covered-le discharge_point (λ u. refl) day c.requires.parts in
-    let long = day_length-le day c.requires.parts in
-    let room =
-    sum-room day (discharge_point left, discharge_point right) (neighbours (map discharge_point (right ∷ behind))) all c.loop-reading.discharge 100_800 summed (omega (arith, covered, long)) in
-    let pair = ap (pair_seconds day) (pair-same _ _ _ _ c.discharge_point.ensures c.discharge_point-in-loop-reading.ensures) in
-    omega (arith, room, pair)
+    next-room discharge_point (λ u. refl) c.args.parts.now c.requires.parts c.args.rest.now c.loop-reading.reading-index c.reading-item.result c.loop-reading.left c.unit_of-right.result _ _ c.loop-reading.discharge
+    c.loop-reading-test.true c.reading-item.is c.unit_of-right.ensures.unit c.discharge_point.ensures c.discharge_point-in-loop-reading.ensures c.loop-reading.invariant.discharges
 
 pub add_unit-counts-requires-in-loop-reading-clause-readings :
     goal.add_unit-counts-requires-in-loop-reading-clause-readings

@@ -1,5 +1,6 @@
 use Rattle.history.proofs.FirstLockLemmas.{changed_first, changed_not_accepted, first_locked_out, is_locked_out, locked_out}
 use Rattle.history.proofs.LockedLemmas.{accepted_keeps, locked_changes, locked_is}
+use Rattle.history.proofs.NeverLockedLemmas.{decision_never, review_never}
 use Rattle.history.proofs.laws.an_edit_is_locked_where_it_would_change_an_approved_day.Goals as goal
 
 pub returns-clause-exactly : goal.returns-clause-exactly
@@ -23,3 +24,9 @@ returns-clause-changes c h edit day v = locked_changes h edit day v
 
 pub returns-clause-accepted : goal.returns-clause-accepted
 returns-clause-accepted c h edit day v is approved = accepted_keeps h edit day v is approved
+
+pub returns-clause-review : goal.returns-clause-review
+returns-clause-review c h edit from to day e v = review_never h edit from to day e v
+
+pub returns-clause-decision : goal.returns-clause-decision
+returns-clause-decision c h edit from to day decision e v = decision_never h edit from to day decision e v

@@ -1,6 +1,6 @@
 -- The number so far is that of the first digits, and below 10^9.
 use Rattle.std.proofs.Common.{arith}
-use Rattle.http_api.proofs.NumberLemmas.{one_more_digit, first_digits_below}
+use Rattle.wire.proofs.LengthLemmas.{one_more_digit, first_digits_below}
 use Rattle.http_api.proofs.parameters.value_of.Goals as goal
 
 pub overflow_mul-value : goal.overflow_mul-value

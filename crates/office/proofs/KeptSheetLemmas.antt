@@ -1,16 +1,18 @@
 -- An approved day stays as it is over every list of steps that takes its approval not back, and an opening has its sheet.
-use Rattle.std.specs.Prelude.{◌≡◌, ◌⊎◌, Bool, true, false, List, [], ◌∷◌, ◌++◌, Option, Some, None, ℤ}
+use Rattle.std.specs.Prelude.{◌≡◌, ◌⊎◌, ℕ, Bool, true, false, List, [], ◌∷◌, ◌++◌, Option, Some, None, ℤ}
 use Rattle.std.proofs.Common.{refl, ap, sym, subst, inl, inr, ◌∙◌}
 use Rattle.std.proofs.lemmas.List.Elements.{All-cons, All-nil}
-use Rattle.approval.specs.Statuses.{is_approved}
+use Rattle.approval.specs.Statuses.{Standing, is_approved}
 use Rattle.edits.specs.declared.content.Edit.{Edit}
 use Rattle.fixed_units.specs.Quantities.{IsDay, SiteNumber}
 use Rattle.history.specs.Accepted.{accepted}
 use Rattle.history.specs.Events.{History}
 use Rattle.history.specs.Legal.{IsLegal}
 use Rattle.history.specs.Rescissions.{NoneRescinds, takes_back}
+use Rattle.history.specs.Sheets.{Text, shown_at}
 use Rattle.history.specs.Statuses.{status_at, stored_sheet}
 use Rattle.history.proofs.EventLemmas.{accepted_all}
+use Rattle.history.proofs.KeptStationLemmas.{shows_kept}
 use Rattle.history.proofs.OpeningLemmas.{IsSame, added_to, opened_day}
 use Rattle.office.specs.KeptSheets.{FoundRescinded}
 use Rattle.office.specs.Steps.{GoesOver, IsReopened, MayBeFound, Step, added}
@@ -25,6 +27,20 @@ same_after old new steps site day goes legal is approved none =
     let adds = adds_steps old steps new goes in
     added_to new.history old.history.events adds.records site day (legal_steps old steps new goes legal) is adds.accepted_are approved
     (subst (NoneRescinds site day) (sym adds.edits_are) none)
+
+-- and the same is shown of it
+same_text : (a b : List ℕ) → Some a ≡ Some b → Text a ≡ Text b
+same_text a b e = cc
+
+pub shown_after : (old new : Registered) (steps : List Step) (site : SiteNumber) (day : ℤ) → GoesOver old steps new → IsLegal old.history → IsDay day
+    → is_approved (status_at old.history.events site day) ≡ true → NoneRescinds site day (added steps)
+    → shown_at new.history.events site day ≡ shown_at old.history.events site day
+shown_after old new steps site day goes legal is approved none =
+    let same = same_after old new steps site day goes legal is approved none in
+    let still : is_approved (status_at new.history.events site day) ≡ true = ap (λ (s : Standing). is_approved s.status) same.standing ∙ approved in
+    let before = shows_kept old.history.limits site day old.history.events legal.orderly approved in
+    let after = shows_kept new.history.limits site day new.history.events (legal_steps old steps new goes legal).orderly still in
+    after.2 ∙ same_text after.0 before.0 (sym after.1 ∙ same.sheet ∙ before.1) ∙ sym before.2
 
 -- one record more was found, which takes the approval back or does not
 found_one : (old new : History) (cut : Option Edit) (piece : Record) (site : SiteNumber) (day : ℤ) (b : Bool) → takes_back site day piece.edit ≡ b

@@ -1,5 +1,5 @@
 -- An office opens on what a stop leaves, and tells the edits that were accepted their numbers.
-use Rattle.std.specs.Prelude.{◌≡◌, ℕ, ◌+◌, List, [], ◌∷◌, ◌++◌, map, flat_map, reverse, slice_get, Option, Some, None, option_map, IsSome, ℤ}
+use Rattle.std.specs.Prelude.{◌≡◌, ℕ, ◌+◌, List, [], ◌∷◌, ◌++◌, length, map, flat_map, reverse, slice_get, Option, Some, None, option_map, IsSome, ℤ}
 use Rattle.std.proofs.Common.{arith, refl, ap, sym, subst, inl, inr, ◌∙◌, append_assoc, length-append}
 use Rattle.std.proofs.lemmas.List.{append-nil, get_or_append_left, map-append}
 use Rattle.std.proofs.lemmas.List.Elements.{All-cons, All-nil}
@@ -14,10 +14,10 @@ use Rattle.history.specs.Verdicts.{Repeats, or_else, refused_by_stations, refuse
 use Rattle.history.proofs.EventLemmas.{accepted_all}
 use Rattle.history.proofs.LegalLemmas.{doubt_may_be_kept, front_may_be_kept, legal_front, legal_with}
 use Rattle.history.proofs.RepeatLemmas.{is_repeated}
-use Rattle.journal.specs.JournalBytes.{HasHeader, IsJournalOf, StandsFor, block, header}
+use Rattle.journal.specs.JournalBytes.{HasHeader, IsJournalOf, StandsFor, block, front, header}
 use Rattle.journal.proofs.Stages.{front-push}
-use Rattle.journal.proofs.Walks.{goes_past, not_damaged, one_list}
-use Rattle.office.specs.Openings.{IsDamagedFor, IsRefusedAt, MayOpen}
+use Rattle.journal.proofs.Walks.{GoesPast, goes_past, goes_past_damaged, not_damaged, one_gate, one_list, two_walks}
+use Rattle.office.specs.Openings.{IsDamagedFor, IsRefusedAt, LacksRecordAt, MayOpen}
 use Rattle.office.specs.Stops.{IsLeft, IsLeftBefore, IsLeftBetween, MayFollow, in_flight}
 use Rattle.office_inputs.specs.declared.limits.Limits.{Limits}
 use Rattle.office_inputs.specs.Refusals as inputs
@@ -115,17 +115,53 @@ none_and_some : (o : Option Refusal) → o ≡ None → IsSome o → ⊥
 none_and_some None e some = absurd (cc)
 none_and_some (Some refusal) e some = absurd (cc)
 
+-- and none of those that an office is opened with is refused behind the ones before it
+accepted_there : (limits : Limits) (all pieces : List Record) (piece : Record) → IsLegal (reopen limits all) → GoesPast all pieces piece
+    → IsSome (readmission_refusal (reopen limits pieces) piece.edit) → ⊥
+accepted_there limits all pieces piece legal past refused =
+    let events : map Accepted all ≡ map Accepted pieces ++ Accepted piece ∷ map Accepted past.more =
+    ap (map Accepted) past.all_are ∙ map-append Accepted pieces (piece ∷ past.more) in
+    let none = not_refused limits pieces piece (legal.orderly.accepted (map Accepted pieces) (map Accepted past.more) piece events) in
+    none_and_some (readmission_refusal (reopen limits pieces) piece.edit) none refused
+
 refused_not : (limits : Limits) (all : List Record) (at : ℕ) (image : List ℕ) → IsJournalOf all image → IsLegal (reopen limits all) → IsRefusedAt limits at image → ⊥
 refused_not limits all at image found legal r =
-    let past = goes_past all r.pieces r.piece r.rest image found r.grammar (r.bytes_are ∙ sym (front-push r.pieces r.piece r.rest)) in
-    let events : map Accepted all ≡ map Accepted r.pieces ++ Accepted r.piece ∷ map Accepted past.more =
-    ap (map Accepted) past.all_are ∙ map-append Accepted r.pieces (r.piece ∷ past.more) in
-    let none = not_refused limits r.pieces r.piece (legal.orderly.accepted (map Accepted r.pieces) (map Accepted past.more) r.piece events) in
-    none_and_some (readmission_refusal (reopen limits r.pieces) r.piece.edit) none r.refused
+    accepted_there limits all r.pieces r.piece legal
+    (goes_past all r.pieces r.piece r.rest image found r.grammar (r.bytes_are ∙ sym (front-push r.pieces r.piece r.rest))) r.refused
+
+-- a journal is damaged at one gate
+lacks_and_refused : (limits : Limits) (at other : ℕ) (bytes : List ℕ) → LacksRecordAt limits at bytes → IsRefusedAt limits other bytes → ⊥
+lacks_and_refused limits at other bytes lacks r =
+    accepted_there limits lacks.0.pieces r.pieces r.piece lacks.1
+    (goes_past_damaged r.pieces r.piece at r.rest bytes lacks.0 r.grammar (r.bytes_are ∙ sym (front-push r.pieces r.piece r.rest))) r.refused
+
+one_refused : (limits : Limits) (at other : ℕ) (bytes : List ℕ) → IsRefusedAt limits at bytes → IsRefusedAt limits other bytes → at ≡ other
+one_refused limits at other bytes r s =
+    elim
+    (two_walks r.pieces s.pieces r.piece s.piece r.rest s.rest bytes r.grammar s.grammar (r.bytes_are ∙ sym (front-push r.pieces r.piece r.rest))
+    (s.bytes_are ∙ sym (front-push s.pieces s.piece s.rest))) [
+      | inl same ↦ r.place ∙ ap (λ (l : List Record). length (front l)) same ∙ sym s.place
+      | inr other_way ↦ elim other_way [
+        | inl past ↦ absurd (accepted_there limits r.pieces s.pieces s.piece r.legal past s.refused)
+        | inr past ↦ absurd (accepted_there limits s.pieces r.pieces r.piece s.legal past r.refused)
+      ]
+    ]
+
+pub one_damage : (limits : Limits) (at other : ℕ) (bytes : List ℕ) → IsDamagedFor limits at bytes → IsDamagedFor limits other bytes → at ≡ other
+one_damage limits at other bytes here there = elim here [
+  | inl a ↦ elim there [
+    | inl b ↦ one_gate at other bytes a.0 b.0
+    | inr s ↦ absurd (lacks_and_refused limits at other bytes a s)
+  ]
+  | inr r ↦ elim there [
+    | inl b ↦ absurd (lacks_and_refused limits other at bytes b r)
+    | inr s ↦ one_refused limits at other bytes r s
+  ]
+]
 
 pub undamaged : (h : History) (behind : List Event) (image : List ℕ) (at : ℕ) → MayOpen h behind image → IsDamagedFor h.limits at image → ⊥
 undamaged h behind image at o damaged = elim damaged [
-  | inl missing ↦ not_damaged (accepted h.events ++ o.more) at image o.found missing
+  | inl lacks ↦ not_damaged (accepted h.events ++ o.more) at image o.found lacks.0
   | inr refused ↦ refused_not h.limits (accepted h.events ++ o.more) at image o.found o.legal refused
 ]
 

@@ -1,5 +1,6 @@
 pub mod BoundLemmas
 pub mod ClaimLemmas
+pub mod CountLemmas
 pub mod CourseLemmas
 pub mod DoubtLemmas
 pub mod EditLemmas

@@ -16,6 +16,7 @@ use Rattle.history.specs.Awaited.{awaited, is_pending}
 use Rattle.history.specs.Events.{Event, History}
 use Rattle.history.specs.Statuses.{locked_at, objection_at}
 use Rattle.history.specs.Verdicts.{Repeats, Refuses, or_else, refused_by_stations, refused_by_statuses, refused_as_awaiting, refused_as_locked, awaiting, awaits_by, is_full_of_events, is_full_of_cells, is_journal_full, refused_where, refusal_of, verdict_of_refusal, verdict_by, verdict}
+use Rattle.history.proofs.VerdictLemmas.{full_of}
 use Rattle.journal.specs.Writing.{Lists}
 use Rattle.office.specs.Edits.{IsRefusedBy, RefusalCalls, is_fault}
 use Rattle.office_inputs.specs.Refusals as inputs
@@ -115,10 +116,7 @@ of_locked (Some day) = refl
 
 by_history : (h : History) (edit : Edit) → NoFault (refusal_of h edit)
 by_history h edit =
-    let events = refused_where (is_full_of_events h edit) (HistoryFull fulls.Events) in
-    let cells = refused_where (is_full_of_cells h edit) (HistoryFull fulls.Cells) in
-    let journal = refused_where (is_journal_full h edit) JournalFull in
-    let full = or_else events (or_else cells journal) in
+    let full = full_of h edit in
     let locked = refused_as_locked h edit in
     let awaited = refused_as_awaiting h edit in
     first_or (refused_by_stations h edit) (or_else (refused_by_statuses h edit) (or_else awaited (or_else locked full))) (by_stations h edit)

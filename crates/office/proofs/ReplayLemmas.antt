@@ -1,27 +1,31 @@
 -- An office that is opened accepts the records of its journal again, and stands for them.
-use Rattle.std.specs.Prelude.{◌≡◌, ℕ, ◌+◌, ◌<◌, ◌≤◌, false, List, [], ◌∷◌, ◌++◌, length, map, reverse, flat_map, sum_by, Option, Some, None, is_some, IsSome, IfSome, All}
+use Rattle.std.specs.Prelude.{◌≡◌, ℕ, ◌+◌, ◌<◌, ◌≤◌, false, List, [], ◌∷◌, ◌++◌, length, map, reverse, flat_map, sum_by, Option, Some, None, is_some, IsSome, IfSome, Err, All}
 use Rattle.std.specs.Int.{w32, to_le_bytes}
-use Rattle.std.proofs.Common.{arith, refl, ap, sym, subst, inr, ◌∙◌, length-append}
+use Rattle.std.proofs.Common.{arith, refl, ap, sym, subst, inl, inr, ◌∙◌, length-append}
 use Rattle.std.proofs.lemmas.List.{map-append, reverse-append}
 use Rattle.std.proofs.lemmas.List.Concat.{flat_map-cons}
 use Rattle.std.proofs.lemmas.List.Sums.{sum_by-cons}
 use Rattle.devices.specs.declared.disks.Disk.{Ghosts}
 use Rattle.devices.specs.Disks.{IsDurable, NothingNew}
+use Rattle.devices.specs.Faults.{Rose}
 use Rattle.history.specs.Accepted.{accepted, journal_size}
 use Rattle.history.specs.After.{reopen, doubt_back, doubt}
 use Rattle.history.specs.Events.{Event, History, Accepted}
 use Rattle.history.specs.Legal.{IsLegal}
 use Rattle.history.proofs.EventLemmas.{accepted_all}
-use Rattle.journal.specs.JournalBytes.{InGrammar, header, block, front}
+use Rattle.journal.specs.JournalBytes.{InGrammar, IsDamagedAt, header, block, front}
 use Rattle.journal.specs.Keeping.{Holds}
 use Rattle.journal.specs.Moments.{LeavesOnly, OnlyReads}
-use Rattle.journal.specs.Reading.{HasRead, HasEnded}
+use Rattle.journal.specs.Reading.{HasRead, HasEnded, ReadsOn}
 use Rattle.journal.specs.declared.keeping.Journal.{Journal}
 use Rattle.journal.specs.declared.opening.Opening.{Opening}
+use Rattle.journal.specs.declared.opening.OpenFault.{OpenFault}
+use Rattle.journal.specs.declared.opening.OpenFault.TheVariants.{Fault, NotAJournal, Damaged, NoMemory}
 use Rattle.journal.proofs.Moments.{joined}
 use Rattle.journal.proofs.Stages.{front-push, length_front-push}
+use Rattle.journal.proofs.Walks.{same_place}
 use Rattle.office.specs.Openings.{IsDamagedFor}
-use Rattle.office.specs.Replaying.{HasReadmitted, HasReadmittedAll}
+use Rattle.office.specs.Replaying.{HasReadmitted, HasReadmittedAll, IsReadFault}
 use Rattle.office.specs.Standing.{Stands}
 use Rattle.office_inputs.specs.declared.limits.Limits.{Limits}
 use Rattle.records.specs.Payloads.{payload, encoded}
@@ -141,6 +145,31 @@ pub refused_at : {D : Type 0} {g : Ghosts D} (h : History) (pieces : List Record
 refused_at {g = g} h pieces piece before after at reopened legal was read place refused =
     refused_here (g.content after.ahead.disk) h.limits pieces piece at read.grammar (subst IsLegal reopened legal) (place ∙ was.gate)
     (subst (λ (x : History). IsSome (readmission_refusal x piece.edit)) reopened refused) read.bytes
+
+-- a gate without a record, behind records that were accepted
+lacking_here : (content : Option (List ℕ)) (limits : Limits) (pieces : List Record) (at : ℕ) → All InGrammar pieces → IsLegal (reopen limits pieces)
+    → at ≡ length (front pieces) → IfSome content (λ bytes. (rest : List ℕ) × (bytes ≡ front pieces ++ rest)) → IfSome content (IsDamagedAt at)
+    → IfSome content (IsDamagedFor limits at)
+lacking_here None limits pieces at grammar legal place bytes damaged = tt
+lacking_here (Some content) limits pieces at grammar legal place bytes damaged =
+    let same = same_place pieces damaged.pieces bytes.0 damaged.rest content grammar damaged.grammar bytes.1 damaged.bytes_are (sym place ∙ damaged.place) in
+    inl (damaged, subst (λ (l : List Record). IsLegal (reopen limits l)) same legal)
+
+pub lacking_at : {D : Type 0} {g : Ghosts D} (h : History) (pieces : List Record) (before after : Opening D g) (at : ℕ) → h ≡ reopen h.limits pieces
+    → IsLegal h → HasRead pieces before → at ≡ before.gate → ReadsOn pieces after (Err (Damaged at)) → IfSome (g.content after.ahead.disk) (IsDamagedFor h.limits at)
+lacking_at {g = g} h pieces before after at reopened legal was place found =
+    lacking_here (g.content after.ahead.disk) h.limits pieces at was.grammar (subst IsLegal reopened legal) (place ∙ was.gate) found.0.bytes found.1
+
+-- why a record was not read, behind records that were accepted
+pub read_fault : {D : Type 0} {g : Ghosts D} (h : History) (pieces : List Record) (before after : Opening D g) (fault : OpenFault) → h ≡ reopen h.limits pieces
+    → IsLegal h → HasRead pieces before → ReadsOn pieces after (Err fault) → (fault ≡ Fault → Rose (g.faults before.ahead.disk) (g.faults after.ahead.disk))
+    → ((at : ℕ) → fault ≡ Damaged at → at ≡ before.gate)
+    → IsReadFault (g.content after.ahead.disk) h.limits fault (g.faults before.ahead.disk) (g.faults after.ahead.disk)
+read_fault h pieces before after Fault reopened legal was found rose place = rose refl
+read_fault h pieces before after NotAJournal reopened legal was found rose place = found
+read_fault h pieces before after (Damaged at) reopened legal was found rose place =
+    lacking_at h pieces before after at reopened legal was (place at refl) found
+read_fault h pieces before after NoMemory reopened legal was found rose place = tt
 
 -- reading on and on writes nothing
 pub reads_on : {D : Type 0} (g : Ghosts D) (a b c : D) → OnlyReads g a b → OnlyReads g b c → OnlyReads g a c

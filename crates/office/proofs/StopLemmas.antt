@@ -12,7 +12,7 @@ use Rattle.history.specs.Verdicts.{Accepts, record_of, verdict}
 use Rattle.history.specs.declared.recorded.NotKept.{NotKept}
 use Rattle.history.specs.declared.recorded.NotKept.TheVariants as not_kept
 use Rattle.history.proofs.EventLemmas.{accepted_accepted, accepted_faulted}
-use Rattle.history.proofs.LegalLemmas.{not_nil}
+use Rattle.history.proofs.LegalLemmas.{head_of, not_nil, tail_of}
 use Rattle.journal.specs.JournalBytes.{IsJournalOf, StandsFor}
 use Rattle.journal.proofs.Walks.{one_list}
 use Rattle.office.specs.Openings.{IsOpened}
@@ -58,14 +58,6 @@ record AreParted (days : List SiteDay) (since behind : List Event) : Type 0 wher
   second : List SiteDay
   since_are : since ≡ map publication first
   behind_are : behind ≡ map publication second
-
-head_of : Event → List Event → Event
-head_of e [] = e
-head_of e (x ∷ xs) = x
-
-tail_of : List Event → List Event
-tail_of [] = []
-tail_of (x ∷ xs) = xs
 
 parted_days : (days : List SiteDay) (since behind : List Event) → map publication days ≡ since ++ behind → AreParted days since behind
 unfolding head_of tail_of

@@ -1,3 +1,4 @@
+pub mod Counting
 pub mod Edits
 pub mod Keeping
 pub mod KeptSheets

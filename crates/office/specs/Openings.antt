@@ -34,9 +34,13 @@ pub record IsRefusedAt (limits : Limits) (at : ℕ) (bytes : List ℕ) : Type 0 
   pub place : at ≡ length (front pieces)
   pub refused : IsSome (readmission_refusal (reopen limits pieces) piece.edit)
 
--- a journal is damaged for an office: at a gate without a record, or with one that is not accepted
+-- at this gate the journal is damaged, and the records before it are accepted
+abbrev pub LacksRecordAt : Limits → ℕ → List ℕ → Type 0
+LacksRecordAt limits at bytes = (damaged : IsDamagedAt at bytes) × IsLegal (reopen limits damaged.pieces)
+
+-- a journal is damaged for an office at the first gate without a record, or with one that is not accepted
 abbrev pub IsDamagedFor : Limits → ℕ → List ℕ → Type 0
-IsDamagedFor limits at bytes = IsDamagedAt at bytes ⊎ IsRefusedAt limits at bytes
+IsDamagedFor limits at bytes = LacksRecordAt limits at bytes ⊎ IsRefusedAt limits at bytes
 
 -- An office with this history may open on these bytes, when these events are still to come: they are the journal of the accepted edits,
 -- or of these and one record more that may follow them, and each of them is accepted again.

@@ -7,6 +7,7 @@ ghost use Rattle.history.specs.Verdicts.{Accepts, record_of, verdict};
 ghost use Rattle.journal.specs.Keeping.{IsNext};
 ghost use Rattle.journal.specs.Moments.{LeavesOnly};
 ghost use Rattle.journal.specs.Writing.{Lists};
+ghost use Rattle.office.specs.Counting.{CountsEdit};
 ghost use Rattle.office.specs.Edits.{Edits, EditCalls, EditsClaims, IsFaulted, IsTaken, asks_disk};
 ghost use Rattle.office.specs.Steps.{AnEdit, IsStep};
 ghost use Rattle.office.specs.Stops.{IsLeftBetween};
@@ -46,6 +47,7 @@ impl<D: Disk> Office<D> {
         ensures any_moment { IsSome (D.content self.old.disk) → LeavesOnly D.Disk self.old.disk self.new.disk (IsLeftBetween self.old.register.history self.new.register.history) }
         ensures calls { Lists (D.content self.old.disk) (D.calls self.old.disk) (D.calls self.new.disk) (D.faults self.new.disk) (EditCalls self.old.register.history edit self.new.register.history result) }
         ensures counted { D.faults self.old.disk ≤ D.faults self.new.disk }
+        ensures counts { CountsEdit (D.faults self.old.disk) result (D.faults self.new.disk) }
         ensures cause { (in_doubt : Bool) → result ≡ Err (Refusal.JournalFault in_doubt) → Rose (D.faults self.old.disk) (D.faults self.new.disk) }
         ensures told { is_some (D.content self.new.disk) ≡ is_some (D.content self.old.disk) }
         ensures steps { steps.new ≤ steps.old + length (interval (stations_at self.old.register.history.events) edit) + 9 }
@@ -82,6 +84,7 @@ impl<D: Disk> Office<D> {
         ensures any_moment { IsSome (D.content self.old.disk) → LeavesOnly D.Disk self.old.disk self.new.disk (IsLeftBetween self.old.register.history self.new.register.history) }
         ensures calls { Lists (D.content self.old.disk) (D.calls self.old.disk) (D.calls self.new.disk) (D.faults self.new.disk) (EditCalls self.old.register.history piece.edit self.new.register.history result) }
         ensures counted { D.faults self.old.disk ≤ D.faults self.new.disk }
+        ensures counts { CountsEdit (D.faults self.old.disk) result (D.faults self.new.disk) }
         ensures cause { (in_doubt : Bool) → result ≡ Err (Refusal.JournalFault in_doubt) → Rose (D.faults self.old.disk) (D.faults self.new.disk) }
         ensures told { is_some (D.content self.new.disk) ≡ is_some (D.content self.old.disk) }
     {
@@ -117,6 +120,7 @@ impl<D: Disk> Office<D> {
         ensures any_moment { IsSome (D.content self.old.disk) → LeavesOnly D.Disk self.old.disk self.new.disk (IsLeftBetween self.old.register.history self.new.register.history) }
         ensures calls { Lists (D.content self.old.disk) (D.calls self.old.disk) (D.calls self.new.disk) (D.faults self.new.disk) (EditCalls self.old.register.history piece.edit self.new.register.history result) }
         ensures counted { D.faults self.old.disk ≤ D.faults self.new.disk }
+        ensures counts { CountsEdit (D.faults self.old.disk) result (D.faults self.new.disk) }
         ensures cause { OnErr result (Rose (D.faults self.old.disk) (D.faults self.new.disk)) }
         ensures told { is_some (D.content self.new.disk) ≡ is_some (D.content self.old.disk) }
     {

@@ -1,6 +1,6 @@
 //! A record kept in a journal that may be in doubt.
 
-ghost use Rattle.std.specs.Prelude.{◌≡◌, ◌≤◌, ◌+◌, true, List, length, Option, None, is_some, is_err, OnErr};
+ghost use Rattle.std.specs.Prelude.{◌≡◌, ◌≤◌, ◌+◌, true, List, length, Option, None, is_some, is_err, OnOk, OnErr};
 ghost use Rattle.devices.specs.Faults.{Rose};
 ghost use Rattle.journal.specs.JournalBytes.{StandsFor};
 ghost use Rattle.journal.specs.Keeping.{Holds, IsNext};
@@ -35,6 +35,7 @@ pub(crate) fn keep<D: Disk>(
     ensures limit { journal.new.limit ≡ journal.old.limit }
     ensures untold { D.content journal.old.disk ≡ None → D.content journal.new.disk ≡ None }
     ensures counted { D.faults journal.old.disk ≤ D.faults journal.new.disk }
+    ensures done { OnOk result (D.faults journal.new.disk ≡ D.faults journal.old.disk) }
     ensures cause { OnErr result (Rose (D.faults journal.old.disk) (D.faults journal.new.disk)) }
 {
     if settle(journal).is_err() {
@@ -63,6 +64,7 @@ fn settle<D: Disk>(journal: &mut Journal<D>) -> Result<(), DiskFailed>
     ensures limit { journal.new.limit ≡ journal.old.limit }
     ensures untold { D.content journal.old.disk ≡ None → D.content journal.new.disk ≡ None }
     ensures counted { D.faults journal.old.disk ≤ D.faults journal.new.disk }
+    ensures done { OnOk result (D.faults journal.new.disk ≡ D.faults journal.old.disk) }
     ensures cause { OnErr result (Rose (D.faults journal.old.disk) (D.faults journal.new.disk)) }
 {
     if !journal.in_doubt() {

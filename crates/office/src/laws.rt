@@ -13,9 +13,11 @@ ghost use Rattle.history.specs.Events.{Event, History};
 ghost use Rattle.history.specs.LastChanges.{ChangedLast};
 ghost use Rattle.history.specs.Legal.{IsLegal};
 ghost use Rattle.history.specs.Rescissions.{NoneRescinds};
+ghost use Rattle.history.specs.Sheets.{shown_at};
 ghost use Rattle.history.specs.Statuses.{standing_at, status_at, stored_sheet};
 ghost use Rattle.history.specs.Verdicts.{Repeats, verdict};
 ghost use Rattle.journal.specs.JournalBytes.{HasHeader, IsJournalOf};
+ghost use Rattle.office.specs.Counting.{GoesOverCounting, HasCounted};
 ghost use Rattle.office.specs.Edits.{IsTaken};
 ghost use Rattle.office.specs.KeptSheets.{FoundRescinded};
 ghost use Rattle.office.specs.Openings.{IsDamagedFor, IsOpened, MayOpen};
@@ -23,6 +25,7 @@ ghost use Rattle.office.specs.Steps.{APublication, AStop, AnAnswer, AnEdit, Give
 ghost use Rattle.office.specs.Stops.{IsLeft, IsLeftBetween};
 ghost use Rattle.office.specs.declared.offices.Accepted.{Accepted};
 ghost use Rattle.office_inputs.specs.Stations.{inputs_of_day, station_of, stations_of};
+ghost use Rattle.office_inputs.specs.declared.limits.Limits.{Limits};
 ghost use Rattle.recompute.specs.Jobs.{DayJob};
 ghost use Rattle.recompute.specs.declared.jobs.Publish.{Publish};
 ghost use Rattle.recompute.specs.declared.jobs.Publish.TheVariants.{Foreign, Published};
@@ -69,6 +72,11 @@ pub fn whatever_is_left_opens()
         → IsJournalOf pieces image → slice_get (edits_of h.events) place ≡ Some edit → verdict (reopen h.limits pieces) edit ≡ Repeats (place + 1) }
 {}
 
+/// A journal is damaged for an office at one gate, and no other: the first one without a record, or with one that is not accepted.
+pub fn damaged_at_one_gate()
+    ensures { (limits : Limits) (at other : ℕ) (image : List ℕ) → IsDamagedFor limits at image → IsDamagedFor limits other image → at ≡ other }
+{}
+
 /// Whatever calls of an office are made, with faults of its disk, stops at any moment and openings behind them: the history stays
 /// legal; the records of the accepted edits stay, each at its number, and behind them stand exactly those of the edits that were
 /// acknowledged since, or were found at an opening; and an edit that was acknowledged and comes again is told its number. Where the
@@ -89,6 +97,14 @@ pub fn accepted_edits_stay()
         → GoesOver old steps new → KeepsToTheLimit old.history → KeepsToTheLimit new.history }
 {}
 
+/// Whatever calls are made, with stops and openings between them, the disk has counted each fault that refused an edit since it was
+/// opened, or its count stands at the end of its type.
+pub fn faults_are_counted()
+    ensures steps { (old new : Registered) (steps : List Step) (before now : ℕ) → GoesOverCounting old before steps new now → HasCounted old.history before
+        → HasCounted new.history now }
+    ensures opened { (limits : Limits) (pieces : List Record) (count : ℕ) → HasCounted (reopen limits pieces) count }
+{}
+
 /// Stopped at any moment, between two calls or inside one, the journal has the edits that were accepted before, all that were
 /// acknowledged since, and perhaps one more: the one in doubt, or inside the call of an edit whose verdict is to accept it that very
 /// edit.
@@ -103,11 +119,11 @@ pub fn no_acknowledged_edit_is_lost()
         × (map edit_of pieces ≡ (edits_of old.history.events ++ added before) ++ map edit_of more) }
 {}
 
-/// Approved sheets stay byte for byte; that each approved day has one is a law of histories. Whatever calls are made, with faults of the disk, stops at any
-/// moment and openings behind them, it stands as it is approved, with its inputs and with that very sheet, as long as no edit is
-/// acknowledged, or found at an opening, that takes its approval back. So an office that is opened on whatever a stop leaves, between two
-/// calls or inside one, has the sheet of each day that was approved, unless the one edit that it found beside the accepted ones takes
-/// that very approval back.
+/// Approved sheets stay byte for byte; that each approved day has one, which is what is shown of it, is a law of histories. Whatever calls
+/// are made, with faults of the disk, stops at any moment and openings behind them, it stands as it is approved, with its inputs and with
+/// that very sheet, and the same is shown of it, as long as no edit is acknowledged, or found at an opening, that takes its approval back.
+/// So an office that is opened on whatever a stop leaves, between two calls or inside one, has the sheet of each day that was approved,
+/// unless the one edit that it found beside the accepted ones takes that very approval back.
 pub fn approved_sheets_stay()
     ensures standing { (old new : Registered) (steps : List Step) (site : SiteNumber) (day : ℤ) → GoesOver old steps new → IsLegal old.history → IsDay day
         → is_approved (status_at old.history.events site day) ≡ true → NoneRescinds site day (added steps)
@@ -118,6 +134,9 @@ pub fn approved_sheets_stay()
     ensures sheet { (old new : Registered) (steps : List Step) (site : SiteNumber) (day : ℤ) → GoesOver old steps new → IsLegal old.history → IsDay day
         → is_approved (status_at old.history.events site day) ≡ true → NoneRescinds site day (added steps)
         → stored_sheet new.history.events site day ≡ stored_sheet old.history.events site day }
+    ensures shown { (old new : Registered) (steps : List Step) (site : SiteNumber) (day : ℤ) → GoesOver old steps new → IsLegal old.history → IsDay day
+        → is_approved (status_at old.history.events site day) ≡ true → NoneRescinds site day (added steps)
+        → shown_at new.history.events site day ≡ shown_at old.history.events site day }
     ensures between { (old register : Registered) (image : List ℕ) (site : SiteNumber) (day : ℤ) → IsLeft old.history image
         → IsOpened (Some image) old.history.limits register → IsDay day → is_approved (status_at old.history.events site day) ≡ true
         → (stored_sheet register.history.events site day ≡ stored_sheet old.history.events site day) ⊎ FoundRescinded old.history None register.history site day }

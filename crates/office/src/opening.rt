@@ -86,11 +86,11 @@ fn read_next<D: Disk>(
     ensures refused { IfErr result (λ fault. IsReadFault (D.content opening.new.ahead.disk) register.old.history.limits fault (D.faults opening.old.ahead.disk) (D.faults opening.new.ahead.disk)) }
     ensures disk { OnlyReads D.Disk opening.old.ahead.disk opening.new.ahead.disk }
 {
+    a_history_is_legal(register);
     let Some(piece) = opening.next(alloc)? else {
         return Ok(false);
     };
     let gate = opening.offset();
-    a_history_is_legal(register);
     match register.readmit(piece) {
         Ok(()) => Ok(true),
         Err(NotReadmitted::Refused(_)) => Err(OpenFault::Damaged(gate)),

@@ -4,6 +4,7 @@ ghost use Rattle.std.specs.Prelude.{◌≡◌, ◌≤◌, ◌<◌, Bool, false, 
 ghost use Rattle.devices.specs.Faults.{Rose};
 ghost use Rattle.journal.specs.Moments.{LeavesOnly};
 ghost use Rattle.journal.specs.Writing.{Lists};
+ghost use Rattle.office.specs.Counting.{CountsEdit};
 ghost use Rattle.office.specs.Edits.{Edits, EditCalls, EditsClaims, asks_disk};
 ghost use Rattle.office.specs.Steps.{AnEdit, IsStep};
 ghost use Rattle.office.specs.Stops.{IsLeftBetween};
@@ -30,6 +31,7 @@ impl<D: Disk> Office<D> {
         ensures any_moment { IsSome (D.content self.old.disk) → LeavesOnly D.Disk self.old.disk self.new.disk (IsLeftBetween self.old.register.history self.new.register.history) }
         ensures calls { Lists (D.content self.old.disk) (D.calls self.old.disk) (D.calls self.new.disk) (D.faults self.new.disk) (EditCalls self.old.register.history edit self.new.register.history result) }
         ensures counted { D.faults self.old.disk ≤ D.faults self.new.disk }
+        ensures counts { CountsEdit (D.faults self.old.disk) result (D.faults self.new.disk) }
         ensures cause { (in_doubt : Bool) → result ≡ Err (Refusal.JournalFault in_doubt) → Rose (D.faults self.old.disk) (D.faults self.new.disk) }
         ensures told { is_some (D.content self.new.disk) ≡ is_some (D.content self.old.disk) }
     {
@@ -53,6 +55,7 @@ fn take_counted<D: Disk, L: Ledger>(
     ensures any_moment { IsSome (D.content office.old.disk) → LeavesOnly D.Disk office.old.disk office.new.disk (IsLeftBetween office.old.register.history office.new.register.history) }
     ensures calls { Lists (D.content office.old.disk) (D.calls office.old.disk) (D.calls office.new.disk) (D.faults office.new.disk) (EditCalls office.old.register.history edit office.new.register.history result) }
     ensures counted { D.faults office.old.disk ≤ D.faults office.new.disk }
+    ensures counts { CountsEdit (D.faults office.old.disk) result (D.faults office.new.disk) }
     ensures cause { (in_doubt : Bool) → result ≡ Err (Refusal.JournalFault in_doubt) → Rose (D.faults office.old.disk) (D.faults office.new.disk) }
     ensures told { is_some (D.content office.new.disk) ≡ is_some (D.content office.old.disk) }
 {

@@ -1,4 +1,4 @@
-use Rattle.office.proofs.KeptSheetLemmas.{same_after, sheet_on_opening}
+use Rattle.office.proofs.KeptSheetLemmas.{same_after, sheet_on_opening, shown_after}
 use Rattle.office.proofs.StopLemmas.{stopped_between, stopped_inside}
 use Rattle.office.specs.Steps.{cut_off}
 use Rattle.std.specs.Prelude.{None}
@@ -12,6 +12,9 @@ returns-clause-inputs c old new steps site day goes legal is approved none = (sa
 
 pub returns-clause-sheet : goal.returns-clause-sheet
 returns-clause-sheet c old new steps site day goes legal is approved none = (same_after old new steps site day goes legal is approved none).sheet
+
+pub returns-clause-shown : goal.returns-clause-shown
+returns-clause-shown c old new steps site day goes legal is approved none = shown_after old new steps site day goes legal is approved none
 
 pub returns-clause-between : goal.returns-clause-between
 returns-clause-between c old register image site day left opened is approved =

@@ -1,12 +1,23 @@
 -- One record read, and its edit accepted.
-use Rattle.std.specs.Prelude.{◌≡◌, ◌++◌, ◌∷◌, [], is_some}
-use Rattle.std.proofs.Common.{arith, ap, ◌∙◌}
+use Rattle.std.specs.Prelude.{◌≡◌, ◌++◌, ◌∷◌, [], is_some, Err}
+use Rattle.std.proofs.Common.{rules, arith, ap, ◌∙◌}
 use Rattle.journal.specs.Reading.{HasRead}
-use Rattle.office.proofs.ReplayLemmas.{read_push, refused_at, reopened_again}
+use Rattle.journal.specs.declared.opening.OpenFault.{OpenFault}
+use Rattle.office.proofs.ReplayLemmas.{read_fault, read_push, refused_at, reopened_again}
 use Rattle.office.proofs.opening.read_next.Goals as goal
 
 pub readmit-requires : goal.readmit-requires
 readmit-requires g c = reopened_again c.args.register.now.history c.requires.0 c.requires.1.reopened
+
+pub returns-in_err-piece-clause-refused : goal.returns-in_err-piece-clause-refused
+returns-in_err-piece-clause-refused g c =
+    let e = c.in_err-piece.ensures in
+    let h = c.requires.1 in
+    let told = read_fault c.args.register.now.history c.requires.0 c.args.opening.now c.next.new.self c.in_err-piece.field-0.0 h.reopened
+    c.a_history_is_legal.ensures h.read (e.reads c.requires.0 h.read) (λ f. e.cause (ap (λ (x : OpenFault). Err x) f))
+    (λ at f. e.damaged at (ap (λ (x : OpenFault). Err x) f)) in
+    let same : c.from_residual.result ≡ Err c.in_err-piece.field-0.0 = search rules in
+    rw same told
 
 pub returns-in-Ok-clause-reads : goal.returns-in-Ok-clause-reads
 returns-in-Ok-clause-reads g c =

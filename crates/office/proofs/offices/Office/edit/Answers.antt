@@ -7,6 +7,7 @@ use Rattle.office.specs.Stops.{IsLeftBetween}
 use Rattle.office_inputs.specs.Touched.{interval}
 use Rattle.office_inputs.specs.declared.refusals.Refusal.TheVariants.{JournalFault}
 use Rattle.register.specs.Asked.{needs_days, verdict_told}
+use Rattle.office.proofs.CountLemmas.{counts_refused}
 use Rattle.office.proofs.EditLemmas.{leaves_unasked}
 use Rattle.office.proofs.RefusedLemmas.{is_refused, lists_refused, not_a_fault}
 use Rattle.office.proofs.offices.Office.edit.Goals as goal
@@ -62,6 +63,13 @@ returns-in-Ok-Refused-clause-calls g c =
     (sym c.in-Ok-Refused.ensures.verdict ∙ ap verdict_told c.in-Ok-Refused.field-0-is) in
     lists_refused (g.D.Disk.content c.args.self.now.disk) (g.D.Disk.calls c.args.self.now.disk) (g.D.Disk.faults c.args.self.now.disk)
     c.args.self.now.register.history c.args.edit c.args.self.now.register.history c.in-Ok-Refused.refusal refused
+
+pub returns-in-Ok-Refused-clause-counts : goal.returns-in-Ok-Refused-clause-counts
+returns-in-Ok-Refused-clause-counts g c =
+    let refused : verdict c.args.self.now.register.history c.args.edit ≡ Refuses c.in-Ok-Refused.refusal =
+    subst (λ (o : Officed g.row.D.Denot). verdict o.register.history c.args.edit ≡ Refuses c.in-Ok-Refused.refusal) c.self.view_is
+    (sym c.in-Ok-Refused.ensures.verdict ∙ ap verdict_told c.in-Ok-Refused.field-0-is) in
+    counts_refused c.args.self.now.register.history c.args.edit c.in-Ok-Refused.refusal (g.D.Disk.faults c.args.self.now.disk) refused
 
 pub returns-in-Ok-Refused-clause-cause : goal.returns-in-Ok-Refused-clause-cause
 returns-in-Ok-Refused-clause-cause g c in_doubt is =

@@ -1,6 +1,7 @@
-pub mod AnswerLemmas
 mod DailyLemmas
+pub mod AnswerLemmas
 pub mod EndLemmas
+pub mod OneReplyLemmas
 pub mod PassingLemmas
 pub mod RepliesLemmas
 pub mod SessionLemmas

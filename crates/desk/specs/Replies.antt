@@ -1,5 +1,5 @@
 -- What is replied to a message, and what has happened then.
-use Rattle.std.specs.Prelude.{◌≡◌, ◌⊎◌, ℕ, ◌+◌, ◌-◌, ◌≤◌, Bool, true, false, List, [], ◌∷◌, ◌++◌, length, take, Option, Some, None, is_some, Result, Ok, Err, ℤ}
+use Rattle.std.specs.Prelude.{◌≡◌, ◌≢◌, ◌⊎◌, ℕ, ◌+◌, ◌-◌, ◌≤◌, Bool, true, false, List, [], ◌∷◌, ◌++◌, length, take, Option, Some, None, is_some, Result, Ok, Err, ℤ}
 use Rattle.std.specs.List.{flat_map}
 use Rattle.approval.specs.declared.status.Status.{Status}
 use Rattle.depend.specs.Compared.{days_within}
@@ -129,6 +129,10 @@ fault_reply in_doubt = bytes_of (replies.Refused (JournalFault in_doubt))
 
 abbrev pub memory_reply : List ℕ
 memory_reply = bytes_of replies.NoMemory
+
+-- the reply is neither that of want of memory nor that of a journal that failed
+abbrev pub IsOwn : List ℕ → Type 0
+IsOwn reply = (reply ≢ memory_reply) × ((in_doubt : Bool) → reply ≢ fault_reply in_doubt)
 
 -- the journal failed at an edit that nothing else refused
 abbrev pub Fails : History → Ask → List ℕ → History → Type 0

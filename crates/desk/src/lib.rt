@@ -3,6 +3,7 @@
 
 mod answers;
 mod days;
+pub mod laws;
 pub mod sessions;
 
 pub use sessions::{SessionEnd, session, stands_still};

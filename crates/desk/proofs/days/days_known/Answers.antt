@@ -1,9 +1,11 @@
 -- Day after day is added, from the first to the last.
-use Rattle.std.specs.Prelude.{◌≡◌, ℤ, pos, ◌+ℤ◌, ◌≤ℤ◌, map, true}
-use Rattle.std.proofs.Common.{◌∙◌, ap, sym, arith, rules, to_z, of_z, w32, List, [], ◌∷◌, ◌++◌}
+use Rattle.std.specs.Prelude.{◌≡◌, map, true}
+use Rattle.std.proofs.Common.{◌∙◌, ap, sym, arith, rules, List, [], ◌∷◌, ◌++◌}
 use Rattle.std.specs.Result.{is_ok}
 use Rattle.std.proofs.lemmas.List.{map-append}
 use Rattle.std.proofs.lemmas.Int.{ints}
+use Rattle.depend.proofs.DayNumbers.{behind_the_way, first_number, on_the_way}
+use Rattle.fixed_units.specs.Quantities.{first_day}
 use Rattle.desk.specs.Replies.{row_at}
 use Rattle.http_api.specs.Tables.{Row, row_of}
 use Rattle.desk.proofs.DailyLemmas.{gathered_after, gathered_first, gathered_last}
@@ -11,40 +13,25 @@ use Rattle.desk.proofs.days.days_known.Goals as goal
 
 pub loop-number-init : goal.loop-number-init
 loop-number-init g c =
-    let low = c.get-number.ensures.range.low in
-    let high = c.get-number.ensures.range.high in
-    let value = c.get-number.ensures.value in
-    let same : to_z w32 (of_z w32 c.get-number.result) ≡ c.args.from = omega (arith, ints) in
-    gathered_first (row_at c.args.office.now.register.history.events c.args.site) c.args.from c.args.to _ _ c.get-number.ensures.range same
+    gathered_first (row_at c.args.office.now.register.history.events c.args.site) c.args.from c.args.to _ _ c.get-number.ensures.range
+    (first_number c.args.from c.get-number.result c.get-number.ensures.range c.get-number.ensures.value)
     (ap (map row_of) (c.reserve_exact.ensures.items ∙ c.new-days.ensures.items))
 
 pub known_on-requires-clause-day : goal.known_on-requires-clause-day
 known_on-requires-clause-day g c κs outlives =
-    let number : ℤ = to_z w32 c.loop-number.number-bits in
-    let low = c.get-number-end.ensures.range.low in
-    let high = c.get-number-end.ensures.range.high in
-    let within : number ≤ℤ c.args.to = omega (arith, ints, c.loop-number-test.true) in
-    record { low = c.loop-number.invariant.low; high = omega (arith, ints, within, high) }
+    (on_the_way first_day c.args.to _ _ (omega (arith, ints)) c.loop-number.invariant.low c.get-number-end.ensures.range c.get-number-end.ensures.value c.loop-number-test.true).day
 
 pub loop-number-preserved : goal.loop-number-preserved
 loop-number-preserved g c =
-    let number : ℤ = to_z w32 c.loop-number.number-bits in
-    let low = c.get-number-end.ensures.range.low in
-    let high = c.get-number-end.ensures.range.high in
-    let least = c.loop-number.invariant.low in
-    let within : number ≤ℤ c.args.to = omega (arith, ints, c.loop-number-test.true) in
-    let next : to_z w32 (of_z w32 (number +ℤ pos 1)) ≡ number +ℤ pos 1 = omega (arith, ints) in
+    let way = on_the_way first_day c.args.to _ _ (omega (arith, ints)) c.loop-number.invariant.low c.get-number-end.ensures.range c.get-number-end.ensures.value c.loop-number-test.true in
     let good : is_ok c.push.result ≡ true = search rules in
     let items = rw good at c.push.ensures.items in
     let rows = map row_of c.loop-number.days.items in
-    gathered_after (row_at c.args.office.now.register.history.events c.args.site) c.args.from c.args.to number _ rows (map row_of c.push.new.self.items) within next
+    gathered_after (row_at c.args.office.now.register.history.events c.args.site) c.args.from c.args.to _ _ rows (map row_of c.push.new.self.items) way.within way.next
     (ap (map row_of) items ∙ map-append row_of c.loop-number.days.items (c.known_on.result ∷ []) ∙ ap (λ (more : List Row). rows ++ more) (sym c.known_on.ensures))
     c.loop-number.invariant
 
 pub returns : goal.returns
 returns g c =
-    let number : ℤ = to_z w32 c.loop-number.number-bits in
-    let low = c.get-number-end.ensures.range.low in
-    let high = c.get-number-end.ensures.range.high in
-    gathered_last (row_at c.args.office.now.register.history.events c.args.site) c.args.from c.args.to number (map row_of c.loop-number.days.items)
-    (omega (arith, ints, c.loop-number-test.false)) c.loop-number.invariant
+    gathered_last (row_at c.args.office.now.register.history.events c.args.site) c.args.from c.args.to _ (map row_of c.loop-number.days.items)
+    (behind_the_way c.args.to _ _ c.get-number-end.ensures.range c.get-number-end.ensures.value c.loop-number-test.false) c.loop-number.invariant

@@ -4,8 +4,8 @@
     python3 tests/want_of_memory.py PROGRAM [--year] [--folder .] [--jobs 4] [--from 1] [--step 47]
 
 A whole batch (a station, its rating, the rating's period, three readings in one edit, a review and an approval of three other days with
-their sheets, a day before and after turns, and its sheet) is run once for each allocation that it makes, with that one refused. Every request must be answered: by its reply, by 507, or by what follows where
-an earlier edit was answered 507. Then the same batch is sent once more over the journal that was left, with all the memory there is:
+their sheets, a day before and after turns, and its sheet) is run once for each allocation that it makes, with that one refused. Every request
+must be answered: by its reply or by 507, and behind a POST that was answered 507 by whatever follows from that. Then the same batch is sent once more over the journal that was left, with all the memory there is:
 every edit must be accepted or told to be repeated, and the day must be computed. With `--year` the three readings are a logger's year
 in one body, settled, with the table of its days (some minutes).
 
@@ -134,7 +134,8 @@ def year():
     put = edit("PutReadings", "a4", '"readings":[%s]' % ",".join(rows))
     last = edit("PutReadings", "a5", '"readings":[["2025-01-01T05:00:00Z","1.50"]]')
     table = get("/stations/01646500/daily/2024-01-01/2024-12-31")
-    return station(60) + [put, post("/settle"), last, post("/settle"), table]
+    last_day = get("/stations/01646500/days/2024-12-31")
+    return station(60) + [put, post("/settle"), last_day, last, post("/settle"), table]
 
 
 def replies(output):
@@ -157,6 +158,19 @@ def run(program, journal, requests, environment):
     )
 
 
+NO_MEMORY = (507, b'{"code":"NoMemory"}')
+
+
+def is_told(requests, told, due):
+    """Whether each request was told its reply or 507. Behind a POST that was told 507 anything may follow."""
+    for request, reply, its in zip(requests, told, due):
+        if reply == NO_MEMORY and request.startswith(b"POST"):
+            return True
+        if reply not in (its, NO_MEMORY):
+            return False
+    return True
+
+
 def refused_run(program, shim, folder, requests, due, number):
     """Runs the batch with one allocation refused, and then once more; which statuses other than 200 came."""
     journal = os.path.join(folder, "journal-%d" % number)
@@ -168,8 +182,8 @@ def refused_run(program, shim, folder, requests, due, number):
         told = replies(ran.stdout)
         if ran.returncode != 0 or len(told) != len(requests):
             raise SystemExit("allocation %d: status %d, %d replies, %r" % (number, ran.returncode, len(told), ran.stderr))
-        if (507, b'{"code":"NoMemory"}') not in told and told != due:
-            raise SystemExit("allocation %d: other replies, and none of them 507" % number)
+        if not is_told(requests, told, due):
+            raise SystemExit("allocation %d: a reply that is neither the one due nor 507" % number)
         came = tuple(sorted({status for status, _ in told if status != 200}))
     again = run(program, journal, requests, {})
     told = replies(again.stdout)

@@ -1,9 +1,11 @@
 //! Documents of stations: what each station's line tells, what stands in the journal then, and which ends a run has.
 
+use crate::dues::INPUT_FAULT;
+use crate::ways::{BYTE_BY_BYTE, CUT_INPUT, NO_INPUT};
 use std::test::Fail;
 use whole_runs::{
-    Due, LongRun, NO_RECORDS, Parts, Run, STATIONS, Turn, WHOLE, Ways, pass_in_turn,
-    pass_long_runs, pass_runs,
+    Due, INIT, LongRun, MADE, NO_RECORDS, NOT_A_JOURNAL, Parts, Run, SILENT, STATIONS, Turn, WHOLE,
+    Ways, pass_in_turn, pass_long_runs, pass_runs,
 };
 
 /// The document of one station.
@@ -53,43 +55,20 @@ const KEPT: Parts = &[
 ];
 
 const ADDED: Due = Due {
-    status: 0,
     written: &[b"edit 1 01646500\n"],
-    told: b"",
-    is_read: true,
     left: Some(KEPT),
+    ..SILENT
 };
 
 const REFUSED: Due = Due {
-    status: 0,
     written: &[b"edit 1 01646500\n", b"refused StationExists 01646500\n"],
-    told: b"",
-    is_read: true,
-    left: Some(KEPT),
+    ..ADDED
 };
 
 const NO_DOCUMENT: Due = Due {
     status: 9,
-    written: &[],
     told: b"streamoffice: not a station document\n",
-    is_read: true,
-    left: None,
-};
-
-const NOT_A_JOURNAL: Due = Due {
-    status: 5,
-    written: &[],
-    told: b"streamoffice: not a journal\n",
-    is_read: false,
-    left: None,
-};
-
-const INPUT_FAULT: Due = Due {
-    status: 2,
-    written: &[],
-    told: b"streamoffice: input fault\n",
-    is_read: true,
-    left: None,
+    ..SILENT
 };
 
 /// The sink fails within the first line: its edit is the last that was asked.
@@ -97,43 +76,13 @@ const CUT_SHORT: Due = Due {
     status: 3,
     written: &[b"ed"],
     told: b"streamoffice: output fault\n",
-    is_read: true,
-    left: Some(KEPT),
-};
-
-/// Every byte comes and goes alone.
-const BYTE_BY_BYTE: Ways = Ways {
-    input: &[],
-    output: &[],
-    faults: &[],
-    disk: &[],
-    piece: 1,
-};
-
-/// The input fails at once, and behind some bytes.
-const NO_INPUT: Ways = Ways {
-    input: &[1],
-    output: &[],
-    faults: &[],
-    disk: &[],
-    piece: 1,
-};
-
-const CUT_INPUT: Ways = Ways {
-    input: &[9],
-    output: &[],
-    faults: &[],
-    disk: &[],
-    piece: 1,
+    ..ADDED
 };
 
 /// The output fails at its third byte.
 const CUT_OUTPUT: Ways = Ways {
-    input: &[],
     output: &[3],
-    faults: &[],
-    disk: &[],
-    piece: 1,
+    ..BYTE_BY_BYTE
 };
 
 /// Documents over a journal without records, and over that of the station.
@@ -167,13 +116,7 @@ const DOCUMENTS: [Run; 12] = [
     (STATIONS, NO_RECORDS, &WHOLE, &[], &NO_DOCUMENT),
     (STATIONS, NO_RECORDS, &NO_INPUT, &[POTOMAC], &INPUT_FAULT),
     (STATIONS, NO_RECORDS, &CUT_INPUT, &[POTOMAC], &INPUT_FAULT),
-    (
-        STATIONS,
-        NO_RECORDS,
-        &CUT_OUTPUT,
-        &[POTOMAC, LITTLE],
-        &CUT_SHORT,
-    ),
+    (STATIONS, NO_RECORDS, &CUT_OUTPUT, BOTH, &CUT_SHORT),
 ];
 
 #[test]
@@ -194,45 +137,18 @@ fn a_journal_comes_before_the_input(rt: HostRuntime) -> Result<(), Fail> {
 
 /// What is due of two stations of different lengths of number.
 const TWO: Due = Due {
-    status: 0,
     written: &[b"edit 1 01646500\n", b"edit 2 000000007\n"],
-    told: b"",
-    is_read: true,
-    left: None,
+    ..SILENT
 };
 
-const BOTH: &[u8] = b"by = \"AB\"\n\
-    [[station]]\n\
-    site = \"01646500\"\n\
-    ref = \"st-1\"\n\
-    name = \"POTOMAC\"\n\
-    zone = \"-05:00\"\n\
-    gap = 720\n\
-    stage_array = \"9999999992\"\n\
-    discharge_array = \"0222233332\"\n\
-    [[station]]\n\
-    site = \"000000007\"\n\
-    ref = \"st-3\"\n\
-    name = \"LITTLE CREEK\"\n\
-    zone = \"EST5EDT,M3.2.0,M11.1.0\"\n\
-    gap = 60\n\
-    stage_array = \"9999999992\"\n\
-    discharge_array = \"0222233332\"\n";
+const BOTH: Parts = &[POTOMAC, LITTLE];
 
 /// A journal is made, stations are added, and the same document again tells the same.
 const TURNS: [Turn; 3] = [
-    (whole_runs::INIT, b"", &MADE),
+    (INIT, &[], &MADE),
     (STATIONS, BOTH, &TWO),
     (STATIONS, BOTH, &TWO),
 ];
-
-const MADE: Due = Due {
-    status: 0,
-    written: &[],
-    told: b"",
-    is_read: false,
-    left: None,
-};
 
 const BOTH_KEPT: &[u8] =
     b"STREAMOFFICE-J1\n\x01\x39\0\0\0\x01\x02AB\x04st-1\x08\xa4\x1f\x19\0\0\0\0\0\x07POTOMAC\x06-05:00\xd0\x02\0\099999999920222233332\x01\x4e\0\0\0\x01\x02AB\x04st-3\x09\x07\0\0\0\0\0\0\0\x0cLITTLE CREEK\x16EST5EDT,M3.2.0,M11.1.0\x3c\0\0\099999999920222233332\0";
@@ -263,33 +179,24 @@ fn a_document_has_4_194_304_bytes_at_most(rt: HostRuntime) -> Result<(), Fail> {
 
 /// The disk fails in the first edit: in the write of its record, and in the sync behind that.
 const WRITE_FAILS: Ways = Ways {
-    input: &[],
-    output: &[],
-    faults: &[],
     disk: &[5],
-    piece: 10_000_000,
+    ..WHOLE
 };
 
 const SYNC_FAILS: Ways = Ways {
-    input: &[],
-    output: &[],
-    faults: &[],
     disk: &[6],
-    piece: 10_000_000,
+    ..WHOLE
 };
 
 /// The second station is asked all the same, and has the number that the first would have had.
 const SECOND_ALONE: Due = Due {
-    status: 0,
     written: &[b"refused JournalFault 01646500\n", b"edit 1 000000007\n"],
-    told: b"",
-    is_read: true,
-    left: None,
+    ..SILENT
 };
 
 const FAULTS: [Run; 2] = [
-    (STATIONS, NO_RECORDS, &WRITE_FAILS, &[BOTH], &SECOND_ALONE),
-    (STATIONS, NO_RECORDS, &SYNC_FAILS, &[BOTH], &SECOND_ALONE),
+    (STATIONS, NO_RECORDS, &WRITE_FAILS, BOTH, &SECOND_ALONE),
+    (STATIONS, NO_RECORDS, &SYNC_FAILS, BOTH, &SECOND_ALONE),
 ];
 
 #[test]

@@ -3,7 +3,8 @@
 use crate::dues::COUNTS;
 use std::test::Fail;
 use whole_runs::{
-    ADDED, Batch, Due, Exchange, GET_ALONE, NOT_FOUND, OK, POST_ALONE, pass_anew, pass_batches,
+    ADDED, Batch, Due, Exchange, GET_ALONE, NOT_FOUND, OK, POST_ALONE, SILENT, pass_anew,
+    pass_batches,
 };
 
 const NO_ROUTE: &str = r#"{"code":"NoRoute"}"#;
@@ -188,7 +189,6 @@ const NO_ROUTE_REPLY: &[u8] =
 
 /// The replies to these.
 const LENGTH_REQUIRED: Due = Due {
-    status: 0,
     written: &[
         NO_LENGTH,
         NO_LENGTH,
@@ -198,9 +198,7 @@ const LENGTH_REQUIRED: Due = Due {
         NO_ROUTE_REPLY,
         COUNTS,
     ],
-    told: b"",
-    is_read: true,
-    left: None,
+    ..SILENT
 };
 
 const LENGTHS: [Batch; 1] = [(&[WITHOUT_LENGTH], &LENGTH_REQUIRED)];

@@ -1,9 +1,9 @@
 //! Bodies of edits that are refused: they are no JSON, have no kind, or a member that is missing, ill formed or further.
 
-use crate::dues::COUNTS;
+use crate::dues::{COUNTS, REFUSED_AS_NO_JSON};
 use crate::members::{ADDITIONS, HEADS, PUTS};
 use std::test::Fail;
-use whole_runs::{BAD_REQUEST, Due, Exchange, LongBatch, OK, pass_anew, pass_long_batches};
+use whole_runs::{BAD_REQUEST, Due, Exchange, LongBatch, OK, SILENT, pass_anew, pass_long_batches};
 
 /// Behind the bodies the office has no edit.
 pub const NO_EDIT: Exchange = ("GET /status", "", OK, r#"{"edits":0,"pending":0}"#);
@@ -74,28 +74,13 @@ fn bodies_that_are_no_edit(rt: HostRuntime) -> Result<(), Fail> {
     pass_anew(rt.alloc(), &BODIES)
 }
 
-/// What is replied to a body without a kind.
-const AS_JSON: Due = Due {
-    status: 0,
+/// The counts are asked for behind a body without a kind.
+const REFUSED_WITHOUT_KIND: Due = Due {
     written: &[
         b"HTTP/1.1 400 Bad Request\r\nContent-Type: application/json\r\nContent-Length: 31\r\n\r\n{\"code\":\"Body\",\"member\":\"kind\"}",
         COUNTS,
     ],
-    told: b"",
-    is_read: true,
-    left: None,
-};
-
-/// And to one that is no JSON.
-const AS_NO_JSON: Due = Due {
-    status: 0,
-    written: &[
-        b"HTTP/1.1 400 Bad Request\r\nContent-Type: application/json\r\nContent-Length: 15\r\n\r\n{\"code\":\"Json\"}",
-        COUNTS,
-    ],
-    told: b"",
-    is_read: true,
-    left: None,
+    ..SILENT
 };
 
 /// So many lists, each within the one before: JSON is at most 127 deep.
@@ -107,7 +92,7 @@ const NESTED: [LongBatch; 2] = [
             (b"]", 127),
             (b"GET /status HTTP/1.1\r\n\r\n", 1),
         ],
-        &AS_JSON,
+        &REFUSED_WITHOUT_KIND,
     ),
     (
         &[
@@ -116,7 +101,7 @@ const NESTED: [LongBatch; 2] = [
             (b"]", 128),
             (b"GET /status HTTP/1.1\r\n\r\n", 1),
         ],
-        &AS_NO_JSON,
+        &REFUSED_AS_NO_JSON,
     ),
 ];
 

@@ -1,6 +1,6 @@
 //! What is to come of runs.
 
-use whole_runs::Due;
+use whole_runs::{Due, SILENT};
 
 /// The counts of an office without an edit.
 pub const COUNTS: &[u8] =
@@ -10,22 +10,20 @@ pub const COUNTS: &[u8] =
 pub const MALFORMED: &[u8] =
     b"HTTP/1.1 400 Bad Request\r\nContent-Type: application/json\r\nContent-Length: 20\r\n\r\n{\"code\":\"Malformed\"}";
 
-/// Nothing is asked.
-pub const SILENT: Due = Due {
-    status: 0,
-    written: &[],
-    told: b"",
-    is_read: true,
-    left: None,
-};
+/// The reply to a body that is no JSON.
+const JSON: &[u8] =
+    b"HTTP/1.1 400 Bad Request\r\nContent-Type: application/json\r\nContent-Length: 15\r\n\r\n{\"code\":\"Json\"}";
 
 /// The counts are asked for.
 pub const COUNTED: Due = Due {
-    status: 0,
     written: &[COUNTS],
-    told: b"",
-    is_read: true,
-    left: None,
+    ..SILENT
+};
+
+/// The same behind a body that is no JSON.
+pub const REFUSED_AS_NO_JSON: Due = Due {
+    written: &[JSON, COUNTS],
+    ..SILENT
 };
 
 /// The first bytes are no message.
@@ -33,6 +31,12 @@ pub const MALFORMED_AT_0: Due = Due {
     status: 9,
     written: &[MALFORMED],
     told: b"streamoffice: malformed at 0\n",
-    is_read: true,
-    left: None,
+    ..SILENT
+};
+
+/// The input fails before anything is asked.
+pub const INPUT_FAULT: Due = Due {
+    status: 2,
+    told: b"streamoffice: input fault\n",
+    ..SILENT
 };

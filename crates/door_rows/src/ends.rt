@@ -1,60 +1,31 @@
 //! The words of a run, and how it ends.
 
-use crate::dues::{COUNTED, SILENT};
+use crate::dues::{COUNTED, INPUT_FAULT};
+use crate::ways::{BYTE_BY_BYTE, CUT_INPUT, NO_INPUT};
 use std::test::Fail;
 use whole_runs::{
-    BATCH, Due, INIT, NO_RECORDS, Opening, Parts, Run, STATUS, Turn, Ways, pass_in_turn,
+    ADDED_RECORD, BATCH, CLOSED, Due, HEADER, INIT, JOURNAL_EXISTS, MADE, NO_RECORDS,
+    NOT_A_JOURNAL, Opening, Parts, Run, SILENT, STATUS, Turn, UNREAD, WHOLE, Ways, pass_in_turn,
     pass_openings, pass_runs,
 };
 
 /// What is told where the run ends before it asks for input, and the status.
 const USAGE: Due = Due {
     status: 1,
-    written: &[],
     told: b"streamoffice: usage: init, batch, serve, stations or trial\n",
-    is_read: false,
-    left: None,
+    ..UNREAD
 };
 
 const DISK_FAULT: Due = Due {
     status: 4,
-    written: &[],
     told: b"streamoffice: disk fault\n",
-    is_read: false,
-    left: None,
-};
-
-const NOT_A_JOURNAL: Due = Due {
-    status: 5,
-    written: &[],
-    told: b"streamoffice: not a journal\n",
-    is_read: false,
-    left: None,
-};
-
-const JOURNAL_EXISTS: Due = Due {
-    status: 8,
-    written: &[],
-    told: b"streamoffice: journal exists\n",
-    is_read: false,
-    left: None,
-};
-
-const MADE: Due = Due {
-    status: 0,
-    written: &[],
-    told: b"",
-    is_read: false,
-    left: None,
+    ..UNREAD
 };
 
 /// The six figures of the trial of number 1.
 const TRIED: Due = Due {
-    status: 0,
     written: &[b"stations 4\nedits 68\nlocked 4\npublished 1607\napproved 400\ntotal 721636584\n"],
-    told: b"",
-    is_read: false,
-    left: None,
+    ..UNREAD
 };
 
 /// Words, over a journal of no records.
@@ -93,10 +64,10 @@ fn words(rt: HostRuntime) -> Result<(), Fail> {
 
 /// A name under which nothing stands, a journal made under it, and the runs behind it.
 const MAKING: [Turn; 4] = [
-    (BATCH, b"", &NOT_A_JOURNAL),
-    (INIT, b"", &MADE),
-    (INIT, b"", &JOURNAL_EXISTS),
-    (BATCH, b"", &SILENT),
+    (BATCH, &[], &NOT_A_JOURNAL),
+    (INIT, &[], &MADE),
+    (INIT, &[], &JOURNAL_EXISTS),
+    (BATCH, &[], &SILENT),
 ];
 
 #[test]
@@ -105,7 +76,10 @@ fn a_journal_is_made_and_served(rt: HostRuntime) -> Result<(), Fail> {
 }
 
 /// A cabinet that gives no disk.
-const NO_DISK: [Turn; 2] = [(INIT, STATUS, &DISK_FAULT), (BATCH, STATUS, &DISK_FAULT)];
+const NO_DISK: [Turn; 2] = [
+    (INIT, &[STATUS], &DISK_FAULT),
+    (BATCH, &[STATUS], &DISK_FAULT),
+];
 
 #[test]
 fn a_cabinet_fails(rt: HostRuntime) -> Result<(), Fail> {
@@ -114,27 +88,18 @@ fn a_cabinet_fails(rt: HostRuntime) -> Result<(), Fail> {
 
 /// The first, the second and the third call of the disk fail.
 const FIRST_FAILS: Ways = Ways {
-    input: &[],
-    output: &[],
-    faults: &[],
     disk: &[1],
-    piece: 10_000_000,
+    ..WHOLE
 };
 
 const SECOND_FAILS: Ways = Ways {
-    input: &[],
-    output: &[],
-    faults: &[],
     disk: &[2],
-    piece: 10_000_000,
+    ..WHOLE
 };
 
 const THIRD_FAILS: Ways = Ways {
-    input: &[],
-    output: &[],
-    faults: &[],
     disk: &[3],
-    piece: 10_000_000,
+    ..WHOLE
 };
 
 /// Calls that fail before the input is read.
@@ -157,86 +122,44 @@ const ADDITION: &[u8] = b"POST /edits HTTP/1.1\r\nContent-Length: 161\r\n\r\n\
     {\"kind\":\"AddStation\",\"by\":\"AB\",\"ref\":\"a1\",\"site\":\"01646500\",\"name\":\"POTOMAC\",\"zone\":\"-05:00\",\"gap\":720,\"stage_array\":\"9999999992\",\"discharge_array\":\"9999999992\"}";
 
 /// The journal behind it.
-const KEPT: Parts = &[
-    b"STREAMOFFICE-J1\n\x01\x37\0\0\0\x01\x02AB\x02a1\x08\xa4\x1f\x19\0\0\0\0\0\x07POTOMAC\x06-05:00\xd0\x02\0\099999999929999999992\0",
-];
-
-/// Every byte comes and goes alone.
-const BYTE_BY_BYTE: Ways = Ways {
-    input: &[],
-    output: &[],
-    faults: &[],
-    disk: &[],
-    piece: 1,
-};
+const KEPT: Parts = &[HEADER, ADDED_RECORD, CLOSED];
 
 const ACCEPTED: Due = Due {
-    status: 0,
     written: &[
         b"HTTP/1.1 200 OK\r\nContent-Type: application/json\r\nContent-Length: 27\r\n\r\n{\"edit\":1,\"repeated\":false}",
     ],
-    told: b"",
-    is_read: true,
     left: Some(KEPT),
-};
-
-/// The input fails at once, and within the first head.
-const NO_INPUT: Ways = Ways {
-    input: &[1],
-    output: &[],
-    faults: &[],
-    disk: &[],
-    piece: 1,
-};
-
-const CUT_INPUT: Ways = Ways {
-    input: &[9],
-    output: &[],
-    faults: &[],
-    disk: &[],
-    piece: 1,
-};
-
-const INPUT_FAULT: Due = Due {
-    status: 2,
-    written: &[],
-    told: b"streamoffice: input fault\n",
-    is_read: true,
-    left: None,
+    ..SILENT
 };
 
 /// The output fails within the reply.
 const CUT_OUTPUT: Ways = Ways {
-    input: &[],
     output: &[3],
-    faults: &[],
-    disk: &[],
     piece: 10,
+    ..WHOLE
 };
 
 const OUTPUT_FAULT: Due = Due {
     status: 3,
     written: &[b"HTTP/1.1 200 OK\r\nCon"],
     told: b"streamoffice: output fault\n",
-    is_read: true,
     left: Some(KEPT),
+    ..SILENT
 };
 
 /// The output fails at once, and the sink of faults within the line.
 const CUT_FAULTS: Ways = Ways {
-    input: &[],
     output: &[1],
     faults: &[2],
-    disk: &[],
     piece: 10,
+    ..WHOLE
 };
 
 const CUT_LINE: Due = Due {
     status: 3,
-    written: &[],
     told: b"streamoffi",
-    is_read: true,
     left: Some(KEPT),
+    ..SILENT
 };
 
 /// The output fails within the figures of a trial.
@@ -244,8 +167,7 @@ const CUT_TRIAL: Due = Due {
     status: 3,
     written: &[b"stations 4\nedits 68\n"],
     told: b"streamoffice: output fault\n",
-    is_read: false,
-    left: None,
+    ..UNREAD
 };
 
 const PIECES: [Run; 6] = [

@@ -16,4 +16,6 @@ mod members;
 #[cfg(test)]
 mod messages;
 #[cfg(test)]
+mod ways;
+#[cfg(test)]
 mod whole_run;

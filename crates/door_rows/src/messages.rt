@@ -1,16 +1,15 @@
 //! How the input is cut into messages, and bytes that are none.
 
-use crate::dues::{COUNTED, COUNTS, MALFORMED, MALFORMED_AT_0, SILENT};
+use crate::dues::{COUNTED, COUNTS, MALFORMED, MALFORMED_AT_0, REFUSED_AS_NO_JSON};
 use std::test::Fail;
-use whole_runs::{Batch, Due, LongBatch, STATUS, pass_batches, pass_long_batches};
+use whole_runs::{Batch, Due, LongBatch, SILENT, STATUS, pass_batches, pass_long_batches};
 
 /// The bytes behind a whole message of 24 bytes are no message.
 const MALFORMED_AT_24: Due = Due {
     status: 9,
     written: &[COUNTS, MALFORMED],
     told: b"streamoffice: malformed at 24\n",
-    is_read: true,
-    left: None,
+    ..SILENT
 };
 
 /// Bytes behind a whole message that begin no message: heads that are cut, that are none, or whose length is none or is told twice,
@@ -165,38 +164,20 @@ fn messages_are_spelled_in_many_ways(rt: HostRuntime) -> Result<(), Fail> {
 
 /// The office settles, and is asked for the counts.
 const SETTLED: Due = Due {
-    status: 0,
     written: &[
         b"HTTP/1.1 200 OK\r\nContent-Type: application/json\r\nContent-Length: 27\r\n\r\n{\"pending\":0,\"published\":0}",
         COUNTS,
     ],
-    told: b"",
-    is_read: true,
-    left: None,
-};
-
-/// A body that is no JSON, and the counts.
-const NO_JSON: Due = Due {
-    status: 0,
-    written: &[
-        b"HTTP/1.1 400 Bad Request\r\nContent-Type: application/json\r\nContent-Length: 15\r\n\r\n{\"code\":\"Json\"}",
-        COUNTS,
-    ],
-    told: b"",
-    is_read: true,
-    left: None,
+    ..SILENT
 };
 
 /// A body that is too large, and the counts.
 const TOO_LARGE: Due = Due {
-    status: 0,
     written: &[
         b"HTTP/1.1 413 Payload Too Large\r\nContent-Type: application/json\r\nContent-Length: 19\r\n\r\n{\"code\":\"TooLarge\"}",
         COUNTS,
     ],
-    told: b"",
-    is_read: true,
-    left: None,
+    ..SILENT
 };
 
 /// Sixteen blanks, of which bodies are made.
@@ -224,7 +205,7 @@ const LARGE: [LongBatch; 6] = [
             (BLANKS, 262_144),
             (STATUS, 1),
         ],
-        &NO_JSON,
+        &REFUSED_AS_NO_JSON,
     ),
     (
         &[

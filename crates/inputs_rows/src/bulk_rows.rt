@@ -1,6 +1,6 @@
 //! Readings in bulk, dropped and flagged by spans, and estimates: which of them are refused, and which days they change.
 
-use crate::fixtures::{ADDITION, Between, FIRST, LATE, NEXT, SECOND, Sent, Stage};
+use crate::fixtures::{ADDITION, Between, DAY_AND_NEXT, FIRST, LATE, NEXT, SECOND, Sent, Stage};
 use crate::reach_rows::{Change, change_all};
 use crate::refusal_rows::{
     Cause, DAY_READINGS, History, NO_ENTRY, NO_STATION, READINGS, Row, are_right,
@@ -45,6 +45,13 @@ const FULL_DAYS: [Row; 13] = [
     (&Sent::NoReadings(WHOLE_DAY), None),
     (TWO_DAYS, None),
 ];
+
+/// Readings of a day and at its end, of which the first one alone is used.
+const FIRST_ALONE_USED: &Sent = &Sent::PutEach(&[
+    (("2024-01-05T05:00:00Z", 1_000_000), Flag::Usable),
+    (("2024-01-05T17:00:00Z", 2_000_000), Flag::Erroneous),
+    (("2024-01-06T05:00:00Z", 1_000_000), Flag::Erroneous),
+]);
 
 /// Three readings of three days.
 const THREE: &Sent = &Sent::PutMany(("2024-01-05T05:00:00Z", 3, 86_400));
@@ -154,7 +161,7 @@ const BOTH_LATER: Between = ("2024-01-05T17:00:00Z", "2024-01-06T05:00:00Z");
 /// The second reading is erroneous.
 const ERRONEOUS_SECOND: &Sent = &Sent::Flags(AT_SECOND, Flag::Erroneous);
 
-static CHANGES: [Change; 15] = [
+static CHANGES: [Change; 17] = [
     (
         "readings of three days",
         &[ADDITION],
@@ -162,6 +169,18 @@ static CHANGES: [Change; 15] = [
         &["2024-01-05", "2024-01-06", "2024-01-07"],
     ),
     ("the same readings", &[ADDITION, THREE], THREE, &[]),
+    (
+        "readings of a day and at its end",
+        &[ADDITION],
+        DAY_AND_NEXT,
+        &["2024-01-05", "2024-01-06"],
+    ),
+    (
+        "both later readings erroneous as they are put",
+        &[ADDITION],
+        FIRST_ALONE_USED,
+        &["2024-01-05"],
+    ),
     (
         "one reading of another stage among them",
         &[ADDITION, THREE, SECOND, LATE],

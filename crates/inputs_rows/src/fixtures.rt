@@ -25,6 +25,9 @@ pub const POTOMAC: u64 = 1_646_500;
 /// The instant at which a stage is read, and the stage in millionths of a foot.
 pub type Stage = (&'static str, i64);
 
+/// A stage, and what is said of it.
+pub type Flagged = (Stage, Flag);
+
 /// When the first of some readings is read, how many there are, and how many seconds apart: stages of 1 foot.
 pub type Many = (&'static str, u32, u32);
 
@@ -61,6 +64,8 @@ pub enum Sent {
     Put(u64, Stage),
     /// Puts many readings.
     PutMany(Many),
+    /// Puts readings, each with its flag.
+    PutEach(&'static [Flagged]),
     /// Takes out the readings of a span.
     NoReadings(Between),
     /// Flags the readings of a span.
@@ -106,6 +111,13 @@ pub const LAST: &Sent = &Sent::Put(POTOMAC, ("2024-01-06T04:59:59Z", 1_000_000))
 /// Puts a stage at the end of that day, which is the beginning of the next.
 pub const NEXT: &Sent = &Sent::Put(POTOMAC, ("2024-01-06T05:00:00Z", 1_000_000));
 
+/// Puts the first, the second and the next of these at once.
+pub const DAY_AND_NEXT: &Sent = &Sent::PutEach(&[
+    (("2024-01-05T05:00:00Z", 1_000_000), Flag::Usable),
+    (("2024-01-05T17:00:00Z", 2_000_000), Flag::Usable),
+    (("2024-01-06T05:00:00Z", 1_000_000), Flag::Usable),
+]);
+
 /// Puts a stage two days after the first.
 pub const LATE: &Sent = &Sent::Put(POTOMAC, ("2024-01-07T05:00:00Z", 2_000_000));
 
@@ -142,14 +154,21 @@ fn setting(alloc: Global, gap: u32) -> Option<What> {
     })
 }
 
-fn put(alloc: Global, stage: Stage) -> Option<What> {
-    let reading = Reading {
+fn reading(stage: Stage, flag: Flag) -> Option<Reading> {
+    Some(Reading {
         at: read_instant(stage.0.as_bytes())?,
         raw: Micro::new(stage.1)?,
-        flag: Flag::Usable,
-    };
+        flag,
+    })
+}
+
+fn put_each(alloc: Global, stages: &[Flagged]) -> Option<What> {
+    let mut readings = Vec::new(alloc);
+    for (stage, flag) in stages {
+        readings.push(reading(*stage, *flag)?).ok()?;
+    }
     Some(What::PutReadings {
-        readings: ReadingList::from_vec([reading].to_vec(alloc).ok()?),
+        readings: ReadingList::from_vec(readings),
     })
 }
 
@@ -317,7 +336,8 @@ fn change(alloc: Global, sent: &Sent) -> Option<What> {
     match *sent {
         Sent::Addition(_) => addition(alloc),
         Sent::Setting(gap) => setting(alloc, gap),
-        Sent::Put(_, stage) => put(alloc, stage),
+        Sent::Put(_, stage) => put_each(alloc, &[(stage, Flag::Usable)]),
+        Sent::PutEach(stages) => put_each(alloc, stages),
         Sent::PutMany(many) => put_many(alloc, many),
         Sent::NoReadings(span) => no_readings(span),
         Sent::Flags(span, flag) => flags(span, flag),

@@ -5,8 +5,8 @@ ghost use Rattle.office_inputs.specs.Kept.{in_force};
 ghost use Rattle.office_inputs.specs.Stations.{stations_after};
 
 use crate::fixtures::{
-    ADDITION, FIRST, LATE, NEXT, POTOMAC, SECOND, Sent, Span, accept, days, edit, inputs_after,
-    no_inputs, reached,
+    ADDITION, DAY_AND_NEXT, FIRST, LATE, NEXT, POTOMAC, SECOND, Sent, Span, accept, days, edit,
+    inputs_after, no_inputs, reached,
 };
 use civil_days::read_day;
 use depend::from_scratch::changed_days;
@@ -218,7 +218,7 @@ fn an_edit_changes_the_days_near_it(rt: HostRuntime) -> Result<(), &'static str>
 /// What was sent, what is sent then, and the first and the last of the days that are compared for it.
 type Compared = (&'static str, &'static [&'static Sent], &'static Sent, Span);
 
-static COMPARED: [Compared; 9] = [
+static COMPARED: [Compared; 10] = [
     ("a station", &[], ADDITION, None),
     (
         "the first reading",
@@ -231,6 +231,13 @@ static COMPARED: [Compared; 9] = [
         &[ADDITION, FIRST, SECOND],
         NEXT,
         Some(("2024-01-05", "2024-01-07")),
+    ),
+    // Three days lie within 720 minutes of them, and one day more is compared.
+    (
+        "readings of a day and at its end",
+        &[ADDITION],
+        DAY_AND_NEXT,
+        Some(("2024-01-04", "2024-01-07")),
     ),
     (
         "another gap",

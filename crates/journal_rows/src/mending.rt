@@ -13,42 +13,37 @@ const MENDED: &[(Act, Told)] = &[
     (Act::Append(ADDED), Told::Done),
 ];
 
+/// The addition is appended to a journal of no records, into which it just fits. The calls 5 to 8 of the disk are those of the append.
+const APPENDED: Row = Row {
+    before: &[CLOSED],
+    failing: &[],
+    limit: 77,
+    acts: MENDED,
+    counts: (0, 2),
+    after: &[GATE, ADDED],
+    records: 1,
+};
+
 static MENDINGS: [Row; 4] = [
     Row {
-        before: &[CLOSED],
         failing: &[7, 8],
-        limit: 77,
-        acts: MENDED,
         counts: (14, 2),
-        after: &[GATE, ADDED],
-        records: 1,
+        ..APPENDED
     },
     Row {
-        before: &[CLOSED],
         failing: &[7, 9],
-        limit: 77,
-        acts: MENDED,
         counts: (15, 2),
-        after: &[GATE, ADDED],
-        records: 1,
+        ..APPENDED
     },
     Row {
-        before: &[CLOSED],
         failing: &[8, 9],
-        limit: 77,
-        acts: MENDED,
         counts: (15, 2),
-        after: &[GATE, ADDED],
-        records: 1,
+        ..APPENDED
     },
     Row {
-        before: &[CLOSED],
         failing: &[8, 10],
-        limit: 77,
-        acts: MENDED,
         counts: (16, 2),
-        after: &[GATE, ADDED],
-        records: 1,
+        ..APPENDED
     },
 ];
 
@@ -62,9 +57,7 @@ fn mending(rt: HostRuntime) -> Result<(), (usize, Wrong)> {
 const LEFT_OF_IT: &[u8] = b"99999929999999992\0";
 
 static ANOTHER: [Row; 1] = [Row {
-    before: &[CLOSED],
     failing: &[8, 9],
-    limit: 77,
     acts: &[
         (Act::Mend, Told::Sound),
         (Act::Append(ADDED), Told::Fault(true)),
@@ -74,7 +67,7 @@ static ANOTHER: [Row; 1] = [Row {
     ],
     counts: (15, 2),
     after: &[GATE, PUT, LEFT_OF_IT],
-    records: 1,
+    ..APPENDED
 }];
 
 /// Another record may stand where the one in doubt did; what is left of that does not count.

@@ -1,40 +1,41 @@
 //! What stands in a journal behind reviews and approvals: the sheets are kept as they stand, and a record that the statuses of its days or
 //! an approved day refuse is damage.
 
-use crate::journals::{ADDED_RECORD, DAMAGED_AT_76, HEADER, READING};
+use crate::journals::{DAMAGED, DAMAGED_AT_76, READING};
+use crate::two_days::{FIFTH, FIFTH_SHEET, ONE_SETTLED};
 use std::test::Fail;
 use whole_runs::{
-    ADDED, BATCH, Due, Exchange, LOCKED, NO_RECORDS, OK, Opening, Parts, SHEET, Session,
-    UNAVAILABLE, pass_openings, pass_sessions,
+    ADDED, ADDED_RECORD, BATCH, CLOSED, Due, Exchange, HEADER, LOCKED, NEW, OK, Opening, Parts,
+    SHEET, Session, UNAVAILABLE, pass_openings, pass_sessions,
 };
 
-/// 2024-01-05 is put in review by RV under `a2`.
+/// 2024-01-05 is put in review by RV under `a2`. This record and those below stand behind their gates, which are open.
 const REVIEW: &[u8] =
-    b"\x18\0\0\0\x11\x02RV\x02a2\x08\xa4\x1f\x19\0\0\0\0\0\x0f\x4d\0\0\x0f\x4d\0\0";
+    b"\x01\x18\0\0\0\x11\x02RV\x02a2\x08\xa4\x1f\x19\0\0\0\0\0\x0f\x4d\0\0\x0f\x4d\0\0";
 
 /// It is approved by AP under `a3`, with the sheet of an empty day.
 const APPROVAL: &[u8] =
-    b"\x53\0\0\0\x12\x02AP\x02a3\x08\xa4\x1f\x19\0\0\0\0\0\x0f\x4d\0\0\x0f\x4d\0\0\0\x36\0\0\0PRIMARY COMPUTATION 01646500 2024-01-05\nSTATE A\nEMPTY\n";
+    b"\x01\x53\0\0\0\x12\x02AP\x02a3\x08\xa4\x1f\x19\0\0\0\0\0\x0f\x4d\0\0\x0f\x4d\0\0\0\x36\0\0\0PRIMARY COMPUTATION 01646500 2024-01-05\nSTATE A\nEMPTY\n";
 
 /// The same with another sheet.
 const OTHER_SHEET: &[u8] =
-    b"\x2f\0\0\0\x12\x02AP\x02a3\x08\xa4\x1f\x19\0\0\0\0\0\x0f\x4d\0\0\x0f\x4d\0\0\0\x12\0\0\0not computed here\n";
+    b"\x01\x2f\0\0\0\x12\x02AP\x02a3\x08\xa4\x1f\x19\0\0\0\0\0\x0f\x4d\0\0\x0f\x4d\0\0\0\x12\0\0\0not computed here\n";
 
 /// The same by the reviewer.
 const SAME_PERSON: &[u8] =
-    b"\x2f\0\0\0\x12\x02RV\x02a3\x08\xa4\x1f\x19\0\0\0\0\0\x0f\x4d\0\0\x0f\x4d\0\0\0\x12\0\0\0not computed here\n";
+    b"\x01\x2f\0\0\0\x12\x02RV\x02a3\x08\xa4\x1f\x19\0\0\0\0\0\x0f\x4d\0\0\x0f\x4d\0\0\0\x12\0\0\0not computed here\n";
 
 /// The same without a sheet.
 const WITHOUT_SHEET: &[u8] =
-    b"\x19\0\0\0\x12\x02AP\x02a3\x08\xa4\x1f\x19\0\0\0\0\0\x0f\x4d\0\0\x0f\x4d\0\0\0";
+    b"\x01\x19\0\0\0\x12\x02AP\x02a3\x08\xa4\x1f\x19\0\0\0\0\0\x0f\x4d\0\0\x0f\x4d\0\0\0";
 
 /// The approval is taken back by AB under `a4`.
 const RESCISSION: &[u8] =
-    b"\x19\0\0\0\x12\x02AB\x02a4\x08\xa4\x1f\x19\0\0\0\0\0\x0f\x4d\0\0\x0f\x4d\0\0\x01";
+    b"\x01\x19\0\0\0\x12\x02AB\x02a4\x08\xa4\x1f\x19\0\0\0\0\0\x0f\x4d\0\0\x0f\x4d\0\0\x01";
 
 /// 2024-01-05 is put in review by RV under `a5`.
 const SECOND_REVIEW: &[u8] =
-    b"\x18\0\0\0\x11\x02RV\x02a5\x08\xa4\x1f\x19\0\0\0\0\0\x0f\x4d\0\0\x0f\x4d\0\0";
+    b"\x01\x18\0\0\0\x11\x02RV\x02a5\x08\xa4\x1f\x19\0\0\0\0\0\x0f\x4d\0\0\x0f\x4d\0\0";
 
 const REVIEWED: Exchange = (
     "POST /edits",
@@ -60,10 +61,6 @@ const RESCINDED: Exchange = (
     r#"{"edit":4,"repeated":false}"#,
 );
 
-const FIFTH: &str = "GET /stations/01646500/days/2024-01-05";
-
-const FIFTH_SHEET: &str = "GET /stations/01646500/days/2024-01-05/sheet";
-
 /// The sheet of an approved day without readings and without an estimate.
 const EMPTY_DAY: Exchange = (
     FIFTH_SHEET,
@@ -82,18 +79,7 @@ const PROVISIONAL: Exchange = (
 
 const EDITS: [Exchange; 6] = [ADDED, REVIEWED, APPROVED, EMPTY_DAY, RESCINDED, PROVISIONAL];
 
-const KEPT: Parts = &[
-    HEADER,
-    b"\x01",
-    ADDED_RECORD,
-    b"\x01",
-    REVIEW,
-    b"\x01",
-    APPROVAL,
-    b"\x01",
-    RESCISSION,
-    b"\0",
-];
+const KEPT: Parts = &[HEADER, ADDED_RECORD, REVIEW, APPROVAL, RESCISSION, CLOSED];
 
 const AS_IT_STANDS: Exchange = (FIFTH_SHEET, "", SHEET, "not computed here\n");
 
@@ -154,7 +140,7 @@ const AWAITED: [Exchange; 5] = [
         OK,
         r#"{"answer":"pending","edit":2,"status":"approved"}"#,
     ),
-    ("POST /settle", "", OK, r#"{"pending":0,"published":1}"#),
+    ONE_SETTLED,
     (
         FIFTH,
         "",
@@ -187,61 +173,25 @@ const FAULT: [Exchange; 7] = [
 
 const JOURNALS: [Session; 4] = [
     Session {
-        journal: NO_RECORDS,
-        failing: &[],
         streams: &[&EDITS],
         left: Some(KEPT),
-        calls: None,
+        ..NEW
     },
     Session {
-        journal: &[
-            HEADER,
-            b"\x01",
-            ADDED_RECORD,
-            b"\x01",
-            REVIEW,
-            b"\x01",
-            OTHER_SHEET,
-            b"\0",
-        ],
-        failing: &[],
+        journal: &[HEADER, ADDED_RECORD, REVIEW, OTHER_SHEET, CLOSED],
         streams: &[&OTHER_OPENED, &MADE_ANEW, &STILL_KEPT],
-        left: None,
-        calls: None,
+        ..NEW
     },
     Session {
-        journal: &[
-            HEADER,
-            b"\x01",
-            ADDED_RECORD,
-            b"\x01",
-            READING,
-            b"\x01",
-            REVIEW,
-            b"\x01",
-            OTHER_SHEET,
-            b"\0",
-        ],
-        failing: &[],
+        journal: &[HEADER, ADDED_RECORD, READING, REVIEW, OTHER_SHEET, CLOSED],
         streams: &[&AWAITED],
-        left: None,
-        calls: None,
+        ..NEW
     },
     Session {
-        journal: NO_RECORDS,
         failing: &[9],
         streams: &[&FAULT],
-        left: Some(&[
-            HEADER,
-            b"\x01",
-            ADDED_RECORD,
-            b"\x01",
-            REVIEW,
-            b"\x01",
-            APPROVAL,
-            b"\0",
-        ]),
-        calls: None,
+        left: Some(&[HEADER, ADDED_RECORD, REVIEW, APPROVAL, CLOSED]),
+        ..NEW
     },
 ];
 
@@ -252,20 +202,14 @@ fn approvals_are_kept(rt: HostRuntime) -> Result<(), Fail> {
 
 /// The record of a review with its gate has 29 bytes, so the next one begins at 105.
 const DAMAGED_AT_105: Due = Due {
-    status: 5,
-    written: &[],
     told: b"streamoffice: damaged at 105\n",
-    is_read: false,
-    left: None,
+    ..DAMAGED
 };
 
 /// That of the approval has 88.
 const DAMAGED_AT_193: Due = Due {
-    status: 5,
-    written: &[],
     told: b"streamoffice: damaged at 193\n",
-    is_read: false,
-    left: None,
+    ..DAMAGED
 };
 
 /// An approval and a rescission of a day that is worked; approvals by the reviewer and without a sheet; and of an approved day a review,
@@ -273,72 +217,39 @@ const DAMAGED_AT_193: Due = Due {
 const DAMAGES: [Opening; 6] = [
     (
         BATCH,
-        &[HEADER, b"\x01", ADDED_RECORD, b"\x01", APPROVAL, b"\0"],
+        &[HEADER, ADDED_RECORD, APPROVAL, CLOSED],
         &DAMAGED_AT_76,
     ),
     (
         BATCH,
-        &[HEADER, b"\x01", ADDED_RECORD, b"\x01", RESCISSION, b"\0"],
+        &[HEADER, ADDED_RECORD, RESCISSION, CLOSED],
         &DAMAGED_AT_76,
     ),
     (
         BATCH,
-        &[
-            HEADER,
-            b"\x01",
-            ADDED_RECORD,
-            b"\x01",
-            REVIEW,
-            b"\x01",
-            SAME_PERSON,
-            b"\0",
-        ],
+        &[HEADER, ADDED_RECORD, REVIEW, SAME_PERSON, CLOSED],
+        &DAMAGED_AT_105,
+    ),
+    (
+        BATCH,
+        &[HEADER, ADDED_RECORD, REVIEW, WITHOUT_SHEET, CLOSED],
         &DAMAGED_AT_105,
     ),
     (
         BATCH,
         &[
             HEADER,
-            b"\x01",
             ADDED_RECORD,
-            b"\x01",
             REVIEW,
-            b"\x01",
-            WITHOUT_SHEET,
-            b"\0",
-        ],
-        &DAMAGED_AT_105,
-    ),
-    (
-        BATCH,
-        &[
-            HEADER,
-            b"\x01",
-            ADDED_RECORD,
-            b"\x01",
-            REVIEW,
-            b"\x01",
             APPROVAL,
-            b"\x01",
             SECOND_REVIEW,
-            b"\0",
+            CLOSED,
         ],
         &DAMAGED_AT_193,
     ),
     (
         BATCH,
-        &[
-            HEADER,
-            b"\x01",
-            ADDED_RECORD,
-            b"\x01",
-            REVIEW,
-            b"\x01",
-            APPROVAL,
-            b"\x01",
-            READING,
-            b"\0",
-        ],
+        &[HEADER, ADDED_RECORD, REVIEW, APPROVAL, READING, CLOSED],
         &DAMAGED_AT_193,
     ),
 ];

@@ -1,9 +1,10 @@
 //! Approved days: which edits they lock out, and the computation sheet that is kept of them until their approval is taken back.
 
 use crate::rated_days::{ADDED, IN_FORCE, RATED};
+use crate::two_days::{FIFTH, FIFTH_ALONE, FIFTH_SHEET, ONE_SETTLED};
 use std::test::Fail;
 use whole_runs::{
-    CONFLICT, Exchange, LOCKED, NO_RECORDS, OK, SHEET, Session, TABLE, pass_anew, pass_sessions,
+    CONFLICT, Exchange, LOCKED, NEW, OK, SHEET, Session, TABLE, pass_behind, pass_sessions,
 };
 
 /// A reading of 1.00 where the day of 2024-01-05 begins, one of 2.00 twelve hours later, and one of 1.00 a quarter of an hour before that
@@ -15,15 +16,16 @@ pub(crate) const PUT: Exchange = (
     r#"{"edit":4,"repeated":false}"#,
 );
 
-pub(crate) const ONE_SETTLED: Exchange = ("POST /settle", "", OK, r#"{"pending":0,"published":1}"#);
-
-/// The day is put in review by one person and approved by another.
+/// The day is put in review by RV.
 pub(crate) const REVIEWED: Exchange = (
     "POST /edits",
     r#"{"kind":"Review","by":"RV","ref":"a5","site":"01646500","from":"2024-01-05","to":"2024-01-05"}"#,
     OK,
     r#"{"edit":5,"repeated":false}"#,
 );
+
+/// The station has its rating, and the day is published and in review.
+pub(crate) const REVIEWED_DAY: [Exchange; 6] = [ADDED, RATED, IN_FORCE, PUT, ONE_SETTLED, REVIEWED];
 
 const APPROVAL: &str =
     r#"{"kind":"Decide","by":"AP","ref":"a6","site":"01646500","from":"2024-01-05","to":"2024-01-05","decision":"approve"}"#;
@@ -34,12 +36,6 @@ const APPROVED: Exchange = (
     OK,
     r#"{"edit":6,"repeated":false}"#,
 );
-
-pub(crate) const FIFTH: &str = "GET /stations/01646500/days/2024-01-05";
-
-const FIFTH_ALONE: &str = "GET /stations/01646500/daily/2024-01-05/2024-01-05";
-
-const FIFTH_SHEET: &str = "GET /stations/01646500/days/2024-01-05/sheet";
 
 /// The sheet of the day as it is approved: a quarter of an hour is not covered, so there is no mean.
 const KEPT: Exchange = (
@@ -87,13 +83,7 @@ const FAR: Exchange = (
 
 /// An edit is locked out where it would change what the approved day is computed from, and is accepted otherwise, whatever time it is
 /// of. The sheet stays.
-const LOCKS: [Exchange; 32] = [
-    ADDED,
-    RATED,
-    IN_FORCE,
-    PUT,
-    ONE_SETTLED,
-    REVIEWED,
+const LOCKS: [Exchange; 26] = [
     APPROVED,
     KEPT,
     APPROVED_DAY,
@@ -195,13 +185,7 @@ const RESCISSION: Exchange = (
 );
 
 /// Once the approval is taken back the day is worked like any other, and its next approval keeps a sheet that is made anew.
-const RESCINDED: [Exchange; 19] = [
-    ADDED,
-    RATED,
-    IN_FORCE,
-    PUT,
-    ONE_SETTLED,
-    REVIEWED,
+const RESCINDED: [Exchange; 13] = [
     APPROVED,
     KEPT,
     RESCISSION,
@@ -268,23 +252,10 @@ const RESCINDED: [Exchange; 19] = [
     ),
 ];
 
-const STREAMS: [&[Exchange]; 2] = [&LOCKS, &RESCINDED];
-
 #[test]
 fn approved_days_do_not_move(rt: HostRuntime) -> Result<(), Fail> {
-    pass_anew(rt.alloc(), &STREAMS)
+    pass_behind(rt.alloc(), &REVIEWED_DAY, &[&LOCKS, &RESCINDED])
 }
-
-const BEFORE: [Exchange; 8] = [
-    ADDED,
-    RATED,
-    IN_FORCE,
-    PUT,
-    ONE_SETTLED,
-    REVIEWED,
-    APPROVED,
-    FAR,
-];
 
 /// Opened anew the day awaits its last edit like any other; its status, its locks and its sheet are as before.
 const OPENED_ANEW: [Exchange; 7] = [
@@ -313,11 +284,9 @@ const OPENED_ANEW: [Exchange; 7] = [
 ];
 
 const OPENINGS: [Session; 1] = [Session {
-    journal: NO_RECORDS,
-    failing: &[],
-    streams: &[&BEFORE, &OPENED_ANEW, &OPENED_ANEW],
-    left: None,
-    calls: None,
+    before: &REVIEWED_DAY,
+    streams: &[&[APPROVED, FAR], &OPENED_ANEW, &OPENED_ANEW],
+    ..NEW
 }];
 
 #[test]

@@ -1,10 +1,11 @@
 //! Readings in bulk, their flags, and estimates: from their edits to the days and the daily table.
 
-use crate::rated_days::{ADDED, IN_FORCE, RATED, UNCHANGED};
+use crate::rated_days::{ADDED, IN_FORCE, MIDDLE_NOT_RATED, RATED, WHOLE_DAY};
+use crate::two_days::{
+    AWAITS_4, EMPTY, FIFTH, FIFTH_ALONE, ONE_SETTLED, ONE_TURN, SETTLED, SIXTH, UNCHANGED,
+};
 use std::test::Fail;
-use whole_runs::{CONFLICT, Exchange, NO_RECORDS, OK, Session, pass_anew, pass_sessions};
-
-const CSV: &str = "HTTP/1.1 200 OK\r\nContent-Type: text/csv\r\n";
+use whole_runs::{CONFLICT, Exchange, NEW, OK, Session, TABLE, pass_anew, pass_sessions};
 
 /// A reading of 1.00 where the day of 2024-01-05 begins, one of 2.00 twelve hours later, and one of 1.00 where that day ends.
 const READINGS: &str =
@@ -16,17 +17,6 @@ const PUT: Exchange = (
     OK,
     r#"{"edit":4,"repeated":false}"#,
 );
-
-const SETTLED: Exchange = ("POST /settle", "", OK, r#"{"pending":0,"published":2}"#);
-
-const ONE_SETTLED: Exchange = ("POST /settle", "", OK, r#"{"pending":0,"published":1}"#);
-
-const FIFTH: &str = "GET /stations/01646500/days/2024-01-05";
-
-const FIFTH_ALONE: &str = "GET /stations/01646500/daily/2024-01-05/2024-01-05";
-
-const WHOLE_DAY: &str =
-    r#"{"answer":"computed","covered":86400,"discharge":"20","estimated":false,"length":86400,"max":"30.000000","min":"10.000000","stage":"1.50","status":"working"}"#;
 
 /// The last reading stands where the day ends, and the gaps are as long as they may be. The greatest discharge is that of the second
 /// reading, the least that of the first.
@@ -40,7 +30,7 @@ const WHOLE: [Exchange; 9] = [
     (
         FIFTH_ALONE,
         "",
-        CSV,
+        TABLE,
         "day,answer,edit,discharge,stage,mark,estimated\n2024-01-05,computed,,20,1.50,P,\n",
     ),
     (
@@ -77,12 +67,7 @@ const HALF: [Exchange; 9] = [
         OK,
         r#"{"answer":"computed","covered":43200,"discharge":null,"estimated":false,"length":86400,"max":"30.000000","min":"10.000000","stage":null,"status":"working"}"#,
     ),
-    (
-        "GET /stations/01646500/days/2024-01-06",
-        "",
-        OK,
-        r#"{"answer":"computed","empty":true,"status":"working"}"#,
-    ),
+    (SIXTH, "", OK, EMPTY),
 ];
 
 /// A day awaits the edit until a turn has computed it; one that no edit changed is empty at any time.
@@ -91,24 +76,14 @@ const TURNS: [Exchange; 9] = [
     RATED,
     IN_FORCE,
     PUT,
-    (
-        FIFTH,
-        "",
-        OK,
-        r#"{"answer":"pending","edit":4,"status":"working"}"#,
-    ),
-    (
-        "GET /stations/01646500/days/2024-01-07",
-        "",
-        OK,
-        r#"{"answer":"computed","empty":true,"status":"working"}"#,
-    ),
-    ("POST /turns/1", "", OK, r#"{"pending":1,"published":1}"#),
+    (FIFTH, "", OK, AWAITS_4),
+    ("GET /stations/01646500/days/2024-01-07", "", OK, EMPTY),
+    ONE_TURN,
     (FIFTH, "", OK, WHOLE_DAY),
     (
         "GET /stations/01646500/daily/2024-01-05/2024-01-07",
         "",
-        CSV,
+        TABLE,
         "day,answer,edit,discharge,stage,mark,estimated\n2024-01-05,computed,,20,1.50,P,\n2024-01-06,pending,4,,,P,\n2024-01-07,empty,,,,P,\n",
     ),
 ];
@@ -120,9 +95,6 @@ const AFFECTED: Exchange = (
     r#"{"edit":5,"repeated":false}"#,
 );
 
-const AFFECTED_DAY: &str =
-    r#"{"answer":"computed","covered":0,"discharge":null,"estimated":false,"length":86400,"max":"10.000000","min":"10.000000","stage":"1.50","status":"working"}"#;
-
 /// An affected reading counts for the stage and has no discharge. An estimate is published in place of the mean, and rounded like it.
 const ESTIMATED: [Exchange; 24] = [
     ADDED,
@@ -131,7 +103,7 @@ const ESTIMATED: [Exchange; 24] = [
     PUT,
     AFFECTED,
     SETTLED,
-    (FIFTH, "", OK, AFFECTED_DAY),
+    (FIFTH, "", OK, MIDDLE_NOT_RATED),
     (
         "POST /edits",
         r#"{"kind":"PutEstimate","by":"AB","ref":"a6","site":"01646500","day":"2024-01-05","discharge":"0.0567"}"#,
@@ -141,7 +113,7 @@ const ESTIMATED: [Exchange; 24] = [
     (
         FIFTH_ALONE,
         "",
-        CSV,
+        TABLE,
         "day,answer,edit,discharge,stage,mark,estimated\n2024-01-05,pending,6,,,P,\n",
     ),
     ONE_SETTLED,
@@ -154,7 +126,7 @@ const ESTIMATED: [Exchange; 24] = [
     (
         FIFTH_ALONE,
         "",
-        CSV,
+        TABLE,
         "day,answer,edit,discharge,stage,mark,estimated\n2024-01-05,computed,,0.06,1.50,P,e\n",
     ),
     (
@@ -196,13 +168,8 @@ const ESTIMATED: [Exchange; 24] = [
         r#"{"edit":10,"repeated":false}"#,
     ),
     SETTLED,
-    (FIFTH, "", OK, AFFECTED_DAY),
-    (
-        "GET /stations/01646500/days/2024-01-10",
-        "",
-        OK,
-        r#"{"answer":"computed","empty":true,"status":"working"}"#,
-    ),
+    (FIFTH, "", OK, MIDDLE_NOT_RATED),
+    ("GET /stations/01646500/days/2024-01-10", "", OK, EMPTY),
     ("GET /status", "", OK, r#"{"edits":10,"pending":0}"#),
 ];
 
@@ -274,22 +241,19 @@ const OPENED_ANEW: [Exchange; 4] = [
     (
         "GET /stations/01646500/daily/2024-01-05/2024-01-06",
         "",
-        CSV,
+        TABLE,
         "day,answer,edit,discharge,stage,mark,estimated\n2024-01-05,pending,5,,,P,\n2024-01-06,pending,5,,,P,\n",
     ),
     SETTLED,
-    (FIFTH, "", OK, AFFECTED_DAY),
+    (FIFTH, "", OK, MIDDLE_NOT_RATED),
     ("POST /edits", READINGS, OK, r#"{"edit":4,"repeated":true}"#),
 ];
 
 const BEFORE: [Exchange; 5] = [ADDED, RATED, IN_FORCE, PUT, AFFECTED];
 
 const OPENINGS: [Session; 1] = [Session {
-    journal: NO_RECORDS,
-    failing: &[],
     streams: &[&BEFORE, &OPENED_ANEW],
-    left: None,
-    calls: None,
+    ..NEW
 }];
 
 #[test]

@@ -1,37 +1,13 @@
 //! Datum corrections and shifts, from their edits to the stages of days.
 
+use crate::two_days::{
+    AWAITS_5, AWAITS_6, AWAITS_8, FIFTH, FIRST_READING, SECOND_READING, SETTLED, SIXTH,
+    THIRD_READING, UNCHANGED,
+};
 use std::test::Fail;
-use whole_runs::{ADDED, CONFLICT, Exchange, NO_RECORDS, OK, Session, pass_anew, pass_sessions};
-
-/// A reading of 1.00 where the day of 2024-01-05 begins, one of 2.00 twelve hours later, and one of 1.00 where that day ends.
-const FIRST_READING: Exchange = (
-    "POST /edits",
-    r#"{"kind":"PutReadings","by":"AB","ref":"a2","site":"01646500","readings":[["2024-01-05T05:00:00Z","1.00"]]}"#,
-    OK,
-    r#"{"edit":2,"repeated":false}"#,
-);
-
-const SECOND_READING: Exchange = (
-    "POST /edits",
-    r#"{"kind":"PutReadings","by":"AB","ref":"a3","site":"01646500","readings":[["2024-01-05T17:00:00Z","2.00"]]}"#,
-    OK,
-    r#"{"edit":3,"repeated":false}"#,
-);
-
-const THIRD_READING: Exchange = (
-    "POST /edits",
-    r#"{"kind":"PutReadings","by":"AB","ref":"a4","site":"01646500","readings":[["2024-01-06T05:00:00Z","1.00"]]}"#,
-    OK,
-    r#"{"edit":4,"repeated":false}"#,
-);
-
-const SETTLED: Exchange = ("POST /settle", "", OK, r#"{"pending":0,"published":2}"#);
-
-const UNCHANGED: Exchange = ("POST /settle", "", OK, r#"{"pending":0,"published":0}"#);
-
-const FIFTH: &str = "GET /stations/01646500/days/2024-01-05";
-
-const SIXTH: &str = "GET /stations/01646500/days/2024-01-06";
+use whole_runs::{
+    ADDED, CONFLICT, Exchange, NEW, OK, Session, pass_anew, pass_behind, pass_sessions,
+};
 
 const STAGE_1_50: &str =
     r#"{"answer":"computed","covered":0,"discharge":null,"estimated":false,"length":86400,"max":null,"min":null,"stage":"1.50","status":"working"}"#;
@@ -41,10 +17,6 @@ const STAGE_1_60: &str =
 
 const STAGE_1_6: &str =
     r#"{"answer":"computed","covered":0,"discharge":null,"estimated":false,"length":86400,"max":null,"min":null,"stage":"1.6","status":"working"}"#;
-
-const AWAITS_5: &str = r#"{"answer":"pending","edit":5,"status":"working"}"#;
-
-const AWAITS_6: &str = r#"{"answer":"pending","edit":6,"status":"working"}"#;
 
 const NO_ENTRY: &str = r#"{"code":"NoEntry"}"#;
 
@@ -58,6 +30,15 @@ const CORRECTED: Exchange = (
     OK,
     r#"{"edit":5,"repeated":false}"#,
 );
+
+/// The station has three readings, and the correction behind them.
+const CORRECTED_DAY: [Exchange; 5] = [
+    ADDED,
+    FIRST_READING,
+    SECOND_READING,
+    THIRD_READING,
+    CORRECTED,
+];
 
 /// A correction is in the mean of each day with readings behind it, until it is taken out of its own set, at its own instant.
 const PUT_AND_TAKEN_OUT: [Exchange; 19] = [
@@ -135,12 +116,7 @@ const PRORATED: [Exchange; 11] = [
 
 /// An entry of the value that is in force changes each day that it bears on; the same one again changes none, nor does one behind all
 /// readings; a shift changes days, and no stage.
-const WITHOUT_EFFECT: [Exchange; 17] = [
-    ADDED,
-    FIRST_READING,
-    SECOND_READING,
-    THIRD_READING,
-    CORRECTED,
+const WITHOUT_EFFECT: [Exchange; 12] = [
     SETTLED,
     (
         "POST /edits",
@@ -162,12 +138,7 @@ const WITHOUT_EFFECT: [Exchange; 17] = [
         OK,
         r#"{"edit":8,"repeated":false}"#,
     ),
-    (
-        FIFTH,
-        "",
-        OK,
-        r#"{"answer":"pending","edit":8,"status":"working"}"#,
-    ),
+    (FIFTH, "", OK, AWAITS_8),
     SETTLED,
     (FIFTH, "", OK, STAGE_1_60),
     (
@@ -181,12 +152,7 @@ const WITHOUT_EFFECT: [Exchange; 17] = [
 ];
 
 /// Stages are published by the station's own array: with two figures 1.60 is 1.6.
-const BY_ITS_ARRAY: [Exchange; 8] = [
-    ADDED,
-    FIRST_READING,
-    SECOND_READING,
-    THIRD_READING,
-    CORRECTED,
+const BY_ITS_ARRAY: [Exchange; 3] = [
     (
         "POST /edits",
         r#"{"kind":"SetStation","by":"AB","ref":"a6","site":"01646500","name":"POTOMAC","gap":720,"stage_array":"0222233332","discharge_array":"0222233332"}"#,
@@ -197,26 +163,15 @@ const BY_ITS_ARRAY: [Exchange; 8] = [
     (FIFTH, "", OK, STAGE_1_6),
 ];
 
-const CORRECTIONS: [&[Exchange]; 4] = [
-    &PUT_AND_TAKEN_OUT,
-    &PRORATED,
-    &WITHOUT_EFFECT,
-    &BY_ITS_ARRAY,
-];
-
 #[test]
 fn corrections_are_in_the_mean(rt: HostRuntime) -> Result<(), Fail> {
-    pass_anew(rt.alloc(), &CORRECTIONS)
+    pass_anew(rt.alloc(), &[&PUT_AND_TAKEN_OUT, &PRORATED])?;
+    pass_behind(
+        rt.alloc(),
+        &CORRECTED_DAY,
+        &[&WITHOUT_EFFECT, &BY_ITS_ARRAY],
+    )
 }
-
-const BEFORE: [Exchange; 6] = [
-    ADDED,
-    FIRST_READING,
-    SECOND_READING,
-    THIRD_READING,
-    CORRECTED,
-    SETTLED,
-];
 
 /// What is known once the journal is opened anew.
 const OPENED_ANEW: [Exchange; 4] = [
@@ -232,11 +187,9 @@ const OPENED_ANEW: [Exchange; 4] = [
 ];
 
 const OPENINGS: [Session; 1] = [Session {
-    journal: NO_RECORDS,
-    failing: &[],
-    streams: &[&BEFORE, &OPENED_ANEW],
-    left: None,
-    calls: None,
+    before: &CORRECTED_DAY,
+    streams: &[&[SETTLED], &OPENED_ANEW],
+    ..NEW
 }];
 
 #[test]

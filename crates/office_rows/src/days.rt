@@ -1,28 +1,13 @@
 //! Days that are computed, as they are asked for.
 
+use crate::two_days::{
+    AWAITS_4, AWAITS_5, EMPTY, FIFTH, FIRST_READING, ONE_SETTLED, ONE_TURN, READING,
+    SECOND_READING, SETTLED, SIXTH, THIRD_READING,
+};
 use std::test::Fail;
 use whole_runs::{
-    ADDED, CONFLICT, Exchange, NO_RECORDS, NOT_FOUND, OK, Session, pass_anew, pass_sessions,
+    ADDED, CONFLICT, Exchange, NEW, NOT_FOUND, OK, Session, pass_anew, pass_sessions,
 };
-
-const READING: &str =
-    r#"{"kind":"PutReadings","by":"AB","ref":"a2","site":"01646500","readings":[["2024-01-05T05:00:00Z","1.00"]]}"#;
-
-const FIRST_READING: Exchange = ("POST /edits", READING, OK, r#"{"edit":2,"repeated":false}"#);
-
-const SECOND_READING: Exchange = (
-    "POST /edits",
-    r#"{"kind":"PutReadings","by":"AB","ref":"a3","site":"01646500","readings":[["2024-01-05T17:00:00Z","2.00"]]}"#,
-    OK,
-    r#"{"edit":3,"repeated":false}"#,
-);
-
-const THIRD_READING: Exchange = (
-    "POST /edits",
-    r#"{"kind":"PutReadings","by":"AB","ref":"a4","site":"01646500","readings":[["2024-01-06T05:00:00Z","1.00"]]}"#,
-    OK,
-    r#"{"edit":4,"repeated":false}"#,
-);
 
 const SMALLER_GAP: Exchange = (
     "POST /edits",
@@ -31,23 +16,11 @@ const SMALLER_GAP: Exchange = (
     r#"{"edit":5,"repeated":false}"#,
 );
 
-const SETTLED: Exchange = ("POST /settle", "", OK, r#"{"pending":0,"published":2}"#);
-
-const FIFTH: &str = "GET /stations/01646500/days/2024-01-05";
-
-const SIXTH: &str = "GET /stations/01646500/days/2024-01-06";
-
 const WITH_STAGE: &str =
     r#"{"answer":"computed","covered":0,"discharge":null,"estimated":false,"length":86400,"max":null,"min":null,"stage":"1.50","status":"working"}"#;
 
 const WITHOUT_STAGE: &str =
     r#"{"answer":"computed","covered":0,"discharge":null,"estimated":false,"length":86400,"max":null,"min":null,"stage":null,"status":"working"}"#;
-
-const EMPTY: &str = r#"{"answer":"computed","empty":true,"status":"working"}"#;
-
-const AWAITS_4: &str = r#"{"answer":"pending","edit":4,"status":"working"}"#;
-
-const AWAITS_5: &str = r#"{"answer":"pending","edit":5,"status":"working"}"#;
 
 /// Both days have a stage until their readings are too far apart.
 const A_SMALLER_GAP: [Exchange; 15] = [
@@ -76,7 +49,7 @@ const TURNS: [Exchange; 13] = [
     THIRD_READING,
     (FIFTH, "", OK, AWAITS_4),
     (SIXTH, "", OK, AWAITS_4),
-    ("POST /turns/1", "", OK, r#"{"pending":1,"published":1}"#),
+    ONE_TURN,
     (FIFTH, "", OK, WITH_STAGE),
     (SIXTH, "", OK, AWAITS_4),
     (
@@ -102,7 +75,7 @@ const EMPTY_DAYS: [Exchange; 8] = [
     ("GET /stations/01646500/days/2024-01-04", "", OK, EMPTY),
     (SIXTH, "", OK, EMPTY),
     ("GET /stations/01646500/days/1900-01-01", "", OK, EMPTY),
-    ("POST /settle", "", OK, r#"{"pending":0,"published":1}"#),
+    ONE_SETTLED,
     (SIXTH, "", OK, EMPTY),
     ("GET /stations/01646500/days/2099-12-31", "", OK, EMPTY),
 ];
@@ -147,11 +120,8 @@ const OPENED_ANEW: [Exchange; 6] = [
 ];
 
 const OPENINGS: [Session; 1] = [Session {
-    journal: NO_RECORDS,
-    failing: &[],
     streams: &[&COMPUTED, &OPENED_ANEW, &OPENED_ANEW],
-    left: None,
-    calls: None,
+    ..NEW
 }];
 
 #[test]

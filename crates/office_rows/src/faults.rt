@@ -2,7 +2,7 @@
 
 use std::test::Fail;
 use whole_runs::{
-    ADDED, ADDITION, CONFLICT, Exchange, FIRST, NO_RECORDS, OK, Session, UNAVAILABLE, pass_sessions,
+    ADDED, ADDITION, CONFLICT, Exchange, FIRST, NEW, OK, Session, UNAVAILABLE, pass_sessions,
 };
 
 const IN_DOUBT: &str = r#"{"code":"JournalFault","in_doubt":true}"#;
@@ -61,7 +61,7 @@ const ELSEWHERE: &str =
 const IN_THE_MEANTIME: [Exchange; 10] = [
     ADDED,
     ("POST /edits", READING, UNAVAILABLE, IN_DOUBT),
-    ("GET /status", "", OK, r#"{"edits":1,"pending":0}"#),
+    ONE_EDIT,
     ("POST /edits", ADDITION, OK, r#"{"edit":1,"repeated":true}"#),
     (
         "POST /edits",
@@ -85,81 +85,70 @@ const IN_THE_MEANTIME: [Exchange; 10] = [
 /// behind it the sixth to the ninth.
 const FAULTS: [Session; 11] = [
     Session {
-        journal: NO_RECORDS,
         failing: &[1],
         streams: &[&NOT_KEPT],
-        left: None,
         calls: Some(5),
+        ..NEW
     },
     Session {
-        journal: NO_RECORDS,
         failing: &[2],
         streams: &[&NOT_KEPT],
-        left: None,
         calls: Some(6),
+        ..NEW
     },
     Session {
-        journal: NO_RECORDS,
         failing: &[3],
         streams: &[&LEFT_IN_DOUBT],
-        left: None,
         calls: Some(9),
+        ..NEW
     },
     Session {
-        journal: NO_RECORDS,
         failing: &[4],
         streams: &[&LEFT_IN_DOUBT],
-        left: None,
         calls: Some(10),
+        ..NEW
     },
     Session {
-        journal: NO_RECORDS,
         failing: &[3, 4],
         streams: &[&SECOND_IN_DOUBT],
-        left: None,
         calls: Some(10),
+        ..NEW
     },
     Session {
-        journal: NO_RECORDS,
         failing: &[3, 5],
         streams: &[&SECOND_IN_DOUBT],
-        left: None,
         calls: Some(11),
+        ..NEW
     },
     Session {
-        journal: NO_RECORDS,
         failing: &[3, 6],
         streams: &[&SECOND_NOT_KEPT],
-        left: None,
         calls: Some(10),
+        ..NEW
     },
     Session {
-        journal: NO_RECORDS,
         failing: &[3, 7],
         streams: &[&SECOND_NOT_KEPT],
-        left: None,
         calls: Some(11),
+        ..NEW
     },
     Session {
-        journal: NO_RECORDS,
         failing: &[3, 8],
         streams: &[&SECOND_IN_DOUBT],
-        left: None,
         calls: Some(14),
+        ..NEW
     },
     Session {
-        journal: NO_RECORDS,
         failing: &[3, 9],
         streams: &[&SECOND_IN_DOUBT],
-        left: None,
         calls: Some(15),
+        ..NEW
     },
     Session {
-        journal: NO_RECORDS,
         failing: &[7],
         streams: &[&IN_THE_MEANTIME],
-        left: None,
         calls: Some(13),
+        ..NEW
     },
 ];
 
@@ -180,32 +169,24 @@ const FOUND: [Exchange; 1] = [("POST /edits", ADDITION, OK, r#"{"edit":1,"repeat
 /// An edit in doubt whose record is found was accepted.
 const OPENED_ANEW: [Session; 4] = [
     Session {
-        journal: NO_RECORDS,
         failing: &[1],
         streams: &[&REFUSED, &AGAIN],
-        left: None,
-        calls: None,
+        ..NEW
     },
     Session {
-        journal: NO_RECORDS,
         failing: &[2],
         streams: &[&REFUSED, &AGAIN],
-        left: None,
-        calls: None,
+        ..NEW
     },
     Session {
-        journal: NO_RECORDS,
         failing: &[3],
         streams: &[&DOUBTED, &AGAIN],
-        left: None,
-        calls: None,
+        ..NEW
     },
     Session {
-        journal: NO_RECORDS,
         failing: &[4],
         streams: &[&DOUBTED, &FOUND],
-        left: None,
-        calls: None,
+        ..NEW
     },
 ];
 

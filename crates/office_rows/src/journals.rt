@@ -2,27 +2,25 @@
 
 use std::test::Fail;
 use whole_runs::{
-    ADDED, ADDITION, BATCH, Due, Exchange, INIT, NO_RECORDS, OK, Opening, Parts, Session,
-    pass_openings, pass_sessions,
+    ADDED, ADDED_RECORD, ADDITION, BATCH, CLOSED, Due, Exchange, HEADER, INIT, JOURNAL_EXISTS,
+    MADE, NEW, NOT_A_JOURNAL, OK, Opening, Parts, Session, UNREAD, pass_openings, pass_sessions,
 };
 
-pub(crate) const HEADER: &[u8] = b"STREAMOFFICE-J1\n";
-
-/// The station 01646500, POTOMAC, is added under `a1`.
-pub(crate) const ADDED_RECORD: &[u8] =
+/// The record of the addition without its gate.
+const WITHOUT_GATE: &[u8] =
     b"\x37\0\0\0\x01\x02AB\x02a1\x08\xa4\x1f\x19\0\0\0\0\0\x07POTOMAC\x06-05:00\xd0\x02\0\099999999929999999992";
 
-/// The same under `a2`.
+/// The station is added under `a2`. This record and those below stand behind their gates, which are open.
 const SECOND_RECORD: &[u8] =
-    b"\x37\0\0\0\x01\x02AB\x02a2\x08\xa4\x1f\x19\0\0\0\0\0\x07POTOMAC\x06-05:00\xd0\x02\0\099999999929999999992";
+    b"\x01\x37\0\0\0\x01\x02AB\x02a2\x08\xa4\x1f\x19\0\0\0\0\0\x07POTOMAC\x06-05:00\xd0\x02\0\099999999929999999992";
 
 /// The reading of 1.00 feet at 2024-01-05T05:00:00Z is put under `r2`.
 pub(crate) const READING: &[u8] =
-    b"\x25\0\0\0\x03\x02AB\x02r2\x08\xa4\x1f\x19\0\0\0\0\0\x01\0\0\0\xd0\x8c\x97\x65\0\0\0\0\x40\x42\x0f\0\0\0\0\0\0";
+    b"\x01\x25\0\0\0\x03\x02AB\x02r2\x08\xa4\x1f\x19\0\0\0\0\0\x01\0\0\0\xd0\x8c\x97\x65\0\0\0\0\x40\x42\x0f\0\0\0\0\0\0";
 
 /// The station is set under `a3`, with gaps of an hour at most.
 const SETTING: &[u8] =
-    b"\x30\0\0\0\x02\x02AB\x02a3\x08\xa4\x1f\x19\0\0\0\0\0\x07POTOMAC\x3c\0\0\099999999929999999992";
+    b"\x01\x30\0\0\0\x02\x02AB\x02a3\x08\xa4\x1f\x19\0\0\0\0\0\x07POTOMAC\x3c\0\0\099999999929999999992";
 
 /// The exchanges that leave those records.
 const EDITS: [Exchange; 6] = [
@@ -47,19 +45,10 @@ const EDITS: [Exchange; 6] = [
 /// Opened anew, the journal has them still.
 const STILL_KEPT: [Exchange; 1] = [("GET /status", "", OK, r#"{"edits":3,"pending":1}"#)];
 
-const KEPT: Parts = &[
-    HEADER,
-    b"\x01",
-    ADDED_RECORD,
-    b"\x01",
-    READING,
-    b"\x01",
-    SETTING,
-    b"\0",
-];
+const KEPT: Parts = &[HEADER, ADDED_RECORD, READING, SETTING, CLOSED];
 
 /// A journal of the addition alone.
-const ONE_RECORD: Parts = &[HEADER, b"\x01", ADDED_RECORD, b"\0"];
+const ONE_RECORD: Parts = &[HEADER, ADDED_RECORD, CLOSED];
 
 /// The addition again, where it stands and where it does not.
 const REPEATED: [Exchange; 2] = [
@@ -73,39 +62,33 @@ const SENT_ANEW: [Exchange; 2] = [ADDED, ("GET /status", "", OK, r#"{"edits":1,"
 /// stands once.
 const JOURNALS: [Session; 5] = [
     Session {
-        journal: NO_RECORDS,
-        failing: &[],
         streams: &[&EDITS],
         left: Some(KEPT),
-        calls: None,
+        ..NEW
     },
     Session {
         journal: KEPT,
-        failing: &[],
         streams: &[&STILL_KEPT],
         left: Some(KEPT),
-        calls: None,
+        ..NEW
     },
     Session {
         journal: ONE_RECORD,
-        failing: &[],
         streams: &[&REPEATED],
         left: Some(ONE_RECORD),
-        calls: None,
+        ..NEW
     },
     Session {
-        journal: &[HEADER, b"\0", ADDED_RECORD, b"\0"],
-        failing: &[],
+        journal: &[HEADER, b"\0", WITHOUT_GATE, CLOSED],
         streams: &[&SENT_ANEW],
         left: Some(ONE_RECORD),
-        calls: None,
+        ..NEW
     },
     Session {
-        journal: &[HEADER, b"\x02", ADDED_RECORD, b"\0"],
-        failing: &[],
+        journal: &[HEADER, b"\x02", WITHOUT_GATE, CLOSED],
         streams: &[&SENT_ANEW],
         left: Some(ONE_RECORD),
-        calls: None,
+        ..NEW
     },
 ];
 
@@ -114,29 +97,26 @@ fn edits_are_kept(rt: HostRuntime) -> Result<(), Fail> {
     pass_sessions(rt.alloc(), &JOURNALS)
 }
 
+/// A journal is damaged somewhere.
+pub(crate) const DAMAGED: Due = Due {
+    status: 5,
+    ..UNREAD
+};
+
 /// A record of 60 bytes with its gate begins at 16.
 const DAMAGED_AT_16: Due = Due {
-    status: 5,
-    written: &[],
     told: b"streamoffice: damaged at 16\n",
-    is_read: false,
-    left: None,
+    ..DAMAGED
 };
 
 pub(crate) const DAMAGED_AT_76: Due = Due {
-    status: 5,
-    written: &[],
     told: b"streamoffice: damaged at 76\n",
-    is_read: false,
-    left: None,
+    ..DAMAGED
 };
 
 const DAMAGED_AT_118: Due = Due {
-    status: 5,
-    written: &[],
     told: b"streamoffice: damaged at 118\n",
-    is_read: false,
-    left: None,
+    ..DAMAGED
 };
 
 /// Records that are cut, edits on a station that is not kept, and the same edit and the same station again.
@@ -150,36 +130,23 @@ const DAMAGES: [Opening; 12] = [
         &DAMAGED_AT_16,
     ),
     (BATCH, &[HEADER, b"\x01\0\0\0\0\0"], &DAMAGED_AT_16),
-    (BATCH, &[HEADER, b"\x01", ADDED_RECORD], &DAMAGED_AT_76),
+    (BATCH, &[HEADER, ADDED_RECORD], &DAMAGED_AT_76),
+    (BATCH, &[HEADER, ADDED_RECORD, b"\x01"], &DAMAGED_AT_76),
+    (BATCH, &[HEADER, READING, CLOSED], &DAMAGED_AT_16),
+    (BATCH, &[HEADER, SETTING, CLOSED], &DAMAGED_AT_16),
     (
         BATCH,
-        &[HEADER, b"\x01", ADDED_RECORD, b"\x01"],
-        &DAMAGED_AT_76,
-    ),
-    (BATCH, &[HEADER, b"\x01", READING, b"\0"], &DAMAGED_AT_16),
-    (BATCH, &[HEADER, b"\x01", SETTING, b"\0"], &DAMAGED_AT_16),
-    (
-        BATCH,
-        &[HEADER, b"\x01", ADDED_RECORD, b"\x01", ADDED_RECORD, b"\0"],
+        &[HEADER, ADDED_RECORD, ADDED_RECORD, CLOSED],
         &DAMAGED_AT_76,
     ),
     (
         BATCH,
-        &[HEADER, b"\x01", ADDED_RECORD, b"\x01", SECOND_RECORD, b"\0"],
+        &[HEADER, ADDED_RECORD, SECOND_RECORD, CLOSED],
         &DAMAGED_AT_76,
     ),
     (
         BATCH,
-        &[
-            HEADER,
-            b"\x01",
-            ADDED_RECORD,
-            b"\x01",
-            READING,
-            b"\x01",
-            READING,
-            b"\0",
-        ],
+        &[HEADER, ADDED_RECORD, READING, READING, CLOSED],
         &DAMAGED_AT_118,
     ),
 ];
@@ -189,30 +156,6 @@ fn journals_are_damaged(rt: HostRuntime) -> Result<(), Fail> {
     pass_openings(rt.alloc(), &DAMAGES)
 }
 
-const MADE: Due = Due {
-    status: 0,
-    written: &[],
-    told: b"",
-    is_read: false,
-    left: Some(NO_RECORDS),
-};
-
-const JOURNAL_EXISTS: Due = Due {
-    status: 8,
-    written: &[],
-    told: b"streamoffice: journal exists\n",
-    is_read: false,
-    left: None,
-};
-
-const NOT_A_JOURNAL: Due = Due {
-    status: 5,
-    written: &[],
-    told: b"streamoffice: not a journal\n",
-    is_read: false,
-    left: None,
-};
-
 /// What stands under the name before a journal is made.
 const MAKINGS: [Opening; 8] = [
     (INIT, &[], &MADE),
@@ -220,7 +163,7 @@ const MAKINGS: [Opening; 8] = [
     (INIT, &[HEADER], &MADE),
     (INIT, &[HEADER, b"\x01"], &MADE),
     (INIT, &[b"any 17 other byte"], &MADE),
-    (INIT, &[HEADER, b"\0"], &JOURNAL_EXISTS),
+    (INIT, &[HEADER, CLOSED], &JOURNAL_EXISTS),
     (INIT, &[HEADER, b"\x01\0"], &JOURNAL_EXISTS),
     (INIT, &[b"any 18 other bytes"], &NOT_A_JOURNAL),
 ];

@@ -32,4 +32,6 @@ mod sheets_of_days;
 #[cfg(test)]
 mod tables;
 #[cfg(test)]
+mod two_days;
+#[cfg(test)]
 mod zones;

@@ -1,6 +1,7 @@
 //! Ratings as texts in RDB, and field measurements, from their edits to percent departures.
 
-use crate::rated_days::{ADDED, IN_FORCE, RATED, RATING, UNCHANGED};
+use crate::rated_days::{ADDED, IN_FORCE, RATED, RATING};
+use crate::two_days::UNCHANGED;
 use std::test::Fail;
 use whole_runs::{
     BAD_REQUEST, CONFLICT, Exchange, GET_ALONE, NOT_FOUND, OK, POST_ALONE, pass_anew,

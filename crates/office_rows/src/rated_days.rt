@@ -1,8 +1,9 @@
 //! Ratings and their periods, from their edits to the discharges of days.
 
+use crate::two_days::{AWAITS_6, AWAITS_8, FIFTH, SETTLED, SIXTH, UNCHANGED};
 use std::test::Fail;
 use whole_runs::{
-    CONFLICT, Exchange, FIRST, NO_RECORDS, NOT_FOUND, OK, Session, pass_anew, pass_sessions,
+    CONFLICT, Exchange, FIRST, NEW, NOT_FOUND, OK, Session, pass_anew, pass_behind, pass_sessions,
 };
 
 const STATION: &str =
@@ -46,29 +47,22 @@ const LOW_AGAIN: Exchange = (
     r#"{"edit":6,"repeated":false}"#,
 );
 
-const SETTLED: Exchange = ("POST /settle", "", OK, r#"{"pending":0,"published":2}"#);
+/// The station has its rating and the readings, and both days are published.
+const RATED_DAYS: [Exchange; 7] = [ADDED, RATED, IN_FORCE, LOW, HIGH, LOW_AGAIN, SETTLED];
 
-pub(crate) const UNCHANGED: Exchange = ("POST /settle", "", OK, r#"{"pending":0,"published":0}"#);
+/// The first day's mean discharge is 20, and its mean stage 1.50.
+pub(crate) const WHOLE_DAY: &str =
+    r#"{"answer":"computed","covered":86400,"discharge":"20","estimated":false,"length":86400,"max":"30.000000","min":"10.000000","stage":"1.50","status":"working"}"#;
 
-const FIFTH: &str = "GET /stations/01646500/days/2024-01-05";
+/// The reading in the middle of it has no discharge, so that no discharge of the day is covered.
+pub(crate) const MIDDLE_NOT_RATED: &str =
+    r#"{"answer":"computed","covered":0,"discharge":null,"estimated":false,"length":86400,"max":"10.000000","min":"10.000000","stage":"1.50","status":"working"}"#;
 
 /// The mean discharge is that of the unit discharges, by the station's own array.
-const MEAN: [Exchange; 9] = [
-    ADDED,
-    RATED,
-    IN_FORCE,
-    LOW,
-    HIGH,
-    LOW_AGAIN,
-    SETTLED,
+const MEAN: [Exchange; 2] = [
+    (FIFTH, "", OK, WHOLE_DAY),
     (
-        FIFTH,
-        "",
-        OK,
-        r#"{"answer":"computed","covered":86400,"discharge":"20","estimated":false,"length":86400,"max":"30.000000","min":"10.000000","stage":"1.50","status":"working"}"#,
-    ),
-    (
-        "GET /stations/01646500/days/2024-01-06",
+        SIXTH,
         "",
         OK,
         r#"{"answer":"computed","covered":0,"discharge":null,"estimated":false,"length":86400,"max":"10.000000","min":"10.000000","stage":null,"status":"working"}"#,
@@ -225,14 +219,7 @@ const REFUSED: [Exchange; 15] = [
 ];
 
 /// A period that is put in place of another one, and one that is taken out, change the days whose parts they change. Its end is not of it.
-const PERIODS: [Exchange; 21] = [
-    ADDED,
-    RATED,
-    IN_FORCE,
-    LOW,
-    HIGH,
-    LOW_AGAIN,
-    SETTLED,
+const PERIODS: [Exchange; 14] = [
     (
         "POST /edits",
         r#"{"kind":"PutPeriod","by":"AB","ref":"e7","site":"01646500","rating":1,"from":"2023-01-01T00:00:00Z","until":"2024-01-06T05:00:01Z"}"#,
@@ -246,19 +233,9 @@ const PERIODS: [Exchange; 21] = [
         OK,
         r#"{"edit":8,"repeated":false}"#,
     ),
-    (
-        FIFTH,
-        "",
-        OK,
-        r#"{"answer":"pending","edit":8,"status":"working"}"#,
-    ),
+    (FIFTH, "", OK, AWAITS_8),
     SETTLED,
-    (
-        FIFTH,
-        "",
-        OK,
-        r#"{"answer":"computed","covered":0,"discharge":null,"estimated":false,"length":86400,"max":"10.000000","min":"10.000000","stage":"1.50","status":"working"}"#,
-    ),
+    (FIFTH, "", OK, MIDDLE_NOT_RATED),
     (
         "POST /edits",
         r#"{"kind":"PutPeriod","by":"AB","ref":"e9","site":"01646500","rating":1,"from":"2024-01-05T17:00:00Z","until":"2025-01-01T00:00:00Z"}"#,
@@ -266,12 +243,7 @@ const PERIODS: [Exchange; 21] = [
         r#"{"edit":9,"repeated":false}"#,
     ),
     SETTLED,
-    (
-        FIFTH,
-        "",
-        OK,
-        r#"{"answer":"computed","covered":86400,"discharge":"20","estimated":false,"length":86400,"max":"30.000000","min":"10.000000","stage":"1.50","status":"working"}"#,
-    ),
+    (FIFTH, "", OK, WHOLE_DAY),
     (
         "POST /edits",
         r#"{"kind":"DropPeriod","by":"AB","ref":"e10","site":"01646500","from":"2024-01-05T17:00:00Z"}"#,
@@ -279,12 +251,7 @@ const PERIODS: [Exchange; 21] = [
         r#"{"edit":10,"repeated":false}"#,
     ),
     SETTLED,
-    (
-        FIFTH,
-        "",
-        OK,
-        r#"{"answer":"computed","covered":0,"discharge":null,"estimated":false,"length":86400,"max":"10.000000","min":"10.000000","stage":"1.50","status":"working"}"#,
-    ),
+    (FIFTH, "", OK, MIDDLE_NOT_RATED),
     (
         "POST /edits",
         r#"{"kind":"AddRating","by":"AB","ref":"e11","site":"01646500","rating":2,"rows":[["0","0"],["5","50"]]}"#,
@@ -294,50 +261,24 @@ const PERIODS: [Exchange; 21] = [
     UNCHANGED,
 ];
 
-const RATINGS: [&[Exchange]; 5] = [
-    &MEAN,
-    &NOT_OF_THE_MEAN_STAGE,
-    &SHORT_DAY,
-    &REFUSED,
-    &PERIODS,
-];
-
 #[test]
 fn ratings_make_discharges(rt: HostRuntime) -> Result<(), Fail> {
-    pass_anew(rt.alloc(), &RATINGS)
+    pass_behind(rt.alloc(), &RATED_DAYS, &[&MEAN, &PERIODS])?;
+    pass_anew(rt.alloc(), &[&NOT_OF_THE_MEAN_STAGE, &SHORT_DAY, &REFUSED])
 }
 
-const BEFORE: [Exchange; 8] = [
-    ADDED,
-    RATED,
-    IN_FORCE,
-    LOW,
-    HIGH,
-    LOW_AGAIN,
-    SETTLED,
-    (
-        "POST /edits",
-        r#"{"kind":"PutMeasurement","by":"AB","ref":"a7","site":"01646500","number":1,"at":"2024-01-05T12:00:00Z","gage":"1.50","discharge":"19.5","grade":"good"}"#,
-        OK,
-        r#"{"edit":7,"repeated":false}"#,
-    ),
-];
+const MEASURED: Exchange = (
+    "POST /edits",
+    r#"{"kind":"PutMeasurement","by":"AB","ref":"a7","site":"01646500","number":1,"at":"2024-01-05T12:00:00Z","gage":"1.50","discharge":"19.5","grade":"good"}"#,
+    OK,
+    r#"{"edit":7,"repeated":false}"#,
+);
 
 /// What is known once the journal is opened anew.
 const OPENED_ANEW: [Exchange; 5] = [
-    (
-        FIFTH,
-        "",
-        OK,
-        r#"{"answer":"pending","edit":6,"status":"working"}"#,
-    ),
+    (FIFTH, "", OK, AWAITS_6),
     SETTLED,
-    (
-        FIFTH,
-        "",
-        OK,
-        r#"{"answer":"computed","covered":86400,"discharge":"20","estimated":false,"length":86400,"max":"30.000000","min":"10.000000","stage":"1.50","status":"working"}"#,
-    ),
+    (FIFTH, "", OK, WHOLE_DAY),
     (
         "GET /stations/01646500/measurements/1",
         "",
@@ -348,11 +289,9 @@ const OPENED_ANEW: [Exchange; 5] = [
 ];
 
 const OPENINGS: [Session; 1] = [Session {
-    journal: NO_RECORDS,
-    failing: &[],
-    streams: &[&BEFORE, &OPENED_ANEW],
-    left: None,
-    calls: None,
+    before: &RATED_DAYS,
+    streams: &[&[MEASURED], &OPENED_ANEW],
+    ..NEW
 }];
 
 #[test]

@@ -1,11 +1,9 @@
 //! Primary computation sheets of days that are not approved, byte for byte.
 
-use crate::approved_days::ONE_SETTLED;
 use crate::rated_days::{ADDED, IN_FORCE, RATED};
+use crate::two_days::{FIFTH_SHEET, ONE_SETTLED, ONE_TURN, SETTLED};
 use std::test::Fail;
 use whole_runs::{CONFLICT, Exchange, GET_ALONE, NOT_FOUND, OK, SHEET, pass_anew};
-
-const FIFTH_SHEET: &str = "GET /stations/01646500/days/2024-01-05/sheet";
 
 /// A reading of 1.00 where the day of 2024-01-05 begins, one of 2.00 twelve hours later, and one of 1.00 where that day ends.
 const PUT: Exchange = (
@@ -42,7 +40,7 @@ const SHEETS: [Exchange; 14] = [
     ),
     PUT,
     (FIFTH_SHEET, "", SHEET, "PENDING 4\n"),
-    ("POST /turns/1", "", OK, r#"{"pending":1,"published":1}"#),
+    ONE_TURN,
     (FIFTH_SHEET, "", SHEET, WHOLE_DAY),
     (
         "GET /stations/01646500/days/2024-01-06/sheet",
@@ -168,7 +166,7 @@ const ESTIMATED: [Exchange; 11] = [
         OK,
         r#"{"edit":5,"repeated":false}"#,
     ),
-    ("POST /settle", "", OK, r#"{"pending":0,"published":2}"#),
+    SETTLED,
     (
         FIFTH_SHEET,
         "",

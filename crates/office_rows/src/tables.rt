@@ -1,35 +1,14 @@
 //! Daily tables: a line of names, and a row for each day.
 
+use crate::rated_days;
+use crate::two_days::{
+    FIFTH, FIFTH_ALONE, FIRST_READING, ONE_SETTLED, ONE_TURN, SECOND_READING, SETTLED,
+    THIRD_READING,
+};
 use std::test::Fail;
 use whole_runs::{ADDED, Exchange, NOT_FOUND, OK, TABLE, pass_anew};
 
-/// A reading of 1.00 where the day of 2024-01-05 begins, one of 2.00 twelve hours later, and one of 1.00 where that day ends.
-const FIRST_READING: Exchange = (
-    "POST /edits",
-    r#"{"kind":"PutReadings","by":"AB","ref":"a2","site":"01646500","readings":[["2024-01-05T05:00:00Z","1.00"]]}"#,
-    OK,
-    r#"{"edit":2,"repeated":false}"#,
-);
-
-const SECOND_READING: Exchange = (
-    "POST /edits",
-    r#"{"kind":"PutReadings","by":"AB","ref":"a3","site":"01646500","readings":[["2024-01-05T17:00:00Z","2.00"]]}"#,
-    OK,
-    r#"{"edit":3,"repeated":false}"#,
-);
-
-const THIRD_READING: Exchange = (
-    "POST /edits",
-    r#"{"kind":"PutReadings","by":"AB","ref":"a4","site":"01646500","readings":[["2024-01-06T05:00:00Z","1.00"]]}"#,
-    OK,
-    r#"{"edit":4,"repeated":false}"#,
-);
-
-const SETTLED: Exchange = ("POST /settle", "", OK, r#"{"pending":0,"published":2}"#);
-
 const THREE_DAYS: &str = "GET /stations/01646500/daily/2024-01-05/2024-01-07";
-
-const FIFTH: &str = "GET /stations/01646500/daily/2024-01-05/2024-01-05";
 
 /// The days of the first readings, before they are computed and behind that.
 const WITHOUT_RATING: [Exchange; 8] = [
@@ -46,7 +25,7 @@ const WITHOUT_RATING: [Exchange; 8] = [
          2024-01-06,pending,4,,,P,\n\
          2024-01-07,empty,,,,P,\n",
     ),
-    ("POST /turns/1", "", OK, r#"{"pending":1,"published":1}"#),
+    ONE_TURN,
     (
         THREE_DAYS,
         "",
@@ -68,12 +47,7 @@ const WITHOUT_RATING: [Exchange; 8] = [
 /// The same days with a rating of 10 at a stage of 1.00 and of 30 at 2.00; then with an estimate in place of a mean, which is marked
 /// once the day is computed.
 const RATED: [Exchange; 13] = [
-    (
-        "POST /edits",
-        r#"{"kind":"AddStation","by":"AB","ref":"a1","site":"01646500","name":"POTOMAC","zone":"-05:00","gap":720,"stage_array":"9999999992","discharge_array":"0222233332"}"#,
-        OK,
-        r#"{"edit":1,"repeated":false}"#,
-    ),
+    rated_days::ADDED,
     FIRST_READING,
     SECOND_READING,
     THIRD_READING,
@@ -106,22 +80,22 @@ const RATED: [Exchange; 13] = [
         r#"{"edit":7,"repeated":false}"#,
     ),
     (
-        FIFTH,
+        FIFTH_ALONE,
         "",
         TABLE,
         "day,answer,edit,discharge,stage,mark,estimated\n\
          2024-01-05,pending,7,,,P,\n",
     ),
-    ("POST /settle", "", OK, r#"{"pending":0,"published":1}"#),
+    ONE_SETTLED,
     (
-        FIFTH,
+        FIFTH_ALONE,
         "",
         TABLE,
         "day,answer,edit,discharge,stage,mark,estimated\n\
          2024-01-05,computed,,0.06,1.50,P,e\n",
     ),
     (
-        "GET /stations/01646500/days/2024-01-05",
+        FIFTH,
         "",
         OK,
         r#"{"answer":"computed","covered":86400,"discharge":"0.06","estimated":true,"length":86400,"max":"30.000000","min":"10.000000","stage":"1.50","status":"working"}"#,

@@ -2,9 +2,13 @@
 //! has 17 bytes before the addition, 77 with it and 119 with a reading.
 
 use crate::disks::play_rows;
-use crate::sent::{ADDITION, ANOTHER, BULK, DROP, FIRST, LATE, READING};
+use crate::sent::{
+    ADDITION, ANOTHER, BULK, DROP, FIRST, LATE, PERIOD, RATED_ADDITION, RATING, READING,
+    THREE_READINGS,
+};
 use crate::tables::{Act, Cause, NEW, Row, Session, Told, Wrong};
 use office_inputs::Full;
+use office_inputs::limits::{USUAL_CELLS, USUAL_JOURNAL_BYTES};
 
 const NO_EVENT: Told = Told::Refused(Cause::HistoryFull(Full::Events));
 
@@ -235,4 +239,51 @@ static BETWEEN_DAYS: [Row; 2] = [
 #[test]
 fn days_between_are_cells_too(rt: HostRuntime) -> Result<(), (usize, Wrong)> {
     play_rows(rt.alloc(), &BETWEEN_DAYS)
+}
+
+/// The fourth edit of a rated station finds no event.
+const FOURTH_NO_EVENT: Row = Row {
+    sessions: &[&[
+        (Act::Send(RATED_ADDITION), Told::Kept(1)),
+        (Act::Send(RATING), Told::Kept(2)),
+        (Act::Send(PERIOD), Told::Kept(3)),
+        (Act::Counts, Told::Counts(3, 3, 0)),
+        (Act::Send(THREE_READINGS), NO_EVENT),
+        (Act::Counts, Told::Counts(3, 3, 0)),
+    ]],
+    calls: 16,
+    left: &[RATED_ADDITION, RATING, PERIOD],
+    ..NEW
+};
+
+/// Three edits are three events, and no day is pending. The fourth would be one event more, and two days would be pending behind it, each
+/// of which is one more once it is published: 3 + 1 + 2 = 6 events. So 4 are too few, and 5, though the edit itself would fit; 6 are
+/// enough, and all of them are used when both days are published.
+static FOURTH_EDITS: [Row; 3] = [
+    Row {
+        limits: Some((4, USUAL_CELLS, USUAL_JOURNAL_BYTES)),
+        ..FOURTH_NO_EVENT
+    },
+    Row {
+        limits: Some((5, USUAL_CELLS, USUAL_JOURNAL_BYTES)),
+        ..FOURTH_NO_EVENT
+    },
+    Row {
+        limits: Some((6, USUAL_CELLS, USUAL_JOURNAL_BYTES)),
+        records: &[RATED_ADDITION, RATING, PERIOD],
+        sessions: &[&[
+            (Act::Send(THREE_READINGS), Told::Kept(4)),
+            (Act::Counts, Told::Counts(4, 4, 2)),
+            (Act::Settle, Told::Settled(2)),
+            (Act::Counts, Told::Counts(6, 4, 0)),
+        ]],
+        calls: 8,
+        left: &[RATED_ADDITION, RATING, PERIOD, THREE_READINGS],
+        ..NEW
+    },
+];
+
+#[test]
+fn a_fourth_edit_keeps_to_the_events(rt: HostRuntime) -> Result<(), (usize, Wrong)> {
+    play_rows(rt.alloc(), &FOURTH_EDITS)
 }

@@ -58,6 +58,21 @@ pub const FLAGGING: &[u8] =
 
 pub const ESTIMATE_DROP: &[u8] = b"\x14\0\0\0\x0e\x02AB\x02a2\x08\xa4\x1f\x19\0\0\0\0\0\x0fM\0\0";
 
+/// Four edits under `a1` to `a4`: the same station is added, with the array of three figures for its discharges; it has a rating of 10
+/// cubic feet per second at a foot and of 30 at two; this is in force from 2023-01-01T00:00:00Z on; and three readings are put, at the
+/// beginning, in the middle and at the end of 2024-01-05.
+pub const RATED_ADDITION: &[u8] =
+    b"\x37\0\0\0\x01\x02AB\x02a1\x08\xa4\x1f\x19\0\0\0\0\0\x07POTOMAC\x06-05:00\xd0\x02\0\099999999920222233332";
+
+pub const RATING: &[u8] =
+    b"\x38\0\0\0\x0a\x02AB\x02a2\x08\xa4\x1f\x19\0\0\0\0\0\x01\0\0\0\x02\0\0\0\x40\x42\x0f\0\0\0\0\0\x80\x96\x98\0\0\0\0\0\x80\x84\x1e\0\0\0\0\0\x80\xc3\xc9\x01\0\0\0\0";
+
+pub const PERIOD: &[u8] =
+    b"\x1d\0\0\0\x0b\x02AB\x02a3\x08\xa4\x1f\x19\0\0\0\0\0\x01\0\0\0\0\xcd\xb0\x63\0\0\0\0\0";
+
+pub const THREE_READINGS: &[u8] =
+    b"\x47\0\0\0\x03\x02AB\x02a4\x08\xa4\x1f\x19\0\0\0\0\0\x03\0\0\0\xd0\x8c\x97\x65\0\0\0\0\x40\x42\x0f\0\0\0\0\0\0\x90\x35\x98\x65\0\0\0\0\x80\x84\x1e\0\0\0\0\0\0\x50\xde\x98\x65\0\0\0\0\x40\x42\x0f\0\0\0\0\0\0";
+
 /// The number of 2024-01-05 and of the next day.
 pub const FIFTH: i32 = 19_727;
 

@@ -7,12 +7,13 @@ pub mod runs;
 pub mod sessions;
 
 pub use messages::{
-    ADDED, ADDITION, BAD_REQUEST, CONFLICT, Exchange, FIRST, GET_ALONE, LENGTH_REQUIRED, LOCKED,
-    NOT_FOUND, OK, POST_ALONE, SHEET, TABLE, TOO_LARGE, UNAVAILABLE, push_message, push_reply,
+    ADDED, ADDED_RECORD, ADDITION, BAD_REQUEST, CONFLICT, Exchange, FIRST, GET_ALONE,
+    LENGTH_REQUIRED, LOCKED, NOT_FOUND, OK, POST_ALONE, SHEET, TABLE, TOO_LARGE, UNAVAILABLE,
+    push_message, push_reply,
 };
 pub use runs::{
-    BATCH, Batch, Due, INIT, LongBatch, LongRun, NO_RECORDS, Opening, Parts, Run, STATIONS, STATUS,
-    Turn, WHOLE, Ways, Words, pass_batches, pass_in_turn, pass_long_batches, pass_long_runs,
-    pass_openings, pass_runs,
+    BATCH, Batch, CLOSED, Due, HEADER, INIT, JOURNAL_EXISTS, LongBatch, LongRun, MADE, NO_RECORDS,
+    NOT_A_JOURNAL, Opening, Parts, Run, SILENT, STATIONS, STATUS, Turn, UNREAD, WHOLE, Ways, Words,
+    pass_batches, pass_in_turn, pass_long_batches, pass_long_runs, pass_openings, pass_runs,
 };
-pub use sessions::{Session, pass_anew, pass_bytes, pass_sessions};
+pub use sessions::{NEW, Session, pass_anew, pass_behind, pass_bytes, pass_sessions};

@@ -13,6 +13,10 @@ pub const FIRST: &str = r#"{"edit":1,"repeated":false}"#;
 /// That exchange.
 pub const ADDED: Exchange = ("POST /edits", ADDITION, OK, FIRST);
 
+/// The record of that edit in a journal, behind its gate, which is open.
+pub const ADDED_RECORD: &[u8] =
+    b"\x01\x37\0\0\0\x01\x02AB\x02a1\x08\xa4\x1f\x19\0\0\0\0\0\x07POTOMAC\x06-05:00\xd0\x02\0\099999999929999999992";
+
 /// The beginnings of replies, up to the length of the body.
 pub const OK: &str = "HTTP/1.1 200 OK\r\nContent-Type: application/json\r\n";
 
@@ -81,13 +85,12 @@ fn push_length(length: usize, out: &mut Text) -> Result<(), NoMemory> {
     out.push_slice(b"\r\n")
 }
 
-/// The messages of exchanges, one behind another.
-pub(crate) fn messages(alloc: Global, exchanges: &[Exchange]) -> Result<Text, NoMemory> {
-    let mut input = Text::new(alloc);
+/// Adds the messages of exchanges, one behind another.
+pub(crate) fn push_messages(exchanges: &[Exchange], out: &mut Text) -> Result<(), NoMemory> {
     for exchange in exchanges {
-        push_message(exchange.0, exchange.1.as_bytes(), &mut input)?;
+        push_message(exchange.0, exchange.1.as_bytes(), out)?;
     }
-    Ok(input)
+    Ok(())
 }
 
 /// The reply of an exchange.

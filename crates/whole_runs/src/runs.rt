@@ -20,8 +20,14 @@ pub const BATCH: Words = &["batch", "--journal", "J"];
 /// The words that add the stations of the document on the input.
 pub const STATIONS: Words = &["stations", "--journal", "J"];
 
+/// How a journal begins.
+pub const HEADER: &[u8] = b"STREAMOFFICE-J1\n";
+
+/// The gate behind the last record, which is closed.
+pub const CLOSED: &[u8] = b"\0";
+
 /// A journal of no records.
-pub const NO_RECORDS: Parts = &[b"STREAMOFFICE-J1\n\0"];
+pub const NO_RECORDS: Parts = &[HEADER, CLOSED];
 
 /// How the objects behave: the calls that fail, counted from 1, and the greatest piece of a call, which is not 0.
 #[derive(Clone, Copy)]
@@ -62,6 +68,41 @@ pub struct Due {
     pub left: Option<Parts>,
 }
 
+/// The input is read, nothing is written or told, and the disk has what it had.
+pub const SILENT: Due = Due {
+    status: 0,
+    written: &[],
+    told: b"",
+    is_read: true,
+    left: None,
+};
+
+/// The same where the input is not read.
+pub const UNREAD: Due = Due {
+    is_read: false,
+    ..SILENT
+};
+
+/// A journal is made.
+pub const MADE: Due = Due {
+    left: Some(NO_RECORDS),
+    ..UNREAD
+};
+
+/// A journal is to be made where one is.
+pub const JOURNAL_EXISTS: Due = Due {
+    status: 8,
+    told: b"streamoffice: journal exists\n",
+    ..UNREAD
+};
+
+/// No journal is there, or something else than one.
+pub const NOT_A_JOURNAL: Due = Due {
+    status: 5,
+    told: b"streamoffice: not a journal\n",
+    ..UNREAD
+};
+
 /// The words, what the disk under `J` has, how the objects behave, the input, and what is to come of the run.
 pub type Run = (Words, Parts, &'static Ways, Parts, &'static Due);
 
@@ -81,7 +122,7 @@ pub type LongBatch = (&'static [(&'static [u8], u32)], &'static Due);
 pub type LongRun = (Words, &'static [(&'static [u8], u32)], &'static Due);
 
 /// The words and the input of one of some runs over one cabinet, and what is to come of it.
-pub type Turn = (Words, &'static [u8], &'static Due);
+pub type Turn = (Words, Parts, &'static Due);
 
 /// A run in these ways over a cabinet.
 pub(crate) fn run_over(
@@ -222,7 +263,7 @@ pub fn pass_in_turn(
 
 fn take_turns(alloc: Global, cabinet: &mut MemoryCabinet, turns: &[Turn]) -> Result<(), Fail> {
     for (row, turn) in turns.iter().enumerate() {
-        let input = turn.1.to_vec(alloc)?;
+        let input = joined(alloc, turn.1)?;
         expect_over(row, alloc, cabinet, turn.0, input, &WHOLE, turn.2)?;
     }
     Ok(())

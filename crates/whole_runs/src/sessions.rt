@@ -1,9 +1,10 @@
 //! Sessions as rows of tables: what is asked over a journal, and what is replied.
 
-use crate::messages::{Exchange, messages, reply};
+use crate::messages::{Exchange, push_messages, reply};
 use crate::objects::{Ran, cabinet, call_count, joined, left, same, shown};
 use crate::runs::{BATCH, NO_RECORDS, Parts, WHOLE, run_over};
 use devices::MemoryCabinet;
+use fixed_units::{NoMemory, Text};
 use std::alloc::Global;
 use std::test::Fail;
 
@@ -14,6 +15,8 @@ pub struct Session {
     pub journal: Parts,
     /// The calls of the disk that fail, counted from the first behind the opening of a journal of no records.
     pub failing: &'static [u64],
+    /// What is asked and replied at the head of the first stream.
+    pub before: &'static [Exchange],
     /// What is asked and replied.
     pub streams: &'static [&'static [Exchange]],
     /// What the disk has then, where that is told.
@@ -21,6 +24,16 @@ pub struct Session {
     /// How many calls the disk has had behind the first opening, where that is told.
     pub calls: Option<u64>,
 }
+
+/// A journal of no records, on a disk that does not fail; no more is told of it than the replies.
+pub const NEW: Session = Session {
+    journal: NO_RECORDS,
+    failing: &[],
+    before: &[],
+    streams: &[],
+    left: None,
+    calls: None,
+};
 
 /// The bytes behind the reply of an exchange.
 fn behind_reply<'a>(alloc: Global, rest: &'a [u8], exchange: &Exchange) -> Result<&'a [u8], Fail> {
@@ -37,40 +50,70 @@ fn behind_reply<'a>(alloc: Global, rest: &'a [u8], exchange: &Exchange) -> Resul
     }
 }
 
-/// What was written are the replies of the exchanges, and nothing else.
-fn expect_replies(alloc: Global, written: &[u8], exchanges: &[Exchange]) -> Result<(), Fail> {
+/// The bytes behind the replies of exchanges.
+fn behind_replies<'a>(
+    alloc: Global,
+    written: &'a [u8],
+    exchanges: &[Exchange],
+) -> Result<&'a [u8], Fail> {
     let mut rest = written;
     for exchange in exchanges {
         rest = behind_reply(alloc, rest, exchange)?;
     }
+    Ok(rest)
+}
+
+/// What a run wrote are the replies of these exchanges and of those behind them, and nothing else.
+fn expect_served(
+    alloc: Global,
+    ran: &Ran,
+    before: &[Exchange],
+    exchanges: &[Exchange],
+) -> Result<(), Fail> {
+    let rest = behind_replies(alloc, ran.output.bytes(), before)?;
+    let rest = behind_replies(alloc, rest, exchanges)?;
     same(
         exchanges.len(),
         "written behind the replies",
         &shown(rest),
         &"",
-    )
-}
-
-fn expect_served(alloc: Global, ran: &Ran, exchanges: &[Exchange]) -> Result<(), Fail> {
-    expect_replies(alloc, ran.output.bytes(), exchanges)?;
+    )?;
     same(0, "told", &shown(ran.faults.bytes()), &"")?;
     same(0, "status", &ran.status, &0)
 }
 
-/// The exchanges pass over a cabinet, to the end of the input.
-fn pass(alloc: Global, cabinet: &mut MemoryCabinet, exchanges: &[Exchange]) -> Result<(), Fail> {
-    let input = messages(alloc, exchanges)?.into_vec();
-    let ran = run_over(alloc, cabinet, BATCH, input, &WHOLE)?;
-    expect_served(alloc, &ran, exchanges)
+fn messages(alloc: Global, before: &[Exchange], exchanges: &[Exchange]) -> Result<Text, NoMemory> {
+    let mut input = Text::new(alloc);
+    push_messages(before, &mut input)?;
+    push_messages(exchanges, &mut input)?;
+    Ok(input)
 }
 
+/// These exchanges, and those behind them, pass over a cabinet, to the end of the input.
+fn pass(
+    alloc: Global,
+    cabinet: &mut MemoryCabinet,
+    before: &[Exchange],
+    exchanges: &[Exchange],
+) -> Result<(), Fail> {
+    let input = messages(alloc, before, exchanges)?.into_vec();
+    let ran = run_over(alloc, cabinet, BATCH, input, &WHOLE)?;
+    expect_served(alloc, &ran, before, exchanges)
+}
+
+/// The streams pass over a cabinet, the first of them behind these exchanges.
 fn pass_streams(
     alloc: Global,
     cabinet: &mut MemoryCabinet,
+    before: &[Exchange],
     streams: &[&[Exchange]],
 ) -> Result<(), Fail> {
-    for stream in streams {
-        pass(alloc, cabinet, stream)?;
+    let Some((first, others)) = streams.split_first() else {
+        return Ok(());
+    };
+    pass(alloc, cabinet, before, first)?;
+    for stream in others {
+        pass(alloc, cabinet, &[], stream)?;
     }
     Ok(())
 }
@@ -83,7 +126,7 @@ fn new_journal(alloc: Global) -> Result<MemoryCabinet, Fail> {
 /// How many calls of its disk the opening of a journal of no records makes.
 fn opening_calls(alloc: Global) -> Result<u64, Fail> {
     let mut cabinet = new_journal(alloc)?;
-    pass(alloc, &mut cabinet, &[])?;
+    pass(alloc, &mut cabinet, &[], &[])?;
     Ok(call_count(&cabinet))
 }
 
@@ -129,7 +172,7 @@ fn pass_session(row: usize, alloc: Global, session: &Session, opening: u64) -> R
     let before = joined(alloc, session.journal)?;
     let failing = behind(alloc, opening, session.failing)?;
     let mut cabinet = cabinet(alloc, before, failing)?;
-    pass_streams(alloc, &mut cabinet, session.streams)?;
+    pass_streams(alloc, &mut cabinet, session.before, session.streams)?;
     expect_disk(row, alloc, &cabinet, session, opening)
 }
 
@@ -144,9 +187,18 @@ pub fn pass_sessions(alloc: Global, sessions: &[Session]) -> Result<(), Fail> {
 
 /// Each stream passes over a new journal.
 pub fn pass_anew(alloc: Global, streams: &[&[Exchange]]) -> Result<(), Fail> {
+    pass_behind(alloc, &[], streams)
+}
+
+/// Each stream passes over a new journal, behind these exchanges.
+pub fn pass_behind(
+    alloc: Global,
+    before: &[Exchange],
+    streams: &[&[Exchange]],
+) -> Result<(), Fail> {
     for stream in streams {
         let mut cabinet = new_journal(alloc)?;
-        pass(alloc, &mut cabinet, stream)?;
+        pass(alloc, &mut cabinet, before, stream)?;
     }
     Ok(())
 }

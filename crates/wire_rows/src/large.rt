@@ -1,6 +1,6 @@
 //! The longest heads and bodies, and longer ones.
 
-use crate::reading::{ALL, Row, WHOLE, Wrong, play};
+use crate::reading::{WHOLE, Wrong, play_to_end};
 use std::alloc::{AllocError, Global};
 
 /// A text with bytes that come often in its midst: those before, those, how often they come, and those behind.
@@ -20,17 +20,7 @@ fn text_of(alloc: Global, long: Long) -> Result<Vec<u8>, AllocError> {
 
 fn compare_with(alloc: Global, bytes: &[u8], piece: usize, due: Long) -> Result<(), Wrong> {
     match text_of(alloc, due) {
-        Ok(due) => play(
-            alloc,
-            &Row {
-                bytes,
-                failing: &[],
-                piece,
-                count: ALL,
-                due: &due,
-                asked: None,
-            },
-        ),
+        Ok(due) => play_to_end(alloc, bytes, piece, &due),
         Err(_) => Err(Wrong::NoMemory),
     }
 }

@@ -53,6 +53,21 @@ pub fn play(alloc: Global, row: &Row) -> Result<(), Wrong> {
     }
 }
 
+/// Fails where a stream has other messages than these up to its end, so many of its bytes coming at once.
+pub fn play_to_end(alloc: Global, bytes: &[u8], piece: usize, due: &[u8]) -> Result<(), Wrong> {
+    play(
+        alloc,
+        &Row {
+            bytes,
+            failing: &[],
+            piece,
+            count: ALL,
+            due,
+            asked: None,
+        },
+    )
+}
+
 fn source(
     alloc: Global,
     bytes: &[u8],

@@ -1,6 +1,6 @@
 //! Streams and their messages, however the source cuts them.
 
-use crate::reading::{ALL, Row, WHOLE, Wrong, play};
+use crate::reading::{WHOLE, Wrong, play_to_end};
 use std::alloc::{AllocError, Global};
 
 /// The bytes of a stream, and its messages.
@@ -94,17 +94,7 @@ static LENGTHS: [Stream; 16] = [
 /// Fails where a stream has other messages than these, uncut or cut, also behind every byte.
 fn compare(alloc: Global, bytes: &[u8], due: &[u8]) -> Result<(), Wrong> {
     for piece in [1, 2, 7, WHOLE] {
-        play(
-            alloc,
-            &Row {
-                bytes,
-                failing: &[],
-                piece,
-                count: ALL,
-                due,
-                asked: None,
-            },
-        )?;
+        play_to_end(alloc, bytes, piece, due)?;
     }
     Ok(())
 }

@@ -25,27 +25,47 @@ pub const NOON: i32 = 43_200;
 /// A day in seconds.
 pub const DAY: i32 = 86_400;
 
-// The figures of a day of so many seconds by a rating that is in force from a day before it until an instant, and by a shift.
+/// A day of so many seconds, whose rating is in force from a day before it until an instant, and whose shift is the same all day.
+#[derive(Clone, Copy)]
+pub struct RatedDay {
+    /// The seconds from its start to its end.
+    pub length: i32,
+    /// Stages and their discharges, in millionths.
+    pub rating: &'static [(i64, i64)],
+    /// The seconds from its start to the end of the rating.
+    pub until: i32,
+    /// The shift in millionths of a foot.
+    pub shift: i64,
+}
+
+/// A day of 24 hours by that line, without a shift.
+pub const WHOLE_DAY: RatedDay = RatedDay {
+    length: DAY,
+    rating: &LINE,
+    until: DAY + 1,
+    shift: 0,
+};
+
+const SHIFTED_DAY: RatedDay = RatedDay {
+    shift: 50_000,
+    ..WHOLE_DAY
+};
+
+// The figures of a day with these readings.
 fn figures_of(
     rt: &impl Abort,
     alloc: Global,
-    length: i32,
-    rating: &[(i64, i64)],
-    until: i32,
-    shift: i64,
+    day: &RatedDay,
     listed: &[(i32, i64, Flag)],
 ) -> Figures {
-    estimated(rt, alloc, length, rating, until, shift, listed, None)
+    estimated(rt, alloc, day, listed, None)
 }
 
-/// The same of a day with an estimate of so many millionths of a cubic foot per second, if there is one.
+/// The same with an estimate of so many millionths of a cubic foot per second, if there is one.
 pub fn estimated(
     rt: &impl Abort,
     alloc: Global,
-    length: i32,
-    rating: &[(i64, i64)],
-    until: i32,
-    shift: i64,
+    day: &RatedDay,
     listed: &[(i32, i64, Flag)],
     estimate: Option<i64>,
 ) -> Figures {
@@ -61,19 +81,25 @@ pub fn estimated(
     let mut shifts = Vec::new(alloc);
     let entry = Entry {
         at: second(rt, -90_000),
-        curve: Curve::new(&[(micro(rt, 0), micro(rt, shift))]).expect(rt, "a curve"),
+        curve: Curve::new(&[(micro(rt, 0), micro(rt, day.shift))]).expect(rt, "a curve"),
         prorate: false,
     };
     shifts.push(entry).expect(rt, "memory for an entry");
     let mut periods = Vec::new(alloc);
-    let rated = part(rt, alloc, second(rt, -90_000), second(rt, until), rating);
+    let rated = part(
+        rt,
+        alloc,
+        second(rt, -90_000),
+        second(rt, day.until),
+        day.rating,
+    );
     periods.push(rated).expect(rt, "memory for a part");
     let inputs = DayInputs::Day(DayParts {
         gap: 720,
         stage_array: RoundingArray::STAGES,
         discharge_array: RoundingArray::read(b"0222233332").expect(rt, "a rounding array"),
         from: second(rt, 0),
-        until: second(rt, length),
+        until: second(rt, day.length),
         window: ReadingList::from_vec(window),
         first: EntryList::from_vec(Vec::new(alloc)),
         second: EntryList::from_vec(Vec::new(alloc)),
@@ -111,7 +137,7 @@ fn usable(listed: [(i32, i64); 3]) -> [(i32, i64, Flag); 3] {
 fn means_worked_by_hand(rt: HostRuntime) {
     let alloc = rt.alloc();
     let up_and_down = usable([(0, 1_000_000), (NOON, 2_000_000), (DAY, 1_000_000)]);
-    let figures = figures_of(&rt, alloc, DAY, &LINE, DAY + 1, 0, &up_and_down);
+    let figures = figures_of(&rt, alloc, &WHOLE_DAY, &up_and_down);
     expect_means(
         &rt,
         "whole",
@@ -120,7 +146,7 @@ fn means_worked_by_hand(rt: HostRuntime) {
         (86_400, Some(20)),
     );
     // the second half is not covered
-    let figures = figures_of(&rt, alloc, DAY, &LINE, DAY + 1, 0, &up_and_down[..2]);
+    let figures = figures_of(&rt, alloc, &WHOLE_DAY, &up_and_down[..2]);
     expect_means(&rt, "half", &figures, (43_200, None), (43_200, None));
     // a day of 23 hours: twice its hours is 46, its stages give 88, its discharges 1,300
     let short = [
@@ -129,7 +155,11 @@ fn means_worked_by_hand(rt: HostRuntime) {
         (39_600, 2_000_000, Flag::Usable),
         (82_800, 2_000_000, Flag::Usable),
     ];
-    let figures = figures_of(&rt, alloc, 82_800, &LINE, DAY + 1, 0, &short);
+    let short_day = RatedDay {
+        length: 82_800,
+        ..WHOLE_DAY
+    };
+    let figures = figures_of(&rt, alloc, &short_day, &short);
     expect_means(
         &rt,
         "short",
@@ -139,7 +169,11 @@ fn means_worked_by_hand(rt: HostRuntime) {
     );
     // the mean of the discharges is not the discharge of the mean stage, which is 30
     let high = usable([(0, 1_000_000), (NOON, 3_000_000), (DAY, 1_000_000)]);
-    let figures = figures_of(&rt, alloc, DAY, &BENT, DAY + 1, 0, &high);
+    let bent_day = RatedDay {
+        rating: &BENT,
+        ..WHOLE_DAY
+    };
+    let figures = figures_of(&rt, alloc, &bent_day, &high);
     expect_means(
         &rt,
         "bent",
@@ -149,7 +183,7 @@ fn means_worked_by_hand(rt: HostRuntime) {
     );
     // at the end of the table with the shift, and over it
     let shifted = usable([(0, 1_950_000), (NOON, 1_950_000), (DAY, 1_950_000)]);
-    let figures = figures_of(&rt, alloc, DAY, &LINE, DAY + 1, 50_000, &shifted);
+    let figures = figures_of(&rt, alloc, &SHIFTED_DAY, &shifted);
     expect_means(
         &rt,
         "end",
@@ -158,7 +192,7 @@ fn means_worked_by_hand(rt: HostRuntime) {
         (86_400, Some(30)),
     );
     let over = usable([(0, 1_950_000), (NOON, 1_950_001), (DAY, 1_950_000)]);
-    let figures = figures_of(&rt, alloc, DAY, &LINE, DAY + 1, 50_000, &over);
+    let figures = figures_of(&rt, alloc, &SHIFTED_DAY, &over);
     expect_means(&rt, "over", &figures, (86_400, Some(195)), (0, None));
 }
 
@@ -171,7 +205,8 @@ fn expect_counts(
     covered: u32,
     want: Counts,
 ) {
-    let figures = figures_of(rt, alloc, DAY, &LINE, until, 0, listed);
+    let day = RatedDay { until, ..WHOLE_DAY };
+    let figures = figures_of(rt, alloc, &day, listed);
     same(rt, "covered", &figures.discharge().covered, &covered);
     same(rt, "counts", &figures.counts(), &want);
 }

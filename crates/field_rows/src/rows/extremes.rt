@@ -1,7 +1,7 @@
 //! Extremes and estimates of days worked by hand.
 
 use crate::rows::day_values::second;
-use crate::rows::discharges::{DAY, LINE, NOON, estimated};
+use crate::rows::discharges::{DAY, NOON, WHOLE_DAY, estimated};
 use crate::rows::fixtures::{micro, same};
 use daily_values::{Figures, Unit};
 use fixed_units::{Flag, Published};
@@ -15,7 +15,7 @@ fn figures_of(
     listed: &[(i32, i64, Flag)],
     estimate: Option<i64>,
 ) -> Figures {
-    estimated(rt, alloc, DAY, &LINE, DAY + 1, 0, listed, estimate)
+    estimated(rt, alloc, &WHOLE_DAY, listed, estimate)
 }
 
 // An extreme stands so many seconds after the start of the day, with this stage and this discharge.

@@ -1,6 +1,6 @@
 //! Computation sheets worked by hand.
 
-use crate::rows::discharges::{DAY, LINE, NOON, estimated};
+use crate::rows::discharges::{DAY, NOON, WHOLE_DAY, estimated};
 use crate::rows::fixtures::same;
 use civil_days::read_day;
 use daily_values::DayValue;
@@ -23,7 +23,7 @@ fn value_of(
     listed: &[(i32, i64, Flag)],
     estimate: Option<i64>,
 ) -> DayValue {
-    let figures = estimated(rt, alloc, DAY, &LINE, DAY + 1, 0, listed, estimate);
+    let figures = estimated(rt, alloc, &WHOLE_DAY, listed, estimate);
     DayValue::Day(figures)
 }
 

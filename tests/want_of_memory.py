@@ -3,11 +3,12 @@
 
     python3 tests/want_of_memory.py PROGRAM [--year] [--folder .] [--jobs 4] [--from 1] [--step 47]
 
-A whole batch (a station, its rating, the rating's period, three readings in one edit, a review and an approval of three other days with
-their sheets, a day before and after turns, and its sheet) is run once for each allocation that it makes, with that one refused. Every request
-must be answered: by its reply or by 507, and behind a POST that was answered 507 by whatever follows from that. Then the same batch is sent once more over the journal that was left, with all the memory there is:
-every edit must be accepted or told to be repeated, and the day must be computed. With `--year` the three readings are a logger's year
-in one body, settled, with the table of its days (some minutes).
+A whole batch (a station, its rating, the rating's period, three readings in one edit, a review and an approval of three other days
+with their sheets, a day before and after turns, and its sheet) is run once for each allocation that it makes, with that one refused.
+Every request must be answered: by its reply, or one of them by 507; behind a POST that was answered 507 any whole reply will do. Then
+the same batch is sent once more over the journal that was left, with all the memory there is: every edit must be accepted or told to be
+repeated, and the day must be computed. With `--year` the three readings are a logger's year in one body, settled, with a day and the
+table of its days (some minutes).
 
 `init` is run so too: it makes a journal, or ends by a status and leaves nothing that keeps a second `init` from making one. And
 `trial --number 1`, for each of its first 300 allocations and then one in `--step`: its whole text comes, or a status and no text.
@@ -162,7 +163,9 @@ NO_MEMORY = (507, b'{"code":"NoMemory"}')
 
 
 def is_told(requests, told, due):
-    """Whether each request was told its reply or 507. Behind a POST that was told 507 anything may follow."""
+    """Whether each request was told its reply, or one of them 507; behind a POST that was told 507 only that no second one is."""
+    if told.count(NO_MEMORY) > 1:
+        return False
     for request, reply, its in zip(requests, told, due):
         if reply == NO_MEMORY and request.startswith(b"POST"):
             return True

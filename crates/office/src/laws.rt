@@ -72,7 +72,7 @@ pub fn whatever_is_left_opens()
         → IsJournalOf pieces image → slice_get (edits_of h.events) place ≡ Some edit → verdict (reopen h.limits pieces) edit ≡ Repeats (place + 1) }
 {}
 
-/// A journal is damaged for an office at one gate, and no other: the first one without a record, or with one that is not accepted.
+/// A journal is damaged for an office at one gate at most: the first one without a record, or with one that is not accepted.
 pub fn damaged_at_one_gate()
     ensures { (limits : Limits) (at other : ℕ) (image : List ℕ) → IsDamagedFor limits at image → IsDamagedFor limits other image → at ≡ other }
 {}

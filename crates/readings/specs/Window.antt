@@ -80,7 +80,7 @@ IsFollow b gap readings (Some r) =
 IsFollow b gap readings None =
     (rest : List Reading) (r : Reading) → used_from b readings ≡ r ∷ rest → gap <ℤ (r.at -ℤ b)
 
--- a window by cases: the used readings of the day with those neighbours, or nothing where there are none
+-- a window by cases: the used readings of the day with those neighbours, or nothing where the day has no used reading of its own
 pub record IsWindow (a b gap : ℤ) (readings list : List Reading) : Type 0 where
   pub before : Option Reading
   pub after : Option Reading

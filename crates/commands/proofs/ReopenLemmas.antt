@@ -1,7 +1,6 @@
 -- What an office begins with that is opened on the records of a journal.
 use Rattle.std.proofs.Common.{◌≡◌, ℕ, List, [], ◌∷◌, ◌++◌, reverse, map, Option, None, refl, sym, ◌∙◌, ap, subst, inl}
 use Rattle.std.proofs.lemmas.List.{append-nil, map-append, reverse-append}
-use Rattle.desk.specs.Passing.{fault_count}
 use Rattle.history.proofs.EventLemmas.{accepted_all}
 use Rattle.history.specs.Accepted.{accepted}
 use Rattle.history.specs.After.{doubt, doubt_back, go_on, reopen}
@@ -10,11 +9,6 @@ use Rattle.journal.specs.JournalBytes.{IsJournalOf, StandsFor}
 use Rattle.office.specs.Stops.{IsLeft, IsLeftBefore, IsLeftBetween}
 use Rattle.office_inputs.specs.Usual.{usual}
 use Rattle.records.specs.Sheets.{Record}
-
--- no fault is among the edits that were found
-pub count_reopened : (pieces : List Record) (since : List Event) → fault_count (map Accepted pieces ++ since) ≡ fault_count since
-count_reopened [] since = refl
-count_reopened (piece ∷ pieces) since = count_reopened pieces since
 
 -- the edits read back
 reversed : (pieces : List Record) → reverse (map Accepted pieces) ≡ map Accepted (reverse pieces)

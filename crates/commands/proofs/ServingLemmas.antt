@@ -7,13 +7,14 @@ use Rattle.devices.specs.Disks.{IsUnchanged}
 use Rattle.devices.specs.Faults.{Rose}
 use Rattle.devices.specs.declared.cabinets.Opened.TheVariants as opens
 use Rattle.commands.proofs.PlaceLemmas.{opened_and_kept, was_kept, leaves_kept, all_stay, rose_kept}
-use Rattle.commands.proofs.ReopenLemmas.{count_reopened, found_left}
+use Rattle.commands.proofs.ReopenLemmas.{found_left}
 use Rattle.commands.specs.Places.{HasKept, IfKept, IsLeftAlone, HasTheSame}
 use Rattle.commands.specs.RunEnds.{opening_end}
 use Rattle.commands.specs.Serving.{IsLeftOn, Carries, ServesDisk, CarriesAt, StaysWith, ServesUnder, WorksOn, WorksUnder}
 use Rattle.commands.specs.declared.runs.RunEnd.{RunEnd}
 use Rattle.commands.specs.declared.runs.Work.{Work}
 use Rattle.commands.specs.declared.runs.RunEnd.TheVariants as ends
+use Rattle.desk.proofs.FaultLemmas.{count_reopened}
 use Rattle.desk.specs.Passing.{Passes, RoseBy, fault_count}
 use Rattle.history.specs.After.{go_on, reopen}
 use Rattle.history.specs.Events.{Event, History}

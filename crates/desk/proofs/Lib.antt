@@ -1,6 +1,7 @@
 mod DailyLemmas
 pub mod AnswerLemmas
 pub mod EndLemmas
+pub mod FaultLemmas
 pub mod OneReplyLemmas
 pub mod PassingLemmas
 pub mod RepliesLemmas

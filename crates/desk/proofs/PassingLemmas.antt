@@ -39,7 +39,7 @@ publishes_more h mid after first second = record {
 }
 
 -- no publication is a fault
-no_fault : (days : List SiteDay) → fault_count (map publication days) ≡ 0
+pub no_fault : (days : List SiteDay) → fault_count (map publication days) ≡ 0
 no_fault [] = refl
 no_fault (d ∷ days) = no_fault days
 

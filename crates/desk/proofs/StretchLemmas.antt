@@ -50,7 +50,7 @@ left_earlier h after first image left = record {
 }
 
 -- the faults of events and of others behind them
-fault_count-append : (events others : List Event) → fault_count (events ++ others) ≡ fault_count events + fault_count others
+pub fault_count-append : (events others : List Event) → fault_count (events ++ others) ≡ fault_count events + fault_count others
 fault_count-append events others = sum_by-append (λ (event : Event). cond (is_fault event) 1 0) events others
 
 rose_on : (m n k f0 f f' : ℕ) → k ≡ m + n → RoseBy m f0 f → RoseBy n f f' → RoseBy k f0 f'

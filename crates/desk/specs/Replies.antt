@@ -1,5 +1,5 @@
 -- What is replied to a message, and what has happened then.
-use Rattle.std.specs.Prelude.{◌≡◌, ◌≢◌, ◌⊎◌, ℕ, ◌+◌, ◌-◌, ◌≤◌, Bool, true, false, List, [], ◌∷◌, ◌++◌, length, take, Option, Some, None, is_some, Result, Ok, Err, ℤ}
+use Rattle.std.specs.Prelude.{◌≡◌, ◌≢◌, ◌⊎◌, ℕ, ◌+◌, ◌-◌, ◌≤◌, Bool, true, false, List, [], ◌∷◌, ◌++◌, length, take, bytes_eq, Option, Some, None, is_some, Result, Ok, Err, ℤ}
 use Rattle.std.specs.List.{flat_map}
 use Rattle.approval.specs.declared.status.Status.{Status}
 use Rattle.depend.specs.Compared.{days_within}
@@ -30,7 +30,7 @@ use Rattle.office.specs.Edits.{IsFaulted}
 use Rattle.office_inputs.specs.Stations.{station_of}
 use Rattle.station_inputs.specs.Stations.{StationRecord}
 use Rattle.office_inputs.specs.declared.refusals.Refusal.TheVariants.{JournalFault}
-use Rattle.wire.specs.ReplyHead.{reply_bytes}
+use Rattle.wire.specs.ReplyHead.{reply_bytes, status_line}
 use Rattle.wire.specs.declared.messages.Message.{Message}
 use Rattle.wire.specs.declared.messages.Message.TheVariants as messages
 use Rattle.wire.specs.declared.replies.Kind.TheVariants.{Csv, Json, Plain}
@@ -133,6 +133,10 @@ memory_reply = bytes_of replies.NoMemory
 -- the reply is neither that of want of memory nor that of a journal that failed
 abbrev pub IsOwn : List ℕ → Type 0
 IsOwn reply = (reply ≢ memory_reply) × ((in_doubt : Bool) → reply ≢ fault_reply in_doubt)
+
+-- the reply has the status of a failed journal
+abbrev pub tells_fault : List ℕ → Bool
+tells_fault reply = bytes_eq (take (length (status_line 503)) reply) (status_line 503)
 
 -- the journal failed at an edit that nothing else refused
 abbrev pub Fails : History → Ask → List ℕ → History → Type 0

@@ -1,3 +1,4 @@
+pub mod FaultLemmas
 pub mod InputLemmas
 pub mod LineLemmas
 pub mod LoadedLemmas

@@ -1,5 +1,5 @@
 -- The lines that tell what became of the stations of a document.
-use Rattle.std.specs.Prelude.{◌≡◌, ℕ, List, [], ◌∷◌, ◌++◌, codes, decimal, Result, Ok, Err}
+use Rattle.std.specs.Prelude.{◌≡◌, ℕ, Bool, false, List, [], ◌∷◌, ◌++◌, length, take, codes, decimal, bytes_eq, Result, Ok, Err}
 use Rattle.edits.specs.declared.content.Edit.{Edit}
 use Rattle.fixed_units.specs.Quantities.{SiteNumber}
 use Rattle.history.specs.Events.{History}
@@ -7,6 +7,7 @@ use Rattle.http_api.specs.Failures.{refusal_row}
 use Rattle.office.specs.Edits.{Edits}
 use Rattle.office.specs.declared.offices.Accepted.{Accepted}
 use Rattle.office_inputs.specs.declared.refusals.Refusal.{Refusal}
+use Rattle.office_inputs.specs.declared.refusals.Refusal.TheVariants.{JournalFault}
 use Rattle.site_texts.specs.SiteText.{site_text}
 
 -- the site number and the end of the line
@@ -20,6 +21,13 @@ accepted_line site number = codes "edit " ++ decimal number ++ site_end site
 -- the edit is refused, for want of memory and for a fault of the journal too
 abbrev pub refused_line : SiteNumber → Refusal → List ℕ
 refused_line site refusal = codes "refused " ++ (refusal_row refusal).code ++ site_end site
+
+-- the line has the code of a failed journal
+abbrev pub failed_front : List ℕ
+failed_front = codes "refused " ++ (refusal_row (JournalFault false)).code ++ codes " "
+
+abbrev pub tells_fault_line : List ℕ → Bool
+tells_fault_line line = bytes_eq (take (length failed_front) line) failed_front
 
 abbrev pub station_line : SiteNumber → Result Accepted Refusal → List ℕ
 station_line site (Ok told) = accepted_line site told.number

@@ -2,6 +2,7 @@
 #![tactic(auto)]
 
 pub mod inputs;
+pub mod laws;
 pub mod lines;
 pub mod loading;
 

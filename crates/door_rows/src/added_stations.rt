@@ -49,7 +49,28 @@ const NO_GAP: &[u8] = b"[[station]]\n\
     stage_array = \"9999999992\"\n\
     discharge_array = \"0222233332\"\n";
 
-/// The journal of that station alone.
+/// The same station, by a zone that is none of a station.
+const NO_ZONE: &[u8] = b"[[station]]\n\
+    site = \"01646501\"\n\
+    ref = \"st-4\"\n\
+    name = \"OTHER\"\n\
+    zone = \"America/New_York\"\n\
+    gap = 60\n\
+    stage_array = \"9999999992\"\n\
+    discharge_array = \"0222233332\"\n";
+
+/// The document of the first station by another name, under the same reference.
+const RENAMED: &[u8] = b"by = \"AB\"\n\
+    [[station]]\n\
+    site = \"01646500\"\n\
+    ref = \"st-1\"\n\
+    name = \"OTHER\"\n\
+    zone = \"-05:00\"\n\
+    gap = 720\n\
+    stage_array = \"9999999992\"\n\
+    discharge_array = \"0222233332\"\n";
+
+/// The journal of the first station alone.
 const KEPT: Parts = &[
     b"STREAMOFFICE-J1\n\x01\x39\0\0\0\x01\x02AB\x04st-1\x08\xa4\x1f\x19\0\0\0\0\0\x07POTOMAC\x06-05:00\xd0\x02\0\099999999920222233332\0",
 ];
@@ -63,6 +84,12 @@ const ADDED: Due = Due {
 const REFUSED: Due = Due {
     written: &[b"edit 1 01646500\n", b"refused StationExists 01646500\n"],
     ..ADDED
+};
+
+/// An addition has the reference that its table tells. One that has been used is told first, though the station is kept too.
+const REF_REUSED: Due = Due {
+    written: &[b"refused RefReused 01646500\n"],
+    ..SILENT
 };
 
 const NO_DOCUMENT: Due = Due {
@@ -86,16 +113,24 @@ const CUT_OUTPUT: Ways = Ways {
 };
 
 /// Documents over a journal without records, and over that of the station.
-const DOCUMENTS: [Run; 12] = [
+const DOCUMENTS: [Run; 14] = [
     (STATIONS, NO_RECORDS, &WHOLE, &[POTOMAC], &ADDED),
     (STATIONS, NO_RECORDS, &BYTE_BY_BYTE, &[POTOMAC], &ADDED),
     (STATIONS, KEPT, &WHOLE, &[POTOMAC], &ADDED),
     (STATIONS, NO_RECORDS, &WHOLE, &[POTOMAC, AGAIN], &REFUSED),
+    (STATIONS, KEPT, &WHOLE, &[RENAMED], &REF_REUSED),
     (
         STATIONS,
         NO_RECORDS,
         &WHOLE,
         &[POTOMAC, NO_GAP],
+        &NO_DOCUMENT,
+    ),
+    (
+        STATIONS,
+        NO_RECORDS,
+        &WHOLE,
+        &[POTOMAC, NO_ZONE],
         &NO_DOCUMENT,
     ),
     (

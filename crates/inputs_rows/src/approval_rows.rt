@@ -2,7 +2,7 @@
 
 ghost use Rattle.approval.specs.Kept.{HasRoom};
 
-use approval::{Objection, Statuses};
+use approval::{Objection, Status, Statuses};
 use edits::{By, Decision, Edit, Ref, What};
 use fixed_units::{Day, Site};
 use std::alloc::Global;
@@ -212,14 +212,13 @@ fn stand_so(statuses: &Statuses, letters: &str) -> bool {
 }
 
 /// How many rows are as they say, before the first that is not.
-fn count_right(alloc: Global, rows: &[Row]) -> usize {
-    let mut statuses = Statuses::new(alloc);
+fn count_right(alloc: Global, statuses: &mut Statuses, rows: &[Row]) -> usize {
     for (place, (person, sent, objection, letters)) in rows.iter().enumerate() {
         let Some(edit) = edit(alloc, person, *sent) else {
             return place;
         };
-        if say(&mut statuses, &edit, changed_day(*sent)).map(told) != *objection
-            || !stand_so(&statuses, letters)
+        if say(statuses, &edit, changed_day(*sent)).map(told) != *objection
+            || !stand_so(statuses, letters)
         {
             return place;
         }
@@ -227,12 +226,94 @@ fn count_right(alloc: Global, rows: &[Row]) -> usize {
     rows.len()
 }
 
+/// The statuses after rows, where these are as they say.
+fn statuses_after(alloc: Global, rows: &[Row]) -> Option<Statuses> {
+    let mut statuses = Statuses::new(alloc);
+    if count_right(alloc, &mut statuses, rows) == rows.len() {
+        Some(statuses)
+    } else {
+        None
+    }
+}
+
 /// The first history in which something else is said, or becomes of a day.
 #[test]
 fn reviews_and_decisions_are_by_two_persons(rt: HostRuntime) -> Result<(), &'static str> {
     for (history, rows) in &HISTORIES {
-        if count_right(rt.alloc(), rows) != rows.len() {
+        if statuses_after(rt.alloc(), rows).is_none() {
             return Err(history);
+        }
+    }
+    Ok(())
+}
+
+/// Whether a person approved the day of a number.
+fn is_approved_by(statuses: &Statuses, number: i32, person: &str) -> Option<bool> {
+    let site = Site::new(8, 1_646_500)?;
+    match statuses.status(site, Day::new(number)?) {
+        Status::Approved(by) => Some(by.as_slice() == person.as_bytes()),
+        _ => None,
+    }
+}
+
+fn is_approved_after(alloc: Global, rows: &[Row], number: i32, person: &str) -> Option<bool> {
+    let statuses = statuses_after(alloc, rows)?;
+    is_approved_by(&statuses, number, person)
+}
+
+#[test]
+fn an_approved_day_names_its_approver(rt: HostRuntime) {
+    assert!(rt; is_approved_after(rt.alloc(), &OWN_REVIEW, 1, "RV") == Some(true));
+    assert!(rt; is_approved_after(rt.alloc(), &OWN_REVIEW, 2, "RW") == Some(false));
+}
+
+const TWO_APPROVED: [Row; 2] = [
+    ("RV", Sent::Review(2, 3), None, "wrr"),
+    ("RW", Sent::Approval(2, 3), None, "waa"),
+];
+
+/// Days, and the first of them that is locked where the days 2 and 3 are approved.
+type Lock = (&'static str, &'static [i32], Option<i32>);
+
+static LOCKS: [Lock; 5] = [
+    ("three days", &[1, 2, 3], Some(2)),
+    ("the later of two", &[1, 3], Some(3)),
+    ("an approved day alone", &[3], Some(3)),
+    ("a day that is worked", &[1], None),
+    ("no day", &[], None),
+];
+
+fn days_of(alloc: Global, numbers: &[i32]) -> Option<Vec<Day>> {
+    let mut days = Vec::new(alloc);
+    for number in numbers {
+        days.push(Day::new(*number)?).ok()?;
+    }
+    Some(days)
+}
+
+/// Whether this day is the first of some that is locked.
+fn is_locked_first(
+    alloc: Global,
+    statuses: &Statuses,
+    numbers: &[i32],
+    first: Option<i32>,
+) -> Option<bool> {
+    let site = Site::new(8, 1_646_500)?;
+    let days = days_of(alloc, numbers)?;
+    Some(statuses.locked(site, days.as_slice()).map(Day::get) == first)
+}
+
+fn is_lock(alloc: Global, numbers: &[i32], first: Option<i32>) -> Option<bool> {
+    let statuses = statuses_after(alloc, &TWO_APPROVED)?;
+    is_locked_first(alloc, &statuses, numbers, first)
+}
+
+/// The row of which another day is locked first.
+#[test]
+fn the_first_approved_day_of_a_list_is_locked(rt: HostRuntime) -> Result<(), &'static str> {
+    for (row, numbers, first) in &LOCKS {
+        if is_lock(rt.alloc(), numbers, *first) != Some(true) {
+            return Err(row);
         }
     }
     Ok(())

@@ -1,9 +1,9 @@
 //! Readings in bulk, dropped and flagged by spans, and estimates: which of them are refused, and which days they change.
 
 use crate::fixtures::{ADDITION, Between, DAY_AND_NEXT, FIRST, LATE, NEXT, SECOND, Sent, Stage};
-use crate::reach_rows::{Change, change_all};
+use crate::reach_rows::{Change, RATED, RATING, change_all};
 use crate::refusal_rows::{
-    Cause, DAY_READINGS, History, NO_ENTRY, NO_STATION, READINGS, Row, are_right,
+    CORRECTION, Cause, DAY_READINGS, History, NO_ENTRY, NO_STATION, READINGS, Row, are_right,
 };
 use fixed_units::Flag;
 
@@ -161,7 +161,7 @@ const BOTH_LATER: Between = ("2024-01-05T17:00:00Z", "2024-01-06T05:00:00Z");
 /// The second reading is erroneous.
 const ERRONEOUS_SECOND: &Sent = &Sent::Flags(AT_SECOND, Flag::Erroneous);
 
-static CHANGES: [Change; 17] = [
+static CHANGES: [Change; 21] = [
     (
         "readings of three days",
         &[ADDITION],
@@ -253,6 +253,30 @@ static CHANGES: [Change; 17] = [
         &[ADDITION, ESTIMATE, LATE],
         &Sent::NoEstimate("2024-01-05"),
         &["2024-01-05"],
+    ),
+    (
+        "another gap, a day with an estimate alone",
+        &[ADDITION, ESTIMATE],
+        &Sent::Setting(60),
+        &["2024-01-05"],
+    ),
+    (
+        "an entry before a day with an estimate alone",
+        &[ADDITION, ESTIMATE],
+        CORRECTION,
+        &[],
+    ),
+    (
+        "a rating, a day with an estimate alone",
+        &[ADDITION, ESTIMATE],
+        RATING,
+        &[],
+    ),
+    (
+        "a period over a day with an estimate alone",
+        &[ADDITION, ESTIMATE, RATING],
+        RATED,
+        &[],
     ),
 ];
 

@@ -9,7 +9,7 @@ ghost use Rattle.office_inputs.specs.Stations.{stations_after};
 use civil_days::{read_day, read_instant};
 use curves::Curve;
 use depend::{DayList, reach};
-use edits::{By, Edit, Estimate, Grade, Measurement, Name, Ref, What};
+use edits::{By, Decision, Edit, Estimate, Grade, Measurement, Name, Ref, What};
 use fixed_units::{Day, Flag, Micro, NoMemory, Reading, RoundingArray, Second, Site, Text};
 use office_inputs::{Inputs, Limits, Refusal};
 use ratings::{Period, SharedTable, Table};
@@ -33,6 +33,9 @@ pub type Many = (&'static str, u32, u32);
 
 /// The first and the last instant of a span.
 pub type Between = (&'static str, &'static str);
+
+/// The first and the last of some days.
+pub type Days = (&'static str, &'static str);
 
 /// The instant of an entry, its amount at every stage in millionths of a foot, and whether it prorates.
 pub type Amount = (&'static str, i64, bool);
@@ -92,6 +95,10 @@ pub enum Sent {
     Measurement(u32),
     /// Takes out the measurement of a number.
     NoMeasurement(u32),
+    /// Puts some days in review.
+    Review(Days),
+    /// Approves some days.
+    Approval(Days),
     /// Puts one of many, by where it stands among them, from 0 on.
     Nth(Limited, u32),
 }
@@ -121,8 +128,14 @@ pub const DAY_AND_NEXT: &Sent = &Sent::PutEach(&[
 /// Puts a stage two days after the first.
 pub const LATE: &Sent = &Sent::Put(POTOMAC, ("2024-01-07T05:00:00Z", 2_000_000));
 
-/// The first and the last of some days.
-pub type Span = Option<(&'static str, &'static str)>;
+/// Puts the same as an erroneous reading.
+pub const ERRONEOUS_LATE: &Sent = &Sent::PutEach(&[(
+    ("2024-01-07T05:00:00Z", 2_000_000),
+    Flag::Erroneous,
+)]);
+
+/// Some days, if there are any.
+pub type Span = Option<Days>;
 
 /// The days of these texts.
 pub fn days(span: Span) -> Option<(Day, Day)> {
@@ -303,6 +316,20 @@ fn measurement(number: u32) -> Option<What> {
     })
 }
 
+fn review(span: Days) -> Option<What> {
+    let (from, to) = days(Some(span))?;
+    Some(What::Review { from, to })
+}
+
+fn approval(span: Days) -> Option<What> {
+    let (from, to) = days(Some(span))?;
+    Some(What::Decide {
+        from,
+        to,
+        decision: Decision::Approve,
+    })
+}
+
 fn nth(alloc: Global, limited: Limited, place: u32) -> Option<What> {
     match limited {
         Limited::Shift => shift_at(place),
@@ -352,6 +379,8 @@ fn change(alloc: Global, sent: &Sent) -> Option<What> {
         Sent::NoEstimate(day) => no_estimate(day),
         Sent::Measurement(number) => measurement(number),
         Sent::NoMeasurement(number) => Some(What::DropMeasurement { number }),
+        Sent::Review(span) => review(span),
+        Sent::Approval(span) => approval(span),
         Sent::Nth(limited, place) => nth(alloc, limited, place),
     }
 }

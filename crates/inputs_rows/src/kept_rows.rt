@@ -1,8 +1,8 @@
 //! What is in force of a station, which of its days have inputs, and which keep them.
 
 use crate::fixtures::{
-    ADDITION, FIRST, LATE, POTOMAC, SECOND, Sent, Span, accept, days, edit, inputs_after, is_kept,
-    send,
+    ADDITION, ERRONEOUS_LATE, FIRST, LATE, NEXT, POTOMAC, SECOND, Sent, Span, accept, days, edit,
+    inputs_after, is_kept, send,
 };
 use civil_days::read_day;
 use edits::Edit;
@@ -36,7 +36,7 @@ fn room_alone_adds_no_station(rt: HostRuntime) {
 /// What was sent, and the first and the last day of the station that have inputs then.
 type Used = (&'static str, &'static [&'static Sent], Span);
 
-static USED: [Used; 3] = [
+static USED: [Used; 8] = [
     (
         "two readings, the later one first",
         &[ADDITION, LATE, FIRST],
@@ -47,6 +47,34 @@ static USED: [Used; 3] = [
         "a station that was set",
         &SET,
         Some(("2024-01-05", "2024-01-05")),
+    ),
+    (
+        "an estimate of a day before that of the reading",
+        &[ADDITION, FIRST, &Sent::Estimate("2024-01-01", 60_000)],
+        Some(("2024-01-01", "2024-01-05")),
+    ),
+    (
+        "an erroneous reading behind a used one",
+        &[ADDITION, FIRST, ERRONEOUS_LATE],
+        Some(("2024-01-05", "2024-01-05")),
+    ),
+    (
+        "an erroneous reading alone",
+        &[ADDITION, ERRONEOUS_LATE],
+        None,
+    ),
+    (
+        "a reading at the beginning of its day",
+        &[ADDITION, NEXT],
+        Some(("2024-01-06", "2024-01-06")),
+    ),
+    (
+        "a reading of another site alone",
+        &[
+            &Sent::Addition(1),
+            &Sent::Put(1, ("2024-01-05T05:00:00Z", 1_000_000)),
+        ],
+        None,
     ),
 ];
 
@@ -94,7 +122,8 @@ pub type Kept = (
     bool,
 );
 
-static KEPT: [Kept; 7] = [
+static KEPT: [Kept; 8] = [
+    ("a station", &[], ADDITION, "2024-01-05", true),
     (
         "a reading, the day before it",
         &[ADDITION, FIRST],

@@ -5,14 +5,14 @@ ghost use Rattle.office_inputs.specs.Kept.{in_force};
 ghost use Rattle.office_inputs.specs.Stations.{stations_after};
 
 use crate::fixtures::{
-    ADDITION, DAY_AND_NEXT, FIRST, LATE, NEXT, POTOMAC, SECOND, Sent, Span, accept, days, edit,
-    inputs_after, no_inputs, reached,
+    ADDITION, DAY_AND_NEXT, Days, ERRONEOUS_LATE, FIRST, LATE, NEXT, POTOMAC, SECOND, Sent, Span,
+    accept, days, edit, inputs_after, no_inputs, reached,
 };
 use civil_days::read_day;
 use depend::from_scratch::changed_days;
 use depend::{DayList, compared_days};
 use edits::Edit;
-use fixed_units::Day;
+use fixed_units::{Day, Flag};
 use office_inputs::{Inputs, Limits};
 use std::alloc::Global;
 
@@ -29,10 +29,22 @@ const BETWEEN_DAYS: &Sent = &Sent::Shift(("2024-01-06T18:00:00Z", 100_000, true)
 
 const LAST_SHIFT: &Sent = &Sent::Shift(("2024-01-20T00:00:00Z", 0, false));
 
-/// Adds rating 1, and puts a period of it from 2023 on without end.
-const RATING: &Sent = &Sent::Rating(1);
+/// The first of these, held until the next entry.
+const HELD_BETWEEN_DAYS: &Sent = &Sent::Shift(("2024-01-06T18:00:00Z", 100_000, false));
 
-const RATED: &Sent = &Sent::Period((BEGINNING, None, 1));
+/// Puts a shift an hour after the first reading, one that is held twelve hours later, and one on the day of the late reading.
+const FIRST_DAY_SHIFT: &Sent = &Sent::Shift((AN_HOUR_AFTER, 100_000, true));
+
+const HELD_IN_FIRST_DAY: &Sent = &Sent::Shift(("2024-01-05T18:00:00Z", 100_000, false));
+
+const LAST_DAY_SHIFT: &Sent = &Sent::Shift(("2024-01-07T18:00:00Z", 100_000, true));
+
+const AN_HOUR_AFTER: &str = "2024-01-05T06:00:00Z";
+
+/// Adds rating 1, and puts a period of it from 2023 on without end.
+pub const RATING: &Sent = &Sent::Rating(1);
+
+pub const RATED: &Sent = &Sent::Period((BEGINNING, None, 1));
 
 const BEGINNING: &str = "2023-01-01T00:00:00Z";
 
@@ -218,7 +230,10 @@ fn an_edit_changes_the_days_near_it(rt: HostRuntime) -> Result<(), &'static str>
 /// What was sent, what is sent then, and the first and the last of the days that are compared for it.
 type Compared = (&'static str, &'static [&'static Sent], &'static Sent, Span);
 
-static COMPARED: [Compared; 10] = [
+/// The days that have inputs behind the first reading and the late one.
+const USED_DAYS: Days = ("2024-01-05", "2024-01-07");
+
+static COMPARED: [Compared; 22] = [
     ("a station", &[], ADDITION, None),
     (
         "the first reading",
@@ -248,14 +263,80 @@ static COMPARED: [Compared; 10] = [
     (
         "an entry after the last reading, of its day",
         &[ADDITION, FIRST, LATE],
-        &Sent::Shift(("2024-01-07T18:00:00Z", 100_000, true)),
+        LAST_DAY_SHIFT,
         Some(("2024-01-06", "2024-01-07")),
+    ),
+    (
+        "the same, behind an entry that prorates",
+        &[ADDITION, FIRST, LATE, BETWEEN_DAYS],
+        LAST_DAY_SHIFT,
+        Some(USED_DAYS),
+    ),
+    (
+        "the same, behind an entry that is held",
+        &[ADDITION, FIRST, LATE, HELD_BETWEEN_DAYS],
+        LAST_DAY_SHIFT,
+        Some(("2024-01-06", "2024-01-07")),
+    ),
+    (
+        "an entry in place of itself, behind one that prorates",
+        &[ADDITION, FIRST, LATE, BETWEEN_DAYS, LAST_DAY_SHIFT],
+        LAST_DAY_SHIFT,
+        Some(USED_DAYS),
+    ),
+    (
+        "an entry in place of itself, with none about it",
+        &[ADDITION, FIRST, LATE, FIRST_DAY_SHIFT],
+        FIRST_DAY_SHIFT,
+        Some(USED_DAYS),
+    ),
+    (
+        "an entry taken out, with none about it",
+        &[ADDITION, FIRST, LATE, FIRST_DAY_SHIFT],
+        &Sent::NoShift(AN_HOUR_AFTER),
+        Some(USED_DAYS),
+    ),
+    (
+        "an entry before one of the same day",
+        &[ADDITION, FIRST, LATE, HELD_IN_FIRST_DAY],
+        FIRST_DAY_SHIFT,
+        Some(("2024-01-05", "2024-01-06")),
     ),
     (
         "a period that ends earlier than the one in whose place it is put",
         &[ADDITION, FIRST, LATE, RATING, RATED],
         UNTIL_SECOND,
         Some(("2024-01-05", "2024-01-07")),
+    ),
+    (
+        "a period that ends within the first day",
+        &[ADDITION, FIRST, LATE, RATING],
+        UNTIL_SECOND,
+        Some(("2024-01-05", "2024-01-06")),
+    ),
+    (
+        "the same period taken out",
+        &[ADDITION, FIRST, LATE, RATING, UNTIL_SECOND],
+        &Sent::NoPeriod(BEGINNING),
+        Some(("2024-01-05", "2024-01-06")),
+    ),
+    (
+        "a measurement",
+        &[ADDITION, FIRST, LATE],
+        &Sent::Measurement(1),
+        None,
+    ),
+    (
+        "a review",
+        &[ADDITION, FIRST, LATE],
+        &Sent::Review(USED_DAYS),
+        None,
+    ),
+    (
+        "an approval",
+        &[ADDITION, FIRST, LATE],
+        &Sent::Approval(USED_DAYS),
+        None,
     ),
     (
         "a rating",
@@ -268,6 +349,15 @@ static COMPARED: [Compared; 10] = [
         &[ADDITION, FIRST],
         &Sent::NoReadings(("2020-01-01T00:00:00Z", "2025-01-01T00:00:00Z")),
         Some(("2024-01-04", "2024-01-06")),
+    ),
+    (
+        "the flags of a long span, in which a reading and an erroneous one stand",
+        &[ADDITION, FIRST, ERRONEOUS_LATE],
+        &Sent::Flags(
+            ("2020-01-01T00:00:00Z", "2025-01-01T00:00:00Z"),
+            Flag::Affected,
+        ),
+        Some(("2024-01-04", "2024-01-08")),
     ),
     (
         "an estimate",

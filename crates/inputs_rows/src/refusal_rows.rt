@@ -230,6 +230,19 @@ fn limits(stations: u32, readings: u64, day_readings: u32) -> Limits {
     limits
 }
 
+#[test]
+fn the_usual_limits_are_these_numbers(rt: HostRuntime) {
+    let numbers = Limits {
+        stations: 500,
+        readings: 16_000_000,
+        day_readings: 1_500,
+        cells: 4_000_000,
+        events: 33_554_432,
+        journal_bytes: 536_870_912,
+    };
+    assert!(rt; Limits::usual() == numbers);
+}
+
 /// How many are sent before the first to which something else is said than in its row.
 pub fn count_right(alloc: Global, inputs: &mut Inputs, rows: &[Row]) -> usize {
     for (row, (sent, refusal)) in rows.iter().enumerate() {

@@ -1,6 +1,7 @@
-//! A year of a logger: 35,136 readings in one body, of which one is too high and flagged, and the table of the year.
+//! A year of a logger: 35,136 readings in one body, of which one is too high and flagged, shifts behind them, and the table of the year.
 
 use crate::rated_days::{IN_FORCE, RATED};
+use crate::two_days::UNCHANGED;
 use civil_days::{write_day, write_instant};
 use fixed_units::{Day, Second, Text};
 use std::alloc::Global;
@@ -50,6 +51,41 @@ const BEHIND: [Exchange; 4] = [
     ("POST /settle", "", OK, r#"{"pending":0,"published":2}"#),
 ];
 
+const THREE_SETTLED: Exchange = ("POST /settle", "", OK, r#"{"pending":0,"published":3}"#);
+
+/// A shift twelve hours behind the last reading bears on no day. One that is prorated, a second behind the beginning of 2024-12-30, bears
+/// on the last three days, and not on the day that ends there; with it so does the one that it leads to.
+const SHIFTED: [Exchange; 8] = [
+    (
+        "POST /edits",
+        r#"{"kind":"PutShift","by":"AB","ref":"a6","site":"01646500","at":"2025-01-01T17:00:01Z","points":[["0","0"]],"prorate":false}"#,
+        OK,
+        r#"{"edit":6,"repeated":false}"#,
+    ),
+    UNCHANGED,
+    (
+        "POST /edits",
+        r#"{"kind":"DropShift","by":"AB","ref":"a7","site":"01646500","at":"2025-01-01T17:00:01Z"}"#,
+        OK,
+        r#"{"edit":7,"repeated":false}"#,
+    ),
+    UNCHANGED,
+    (
+        "POST /edits",
+        r#"{"kind":"PutShift","by":"AB","ref":"a8","site":"01646500","at":"2024-12-30T05:00:01Z","points":[["0","0"]],"prorate":true}"#,
+        OK,
+        r#"{"edit":8,"repeated":false}"#,
+    ),
+    THREE_SETTLED,
+    (
+        "POST /edits",
+        r#"{"kind":"PutShift","by":"AB","ref":"a9","site":"01646500","at":"2025-01-01T17:00:01Z","points":[["0","0"]],"prorate":false}"#,
+        OK,
+        r#"{"edit":9,"repeated":false}"#,
+    ),
+    THREE_SETTLED,
+];
+
 /// Adds the reading of a number to the body.
 fn push_reading(number: u32, body: &mut Text) -> Result<(), Fail> {
     if number > 0 {
@@ -95,10 +131,12 @@ fn table(alloc: Global) -> Result<Text, Fail> {
     Ok(text)
 }
 
-/// Adds an exchange to the messages and to the replies.
-fn push(exchange: &Exchange, input: &mut Text, due: &mut Text) -> Result<(), Fail> {
-    push_message(exchange.0, exchange.1.as_bytes(), input)?;
-    push_reply(exchange.2, exchange.3.as_bytes(), due)?;
+/// Adds exchanges to the messages and to the replies.
+fn push(exchanges: &[Exchange], input: &mut Text, due: &mut Text) -> Result<(), Fail> {
+    for exchange in exchanges {
+        push_message(exchange.0, exchange.1.as_bytes(), input)?;
+        push_reply(exchange.2, exchange.3.as_bytes(), due)?;
+    }
     Ok(())
 }
 
@@ -107,14 +145,11 @@ fn a_year_comes_in_one_body(rt: HostRuntime) -> Result<(), Fail> {
     let alloc = rt.alloc();
     let mut input = Text::new(alloc);
     let mut due = Text::new(alloc);
-    for exchange in &[STATION, RATED, IN_FORCE] {
-        push(exchange, &mut input, &mut due)?;
-    }
+    push(&[STATION, RATED, IN_FORCE], &mut input, &mut due)?;
     push_message("POST /edits", year(alloc)?.as_slice(), &mut input)?;
     push_reply(OK, b"{\"edit\":4,\"repeated\":false}", &mut due)?;
-    for exchange in &BEHIND {
-        push(exchange, &mut input, &mut due)?;
-    }
+    push(&BEHIND, &mut input, &mut due)?;
+    push(&SHIFTED, &mut input, &mut due)?;
     push_message(
         "GET /stations/01646500/daily/2024-01-01/2024-12-31",
         b"",

@@ -193,7 +193,7 @@ const STEPS: [Exchange; 30] = [
 
 /// Of three days the first has readings and awaits their edit. A refusal names the first day that it holds of; that some day is not in
 /// review is asked of all of them first, then who reviewed them, and then what they await.
-const SPANS: [Exchange; 25] = [
+const SPANS: [Exchange; 26] = [
     ADDED,
     RATED,
     IN_FORCE,
@@ -270,6 +270,12 @@ const SPANS: [Exchange; 25] = [
         r#"{"kind":"PutEstimate","by":"AB","ref":"a8","site":"01646500","day":"2024-01-07","discharge":"20"}"#,
         LOCKED,
         r#"{"code":"Locked","day":"2024-01-07"}"#,
+    ),
+    (
+        "POST /edits",
+        r#"{"kind":"PutReadings","by":"AB","ref":"a8","site":"01646500","readings":[["2024-01-06T18:00:00Z","1.00"],["2024-01-07T18:00:00Z","1.00"]]}"#,
+        LOCKED,
+        r#"{"code":"Locked","day":"2024-01-06"}"#,
     ),
     (FIFTH, "", OK, AWAITS_4_IN_REVIEW),
     (

@@ -26,12 +26,19 @@ const SHORT: Place = (8, 99_999_999);
 
 const LONG: Place = (9, 0);
 
+/// Sites of which no day is marked: one before these, and one behind them.
+const BEFORE: Place = (8, 0);
+
+const BEHIND: Place = (9, 1);
+
 static SITES: Row = &[
     (Act::Mark(LONG, [1, 2], 1), Told::Done),
     (Act::Mark(SHORT, [3, 4], 2), Told::Done),
     (Act::Look, Told::Job(SHORT, 3, 2)),
     (Act::LookBehind(SHORT, 4), Told::Job(LONG, 1, 1)),
     (Act::LookBehind(LONG, 2), Told::NoJob),
+    (Act::LookBehind(BEFORE, 40_000), Told::Job(SHORT, 3, 2)),
+    (Act::LookBehind(BEHIND, 0), Told::NoJob),
 ];
 
 #[test]

@@ -28,6 +28,22 @@ fn a_job_of_a_look_is_published_too(rt: HostRuntime) -> Result<(), Wrong> {
     play(rt.alloc(), &[LOOKS])
 }
 
+/// A station changes no day, and nor does a reading that is put again.
+static AGAIN: Row = &[
+    (Act::Accept(1, ADDITION), Told::Done),
+    (Act::Counts, Told::Counts(0, 0)),
+    (Act::Accept(2, FIRST), Told::Done),
+    (Act::Accept(3, NEXT), Told::Done),
+    (Act::Accept(4, FIRST), Told::Done),
+    (Act::Counts, Told::Counts(2, 2)),
+    (Act::Awaited(FIFTH), Told::Awaits(Some(3))),
+];
+
+#[test]
+fn an_edit_that_changes_no_day_is_awaited_by_none(rt: HostRuntime) -> Result<(), Wrong> {
+    play(rt.alloc(), &[AGAIN])
+}
+
 /// Jobs of the same day and edit, made of other inputs and of the same.
 static FOREIGN: &[Row] = &[
     &[

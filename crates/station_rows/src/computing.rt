@@ -1,7 +1,10 @@
 //! Days computed, by claims, looks, turns and settlements: two days are pending, which await the third edit.
 
 use crate::disks::play_row;
-use crate::sent::{ADDITION, BETWEEN, FIFTH, FIRST, MIDDLE, NEXT, SIXTH};
+use crate::sent::{
+    ADDITION, BETWEEN, FIFTH, FIRST, HIGHER, MIDDLE, NEXT, PERIOD, RATED_ADDITION, RATING, SIXTH,
+    THREE_READINGS,
+};
 use crate::tables::{Act, NEW, Row, Told, Wrong};
 use recompute::Publish;
 
@@ -38,6 +41,24 @@ fn a_look_takes_no_claim_and_minds_none(rt: HostRuntime) -> Result<(), Wrong> {
     play_row(rt.alloc(), &LOOKS)
 }
 
+/// A day that was looked at is published though its claim is out, and the claimed job of the same edit comes too late.
+static LOOK_PUBLISHED: Row = Row {
+    sessions: &[&[
+        (Act::Claim, Told::Day(FIFTH, 3)),
+        (Act::TakeLook, Told::Day(FIFTH, 3)),
+        (Act::Publish, PUBLISHED),
+        (Act::Publish, Told::Outcome(Publish::Settled)),
+        (Act::Answer(FIFTH), Told::Computed),
+        (Act::Counts, Told::Counts(4, 3, 1)),
+    ]],
+    ..TWO_DAYS
+};
+
+#[test]
+fn a_day_looked_at_is_published(rt: HostRuntime) -> Result<(), Wrong> {
+    play_row(rt.alloc(), &LOOK_PUBLISHED)
+}
+
 static CLAIMED: Row = Row {
     sessions: &[&[
         (Act::Claim, Told::Day(FIFTH, 3)),
@@ -45,6 +66,9 @@ static CLAIMED: Row = Row {
         (Act::Publish, PUBLISHED),
         (Act::Answer(FIFTH), Told::Computed),
         (Act::Look, Told::Day(SIXTH, 3)),
+        (Act::LookBehind(FIFTH), Told::Day(SIXTH, 3)),
+        (Act::LookBehind(19_000), Told::Day(SIXTH, 3)),
+        (Act::LookBehind(30_000), Told::NoDay),
         (Act::Counts, Told::Counts(4, 3, 1)),
     ]],
     ..TWO_DAYS
@@ -97,6 +121,50 @@ static BOTH_SUPERSEDED: Row = Row {
 #[test]
 fn a_later_edit_supersedes_both_jobs(rt: HostRuntime) -> Result<(), Wrong> {
     play_row(rt.alloc(), &BOTH_SUPERSEDED)
+}
+
+/// Two days of a rated station are pending, and a fifth edit changes both.
+static RATED: Row = Row {
+    records: &[RATED_ADDITION, RATING, PERIOD, THREE_READINGS],
+    sessions: &[&[
+        (Act::Claim, Told::Day(FIFTH, 4)),
+        (Act::Claim, Told::Day(SIXTH, 4)),
+        (Act::Claim, Told::NoDay),
+        (Act::Send(HIGHER), Told::Kept(5)),
+        (Act::Publish, Told::Outcome(Publish::Superseded(5))),
+        (Act::Publish, Told::Outcome(Publish::Superseded(5))),
+        (Act::Answer(FIFTH), Told::Pending(5)),
+        (Act::Counts, Told::Counts(5, 5, 2)),
+        (Act::Claim, Told::Day(FIFTH, 5)),
+    ]],
+    calls: 8,
+    left: &[RATED_ADDITION, RATING, PERIOD, THREE_READINGS, HIGHER],
+    ..NEW
+};
+
+#[test]
+fn jobs_of_a_rated_station_are_superseded(rt: HostRuntime) -> Result<(), Wrong> {
+    play_row(rt.alloc(), &RATED)
+}
+
+/// The claim of a later job stays out when the earlier one comes too late.
+static CLAIM_KEPT: Row = Row {
+    sessions: &[&[
+        (Act::Claim, Told::Day(FIFTH, 3)),
+        (Act::Send(BETWEEN), Told::Kept(4)),
+        (Act::Claim, Told::Day(FIFTH, 4)),
+        (Act::PublishFirst, SUPERSEDED),
+        (Act::Claim, Told::Day(SIXTH, 3)),
+        (Act::Claim, Told::NoDay),
+    ]],
+    calls: 8,
+    left: &[ADDITION, FIRST, NEXT, BETWEEN],
+    ..TWO_DAYS
+};
+
+#[test]
+fn a_superseded_job_ends_no_claim(rt: HostRuntime) -> Result<(), Wrong> {
+    play_row(rt.alloc(), &CLAIM_KEPT)
 }
 
 static TURNS: Row = Row {

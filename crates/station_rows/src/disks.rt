@@ -42,6 +42,7 @@ fn has(alloc: Global, disk: &MemoryDisk, records: &[&[u8]]) -> Result<(), Wrong>
 
 fn limits(row: &Row) -> Limits {
     let mut limits = Limits::usual();
+    limits.stations = row.stations;
     if let Some((events, cells, bytes)) = row.limits {
         limits.events = events;
         limits.cells = cells;
@@ -108,16 +109,17 @@ pub fn play_rows(alloc: Global, rows: &[Row]) -> Result<(), (usize, Wrong)> {
     Ok(())
 }
 
-/// Fails where another fault comes of an opening on the journal of these records, or the disk has another one then.
+/// Fails where another fault comes of an opening under some limits on the journal of these records, or the disk has another one then.
 pub fn stays_shut(
     alloc: Global,
     records: &[&[u8]],
     failing: &[u64],
+    limits: Limits,
     fault: OpenFault,
 ) -> Result<(), Wrong> {
     match disk(alloc, records, failing) {
         Ok(disk) => {
-            let (disk, went) = hold(alloc, disk, Limits::usual(), &[]);
+            let (disk, went) = hold(alloc, disk, limits, &[]);
             is_shut(went, fault)?;
             has(alloc, &disk, records)
         }

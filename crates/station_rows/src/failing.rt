@@ -2,7 +2,7 @@
 //! next four: the record is written and synced, and then its gate. A mend makes two calls.
 
 use crate::disks::{play_row, play_rows};
-use crate::sent::{ADDITION, ANOTHER, FIRST};
+use crate::sent::{ADDITION, ANOTHER, APPROVAL, FIRST, REVIEW};
 use crate::tables::{Act, Cause, NEW, Row, Session, Told, Wrong};
 use office_inputs::Full;
 
@@ -131,4 +131,25 @@ static FULL: Row = Row {
 #[test]
 fn a_fault_is_an_event_and_no_edit(rt: HostRuntime) -> Result<(), Wrong> {
     play_row(rt.alloc(), &FULL)
+}
+
+/// An approval that fails is an event and no edit, and is kept when it comes again.
+static APPROVING: Row = Row {
+    failing: &[13],
+    sessions: &[&[
+        (Act::Send(ADDITION), Told::Kept(1)),
+        (Act::Send(REVIEW), Told::Kept(2)),
+        (Act::Send(APPROVAL), FAULT),
+        (Act::Counts, Told::Counts(3, 2, 0)),
+        (Act::Send(APPROVAL), Told::Kept(3)),
+        (Act::Counts, Told::Counts(4, 3, 0)),
+    ]],
+    calls: 17,
+    left: &[ADDITION, REVIEW, APPROVAL],
+    ..NEW
+};
+
+#[test]
+fn an_approval_after_a_fault_is_kept(rt: HostRuntime) -> Result<(), Wrong> {
+    play_row(rt.alloc(), &APPROVING)
 }

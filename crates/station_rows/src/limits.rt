@@ -1,14 +1,14 @@
-//! Limits of events, of cells and of the bytes of a journal. An edit needs room for the publications that it brings, too. The journal
-//! has 17 bytes before the addition, 77 with it and 119 with a reading.
+//! Limits of events, of cells, of the bytes of a journal and of stations. An edit needs room for the publications that it brings, too. The
+//! journal has 17 bytes before the addition, 77 with it and 119 with a reading.
 
-use crate::disks::play_rows;
+use crate::disks::{play_row, play_rows};
 use crate::sent::{
-    ADDITION, ANOTHER, BULK, DROP, FIRST, LATE, PERIOD, RATED_ADDITION, RATING, READING,
-    THREE_READINGS,
+    ADDITION, ANOTHER, APPROVAL, BULK, DROP, FIRST, LATE, NEXT, PERIOD, RATED_ADDITION, RATING,
+    READING, REVIEW, SECOND_ADDITION, THIRD_ADDITION, THREE_READINGS,
 };
 use crate::tables::{Act, Cause, NEW, Row, Session, Told, Wrong};
-use office_inputs::Full;
 use office_inputs::limits::{USUAL_CELLS, USUAL_JOURNAL_BYTES};
+use office_inputs::{Full, Which};
 
 const NO_EVENT: Told = Told::Refused(Cause::HistoryFull(Full::Events));
 
@@ -209,16 +209,18 @@ fn a_bulk_keeps_to_the_limits(rt: HostRuntime) -> Result<(), (usize, Wrong)> {
     play_rows(rt.alloc(), &BULKS)
 }
 
+const LATE_PUT: &[Session] = &[&[
+    (Act::Send(ADDITION), Told::Kept(1)),
+    (Act::Send(FIRST), Told::Kept(2)),
+    (Act::Send(LATE), Told::Kept(3)),
+    (Act::Counts, Told::Counts(3, 3, 2)),
+]];
+
 /// Days between two that are changed are cells, too.
 static BETWEEN_DAYS: [Row; 2] = [
     Row {
         limits: Some((100, 3, 1_000)),
-        sessions: &[&[
-            (Act::Send(ADDITION), Told::Kept(1)),
-            (Act::Send(FIRST), Told::Kept(2)),
-            (Act::Send(LATE), Told::Kept(3)),
-            (Act::Counts, Told::Counts(3, 3, 2)),
-        ]],
+        sessions: LATE_PUT,
         calls: 16,
         left: &[ADDITION, FIRST, LATE],
         ..NEW
@@ -286,4 +288,112 @@ static FOURTH_EDITS: [Row; 3] = [
 #[test]
 fn a_fourth_edit_keeps_to_the_events(rt: HostRuntime) -> Result<(), (usize, Wrong)> {
     play_rows(rt.alloc(), &FOURTH_EDITS)
+}
+
+/// A second reading where the day of the first is pending, without an event for it.
+const NEXT_NO_EVENT: Row = Row {
+    sessions: &[&[
+        (Act::Send(ADDITION), Told::Kept(1)),
+        (Act::Send(FIRST), Told::Kept(2)),
+        (Act::Send(NEXT), NO_EVENT),
+    ]],
+    calls: 12,
+    left: &[ADDITION, FIRST],
+    ..NEW
+};
+
+/// A day that is pending already, and is changed again, needs one publication; one that is not changed needs its own all the same. So
+/// both edits need 3 + 2 events.
+static PENDING_DAYS: [Row; 4] = [
+    Row {
+        limits: Some((5, 2, 161)),
+        sessions: &[&[
+            (Act::Send(ADDITION), Told::Kept(1)),
+            (Act::Send(FIRST), Told::Kept(2)),
+            (Act::Send(NEXT), Told::Kept(3)),
+            (Act::Counts, Told::Counts(3, 3, 2)),
+        ]],
+        calls: 16,
+        left: &[ADDITION, FIRST, NEXT],
+        ..NEW
+    },
+    Row {
+        limits: Some((4, 2, 161)),
+        ..NEXT_NO_EVENT
+    },
+    Row {
+        limits: Some((5, 3, 161)),
+        sessions: LATE_PUT,
+        calls: 16,
+        left: &[ADDITION, FIRST, LATE],
+        ..NEW
+    },
+    Row {
+        limits: Some((4, 3, 161)),
+        sessions: &[&[
+            (Act::Send(ADDITION), Told::Kept(1)),
+            (Act::Send(FIRST), Told::Kept(2)),
+            (Act::Send(LATE), NO_EVENT),
+        ]],
+        ..NEXT_NO_EVENT
+    },
+];
+
+#[test]
+fn pending_days_are_counted_once(rt: HostRuntime) -> Result<(), (usize, Wrong)> {
+    play_rows(rt.alloc(), &PENDING_DAYS)
+}
+
+/// The sheet that an approval keeps counts among the bytes of the journal, which are 194 then.
+static SHEETS: [Row; 2] = [
+    Row {
+        limits: Some((3, 0, 194)),
+        sessions: &[&[
+            (Act::Send(ADDITION), Told::Kept(1)),
+            (Act::Send(REVIEW), Told::Kept(2)),
+            (Act::Send(APPROVAL), Told::Kept(3)),
+        ]],
+        calls: 16,
+        left: &[ADDITION, REVIEW, APPROVAL],
+        ..NEW
+    },
+    Row {
+        limits: Some((3, 0, 193)),
+        sessions: &[&[
+            (Act::Send(ADDITION), Told::Kept(1)),
+            (Act::Send(REVIEW), Told::Kept(2)),
+            (Act::Send(APPROVAL), NO_BYTE),
+        ]],
+        calls: 12,
+        left: &[ADDITION, REVIEW],
+        ..NEW
+    },
+];
+
+#[test]
+fn sheets_count_as_bytes(rt: HostRuntime) -> Result<(), (usize, Wrong)> {
+    play_rows(rt.alloc(), &SHEETS)
+}
+
+/// The third station where two are kept at most.
+static THIRD_STATION: Row = Row {
+    stations: 2,
+    sessions: &[&[
+        (Act::Send(ADDITION), Told::Kept(1)),
+        (Act::Send(SECOND_ADDITION), Told::Kept(2)),
+        (
+            Act::Send(THIRD_ADDITION),
+            Told::Refused(Cause::Limit(Which::Stations)),
+        ),
+        (Act::Send(ADDITION), Told::Repeated(1)),
+        (Act::Counts, Told::Counts(2, 2, 0)),
+    ]],
+    calls: 12,
+    left: &[ADDITION, SECOND_ADDITION],
+    ..NEW
+};
+
+#[test]
+fn stations_keep_to_their_number(rt: HostRuntime) -> Result<(), Wrong> {
+    play_row(rt.alloc(), &THIRD_STATION)
 }

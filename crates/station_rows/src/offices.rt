@@ -47,8 +47,10 @@ fn act_with(
     match act {
         Act::Send(record) => send(alloc, office, record),
         Act::Claim => claim(office, jobs),
-        Act::Publish => publish(office, jobs),
+        Act::Publish => publish(office, jobs.pop()),
+        Act::PublishFirst => publish(office, first(jobs)),
         Act::Look => look(office, None),
+        Act::TakeLook => take_look(office, jobs),
         Act::LookBehind(number) => look_behind(office, number),
         Act::Turn => turn(office),
         Act::Settle => settle(office),
@@ -63,7 +65,12 @@ fn send(alloc: Global, office: &mut DiskOffice, record: &[u8]) -> Result<Told, W
 }
 
 fn claim(office: &mut DiskOffice, jobs: &mut Vec<Job>) -> Result<Told, Wrong> {
-    match office.claim() {
+    take_found(jobs, office.claim())
+}
+
+/// Has the job at hand that was found, if one was.
+fn take_found(jobs: &mut Vec<Job>, found: Result<Option<Job>, NoMemory>) -> Result<Told, Wrong> {
+    match found {
         Ok(Some(job)) => take(jobs, job),
         Ok(None) => Ok(Told::NoDay),
         Err(NoMemory) => Err(Wrong::NoMemory),
@@ -79,8 +86,17 @@ fn take(jobs: &mut Vec<Job>, job: Job) -> Result<Told, Wrong> {
     }
 }
 
-fn publish(office: &mut DiskOffice, jobs: &mut Vec<Job>) -> Result<Told, Wrong> {
-    match jobs.pop() {
+/// The job that came to hand first, which is no longer there.
+fn first(jobs: &mut Vec<Job>) -> Option<Job> {
+    if jobs.is_empty() {
+        None
+    } else {
+        Some(jobs.remove(0))
+    }
+}
+
+fn publish(office: &mut DiskOffice, job: Option<Job>) -> Result<Told, Wrong> {
+    match job {
         Some(job) => Ok(Told::Outcome(office.publish(computed(job)))),
         None => Err(Wrong::Job),
     }
@@ -92,6 +108,10 @@ fn look(office: &DiskOffice, last: Option<(Site, Day)>) -> Result<Told, Wrong> {
         Ok(None) => Ok(Told::NoDay),
         Err(NoMemory) => Err(Wrong::NoMemory),
     }
+}
+
+fn take_look(office: &DiskOffice, jobs: &mut Vec<Job>) -> Result<Told, Wrong> {
+    take_found(jobs, office.after(None))
 }
 
 fn look_behind(office: &DiskOffice, number: i32) -> Result<Told, Wrong> {

@@ -13,6 +13,13 @@ pub const ADDITION: &[u8] =
 pub const ANOTHER: &[u8] =
     b"\x37\0\0\0\x01\x02AB\x02a2\x08\xa4\x1f\x19\0\0\0\0\0\x07POTOMAC\x06-05:00\xd0\x02\0\099999999929999999992";
 
+/// Under `b1` and `c1` the stations 01646501 and 01646502 are added, all else the same.
+pub const SECOND_ADDITION: &[u8] =
+    b"\x37\0\0\0\x01\x02AB\x02b1\x08\xa5\x1f\x19\0\0\0\0\0\x07POTOMAC\x06-05:00\xd0\x02\0\099999999929999999992";
+
+pub const THIRD_ADDITION: &[u8] =
+    b"\x37\0\0\0\x01\x02AB\x02c1\x08\xa6\x1f\x19\0\0\0\0\0\x07POTOMAC\x06-05:00\xd0\x02\0\099999999929999999992";
+
 /// The station is set, under the reference of its addition.
 pub const SETTING: &[u8] =
     b"\x30\0\0\0\x02\x02AB\x02a1\x08\xa4\x1f\x19\0\0\0\0\0\x07POTOMAC\xd0\x02\0\099999999929999999992";
@@ -72,6 +79,17 @@ pub const PERIOD: &[u8] =
 
 pub const THREE_READINGS: &[u8] =
     b"\x47\0\0\0\x03\x02AB\x02a4\x08\xa4\x1f\x19\0\0\0\0\0\x03\0\0\0\xd0\x8c\x97\x65\0\0\0\0\x40\x42\x0f\0\0\0\0\0\0\x90\x35\x98\x65\0\0\0\0\x80\x84\x1e\0\0\0\0\0\0\x50\xde\x98\x65\0\0\0\0\x40\x42\x0f\0\0\0\0\0\0";
+
+/// Under `a5` one of a foot and a half in the middle of 2024-01-05: it changes both days.
+pub const HIGHER: &[u8] =
+    b"\x25\0\0\0\x03\x02AB\x02a5\x08\xa4\x1f\x19\0\0\0\0\0\x01\0\0\0\x90\x35\x98\x65\0\0\0\0\x60\xe3\x16\0\0\0\0\0\0";
+
+/// Under `a2` 2024-01-05 is put in review by `RV`, and under `a3` it is approved by `AP`, with the sheet of an empty day.
+pub const REVIEW: &[u8] =
+    b"\x18\0\0\0\x11\x02RV\x02a2\x08\xa4\x1f\x19\0\0\0\0\0\x0f\x4d\0\0\x0f\x4d\0\0";
+
+pub const APPROVAL: &[u8] =
+    b"\x53\0\0\0\x12\x02AP\x02a3\x08\xa4\x1f\x19\0\0\0\0\0\x0f\x4d\0\0\x0f\x4d\0\0\0\x36\0\0\0PRIMARY COMPUTATION 01646500 2024-01-05\nSTATE A\nEMPTY\n";
 
 /// The number of 2024-01-05 and of the next day.
 pub const FIFTH: i32 = 19_727;

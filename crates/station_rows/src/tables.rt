@@ -2,7 +2,8 @@
 
 use crate::readmitting::Readmitted;
 use journal::OpenFault;
-use office_inputs::{Full, Refusal};
+use office_inputs::limits::USUAL_STATIONS;
+use office_inputs::{Full, Refusal, Which};
 use recompute::Publish;
 
 /// What is done to an office. A day is one of the station 01646500, told by its number.
@@ -14,8 +15,12 @@ pub enum Act {
     Claim,
     /// The job that came to hand last is computed and published.
     Publish,
+    /// The same of the job that came to hand first.
+    PublishFirst,
     /// The first pending day is looked at.
     Look,
+    /// It is looked at, and its job is at hand.
+    TakeLook,
     /// The first pending day behind a day is looked at.
     LookBehind(i32),
     /// The first pending day whose claim is not out is computed and published.
@@ -35,6 +40,7 @@ pub enum Cause {
     RefReused(u64),
     NoStation,
     StationExists,
+    Limit(Which),
     HistoryFull(Full),
     JournalFull,
     JournalFault(bool),
@@ -49,6 +55,7 @@ impl Cause {
             Refusal::RefReused(edit) => Cause::RefReused(edit),
             Refusal::NoStation => Cause::NoStation,
             Refusal::StationExists => Cause::StationExists,
+            Refusal::Limit(which) => Cause::Limit(which),
             Refusal::HistoryFull(full) => Cause::HistoryFull(full),
             Refusal::JournalFull => Cause::JournalFull,
             Refusal::JournalFault(in_doubt) => Cause::JournalFault(in_doubt),
@@ -94,6 +101,8 @@ pub struct Row {
     pub failing: &'static [u64],
     /// The greatest numbers of events, of cells and of bytes of the journal; none are the usual ones.
     pub limits: Option<(u64, u64, u64)>,
+    /// How many stations are kept at most.
+    pub stations: u32,
     /// For each an office is opened on the disk, and closed.
     pub sessions: &'static [Session],
     /// How many calls the disk has had then.
@@ -107,6 +116,7 @@ pub const NEW: Row = Row {
     records: &[],
     failing: &[],
     limits: None,
+    stations: USUAL_STATIONS,
     sessions: &[],
     calls: 0,
     left: &[],

@@ -27,6 +27,12 @@ const SOUTHERN: &str = "NZST-12NZDT,M9.5.0,M4.1.0/3";
 // from 1 March in every year to day 300 counted from 0, which a leap year has a day earlier
 const NUMBERED: &str = "AAA5BBB,J60,300";
 
+// the farthest from UTC: 24:59:59 ahead of it, and an hour more from 1 March to 27 October
+const FARTHEST: &str = "EEE-24:59:59FFF,J60,J300";
+
+// changes of a second less than two hours, at two o'clock
+const NEARLY_TWO: &str = "EEE-23FFF-24:59:59,J60,J300";
+
 fn zone(rt: &impl Abort, alloc: Global, text: &str) -> StationZone {
     StationZone::read(alloc, text).expect(rt, "a zone")
 }
@@ -84,7 +90,7 @@ fn intervals(rt: HostRuntime) {
 }
 
 // as the C library gives them, which takes these rules by its variable TZ
-const INTERVALS_OF_RULES: [(&str, &str, &str, i64); 27] = [
+const INTERVALS_OF_RULES: [(&str, &str, &str, i64); 32] = [
     (MIDNIGHT, "2024-03-10", "2024-03-10T00:00:00Z", 82_800),
     (MIDNIGHT, "2024-03-11", "2024-03-10T23:00:00Z", 86_400),
     (MIDNIGHT, "2024-11-02", "2024-11-01T23:00:00Z", 86_400),
@@ -112,6 +118,11 @@ const INTERVALS_OF_RULES: [(&str, &str, &str, i64); 27] = [
     (NUMBERED, "2024-10-26", "2024-10-26T04:00:00Z", 86_400),
     (NUMBERED, "2024-10-27", "2024-10-27T04:00:00Z", 90_000),
     (NUMBERED, "2024-10-28", "2024-10-28T05:00:00Z", 86_400),
+    (FARTHEST, "2024-03-01", "2024-02-28T23:00:01Z", 82_800),
+    (FARTHEST, "2024-07-01", "2024-06-29T22:00:01Z", 86_400),
+    (FARTHEST, "2024-10-27", "2024-10-25T22:00:01Z", 90_000),
+    (NEARLY_TWO, "2024-03-01", "2024-02-29T01:00:00Z", 79_201),
+    (NEARLY_TWO, "2024-10-27", "2024-10-25T23:00:01Z", 93_599),
 ];
 
 #[test]

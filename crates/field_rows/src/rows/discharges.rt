@@ -276,3 +276,21 @@ fn counts_worked_by_hand(rt: HostRuntime) {
     };
     expect_counts(&rt, alloc, DAY + 1, &affected, 0, want);
 }
+
+// No erroneous reading is left out: that a window has none is told where it is made.
+#[test]
+fn a_window_is_computed_as_it_is_given(rt: HostRuntime) {
+    let given = [
+        (0, 1_000_000, Flag::Usable),
+        (NOON, 2_000_000, Flag::Erroneous),
+        (DAY, 1_000_000, Flag::Usable),
+    ];
+    let figures = figures_of(&rt, rt.alloc(), &WHOLE_DAY, &given);
+    let (stage, discharge) = ((86_400, Some(150)), (86_400, Some(20)));
+    expect_means(&rt, "given", &figures, stage, discharge);
+    let want = Counts {
+        readings: 2,
+        ..NONE
+    };
+    same(&rt, "counts", &figures.counts(), &want);
+}

@@ -40,11 +40,17 @@ const USED: Flag = Flag::Usable;
 
 const WRONG: Flag = Flag::Erroneous;
 
-/// When the readings were read that the window of the first day holds.
-fn window(rt: &impl Abort, alloc: Global, list: &[(i64, Flag)]) -> Vec<Second> {
+/// When the readings were read that the window of the time between two instants holds.
+fn window(
+    rt: &impl Abort,
+    alloc: Global,
+    list: &[(i64, Flag)],
+    ends: (i64, i64),
+    gap: u32,
+) -> Vec<Second> {
     let readings = readings(rt, alloc, list);
     let window = readings
-        .to_list(alloc, second(rt, 0), second(rt, DAY), 60)
+        .to_list(alloc, second(rt, ends.0), second(rt, ends.1), gap)
         .expect(rt, "memory for a window");
     let mut instants = Vec::new(alloc);
     for reading in window.iter() {
@@ -56,7 +62,18 @@ fn window(rt: &impl Abort, alloc: Global, list: &[(i64, Flag)]) -> Vec<Second> {
 }
 
 fn expect_window(rt: &impl Abort, alloc: Global, list: &[(i64, Flag)], want: &[i64]) {
-    let instants = window(rt, alloc, list);
+    expect_between(rt, alloc, list, (0, DAY), 60, want);
+}
+
+fn expect_between(
+    rt: &impl Abort,
+    alloc: Global,
+    list: &[(i64, Flag)],
+    ends: (i64, i64),
+    gap: u32,
+    want: &[i64],
+) {
+    let instants = window(rt, alloc, list, ends, gap);
     same(rt, "length", &instants.len(), &want.len());
     for (instant, at) in instants.iter().zip(want) {
         same(rt, *at, &instant.get(), at);
@@ -94,6 +111,15 @@ fn windows(rt: HostRuntime) {
         (DAY + 9, USED),
     ];
     expect_window(&rt, alloc, &list, &[-9, 20, DAY + 9]);
+}
+
+#[test]
+fn windows_ask_no_order_of_their_ends(rt: HostRuntime) {
+    let alloc = rt.alloc();
+    let list = [(-90_000, USED), (10, USED), (DAY + 90_000, USED)];
+    let all = [-90_000, 10, DAY + 90_000];
+    expect_between(&rt, alloc, &list, (0, DAY), u32::MAX, &all);
+    expect_between(&rt, alloc, &list, (DAY, 0), u32::MAX, &[]);
 }
 
 const ALTERED: [(i64, i64, bool); 10] = [
@@ -220,6 +246,15 @@ fn spans(rt: HostRuntime) {
     let ends = (after_start(&rt, 3), after_start(&rt, 6));
     same(&rt, "used ends", &readings.used_ends(), &Some(ends));
     same(&rt, "not used", &readings.has_used(first, two), &false);
+    same(&rt, "again", &readings.flag_span(first, two, WRONG), &2);
+    same(&rt, "erroneous", &readings.count(first, two), &2);
+    same(&rt, "no flag", &readings.flag_span(four, two, WRONG), &0);
+    same(&rt, "no drop", &readings.drop_span(four, two), &0);
+    let used = readings
+        .to_list(rt.alloc(), first, second(&rt, START + DAY), 60)
+        .expect(&rt, "memory for a window");
+    same(&rt, "still used", &used.len(), &4);
+    expect_day(&rt, rt.alloc(), &readings, &[1, 2, 3, 4, 5, 6]);
 }
 
 #[test]

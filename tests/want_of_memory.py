@@ -10,7 +10,8 @@ the same batch is sent once more over the journal that was left, with all the me
 repeated, and the day must be computed. With `--year` the three readings are a logger's year in one body, settled, with a day and the
 table of its days (some minutes).
 
-`init` is run so too: it makes a journal, or ends by a status and leaves nothing that keeps a second `init` from making one. And
+`init` is run so too: it makes a journal, or ends by a status and leaves nothing that keeps a second `init` from making one. So is
+`stations`: its lines come, one of which may tell of no memory, or a status and no line; run again, it adds what is missing. And
 `trial --number 1`, for each of its first 300 allocations and then one in `--step`: its whole text comes, or a status and no text.
 
 It needs a C compiler (`cc`) for the few lines that stand before the system's allocator, and says so where there is none.
@@ -198,10 +199,10 @@ def refused_run(program, shim, folder, requests, due, number):
     return came
 
 
-def count_allocations(words, shim, folder):
+def count_allocations(words, shim, folder, given=None):
     """How many allocations a command makes, and what it writes."""
     count = os.path.join(folder, "count-of-one")
-    ran = subprocess.run(words, capture_output=True, env={**os.environ, "LD_PRELOAD": shim, "ALLOCATIONS": count})
+    ran = subprocess.run(words, input=given, capture_output=True, env={**os.environ, "LD_PRELOAD": shim, "ALLOCATIONS": count})
     if ran.returncode != 0:
         raise SystemExit("%s: status %d, %r" % (words[1:], ran.returncode, ran.stderr))
     made = int(pathlib.Path(count).read_text())
@@ -211,9 +212,9 @@ def count_allocations(words, shim, folder):
     return made, ran.stdout
 
 
-def refused(words, shim, number):
+def refused(words, shim, number, given=None):
     environment = {**os.environ, "LD_PRELOAD": shim, "REFUSED_ALLOCATION": str(number)}
-    return subprocess.run(words, capture_output=True, env=environment)
+    return subprocess.run(words, input=given, capture_output=True, env=environment)
 
 
 def refused_init(program, shim, folder, number):
@@ -227,6 +228,26 @@ def refused_init(program, shim, folder, number):
     if subprocess.run([program, "batch", "--journal", journal], input=b"", capture_output=True).returncode != 0:
         raise SystemExit("init, allocation %d: no journal was made" % number)
     os.unlink(journal)
+    return ran.returncode
+
+
+def station_lines(sites, kept):
+    numbers = {site: "edit %d" % number for number, site in enumerate(kept, 1)}
+    return "".join("%s %s\n" % (numbers.get(site, "refused NoMemory"), site) for site in sites)
+
+
+def refused_stations(program, shim, folder, document, number):
+    """Adds the stations of a document with one allocation refused, and then with all the memory there is; the status of the first."""
+    words = [program, "stations", "--journal", os.path.join(folder, "stations-%d" % number)]
+    subprocess.run([program, "init", *words[2:]], check=True)
+    ran = refused(words, shim, number, document)
+    again = refused(words, shim, 0, document)
+    sites, told = re.findall(r'site = "(\d+)"', document.decode()), ran.stdout.decode()
+    kept = re.findall(r"edit \d+ (\d+)\n", told)
+    due = station_lines(sites, kept) if ran.returncode == 0 else ""
+    whole = station_lines(sites, kept + [site for site in sites if site not in kept])
+    if ran.returncode not in (0, 1, 6) or told != due or told.count("NoMemory") > 1 or again.stdout.decode() != whole:
+        raise SystemExit("stations, allocation %d: status %d, %r, and then %r" % (number, ran.returncode, told, again.stdout))
     return ran.returncode
 
 
@@ -280,6 +301,9 @@ def main():
                 table[came] = table.get(came, 0) + 1
             made, _ = count_allocations([program, "init", "--journal", os.path.join(folder, "made")], shim, folder)
             tell("init", pool.map(lambda n: refused_init(program, shim, folder, n), range(1, made + 1)))
+            document = (pathlib.Path(__file__).resolve().parent.parent / "examples/stations.toml").read_bytes()
+            made, _ = count_allocations([program, "stations", "--journal", os.path.join(folder, "made")], shim, folder, document)
+            tell("stations", pool.map(lambda n: refused_stations(program, shim, folder, document, n), range(1, made + 1)))
             made, text = count_allocations([program, "trial", "--number", "1"], shim, folder)
             turns = [*range(1, min(made, 300) + 1), *range(301, made + 1, given.step)]
             tell("trial", pool.map(lambda n: refused_trial(program, shim, text, n), turns))

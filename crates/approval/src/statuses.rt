@@ -88,6 +88,7 @@ impl Statuses {
     }
 
     /// The first of these days of a site that is approved. It takes no memory.
+    #[inline(always)]
     pub fn locked(&self, site: Site, days: &[Day]) -> Option<Day>
         ensures { result ≡ first_approved (λ day. (standing_in self.now site day).status) days.now }
     {

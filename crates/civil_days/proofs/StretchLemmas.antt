@@ -4,6 +4,7 @@ use Rattle.std.proofs.lemmas.Int.{by_lt_z, to_z-of_z}
 use Rattle.jiff_core.proofs.SignedLemmas.{signed_arith}
 use Rattle.jiff_core.specs.Timestamp.{IsOffsetSeconds}
 use Rattle.jiff_tz.specs.PosixText.{TzText}
+use Rattle.fixed_units.specs.Calendar.{longest_day, shortest_day}
 use Rattle.fixed_units.specs.Quantities.{first_day, IsDay}
 use Rattle.civil_days.proofs.RunLemmas.{Covers-more}
 use Rattle.civil_days.specs.Runs.{Covers, offset_at}
@@ -34,11 +35,11 @@ pub next_low : (rule : TzText) (s : Stretch) (first : ℤ) → IsStretch rule s 
 next_low rule s first is low e = let some = is.some in omega (arith, signed_arith)
 
 length_by : (day a b start end : ℤ) → start ≡ day *ℤ pos 86_400 -ℤ a → end ≡ (day +ℤ pos 1) *ℤ pos 86_400 -ℤ b
-    → pos 72_000 ≤ℤ (pos 86_400 +ℤ a -ℤ b) → (pos 86_400 +ℤ a -ℤ b) ≤ℤ pos 100_800 → IsDayLength start end
+    → pos shortest_day ≤ℤ (pos 86_400 +ℤ a -ℤ b) → (pos 86_400 +ℤ a -ℤ b) ≤ℤ pos longest_day → IsDayLength start end
 length_by day a b start end e f low high = record { shortest = omega (arith, signed_arith); longest = omega (arith, signed_arith) }
 
 length_of : (day a b start end : ℤ) → start ≡ day *ℤ pos 86_400 -ℤ a → end ≡ (day +ℤ pos 1) *ℤ pos 86_400 -ℤ b → IsDayLength start end
-    → (pos 72_000 ≤ℤ (pos 86_400 +ℤ a -ℤ b)) × ((pos 86_400 +ℤ a -ℤ b) ≤ℤ pos 100_800)
+    → (pos shortest_day ≤ℤ (pos 86_400 +ℤ a -ℤ b)) × ((pos 86_400 +ℤ a -ℤ b) ≤ℤ pos longest_day)
 length_of day a b start end e f well =
     let low = well.shortest in
     let high = well.longest in
@@ -67,7 +68,7 @@ abbrev pub IsPast : TzText → ℤ → Type 0
 IsPast rule day = (d : ℤ) → first_day ≤ℤ d → d <ℤ day → LastsWell rule d
 
 pub past_next : (rule : TzText) (s n : Stretch) → IsStretch rule s → IsStretch rule n → n.first ≡ s.next → IsPast rule s.first
-    → pos 72_000 ≤ℤ (pos 86_400 +ℤ s.offset -ℤ n.offset) → (pos 86_400 +ℤ s.offset -ℤ n.offset) ≤ℤ pos 100_800 → IsPast rule n.first
+    → pos shortest_day ≤ℤ (pos 86_400 +ℤ s.offset -ℤ n.offset) → (pos 86_400 +ℤ s.offset -ℤ n.offset) ≤ℤ pos longest_day → IsPast rule n.first
 past_next rule s n is next e past low high d least below = by_lt_z d s.first
     (λ before. past d least before)
     (λ from. by_lt_z (d +ℤ pos 1) s.next
@@ -85,7 +86,7 @@ all_last rule s is past end d day =
 -- how long the last day of a stretch lasts
 pub last_lasts : (rule : TzText) (s n : Stretch) → IsStretch rule s → IsStretch rule n → n.first ≡ s.next → first_day ≤ℤ s.first → s.next ≤ℤ calendar_end
     → ((d : ℤ) → IsDay d → LastsWell rule d)
-    → (pos 72_000 ≤ℤ (pos 86_400 +ℤ s.offset -ℤ n.offset)) × ((pos 86_400 +ℤ s.offset -ℤ n.offset) ≤ℤ pos 100_800)
+    → (pos shortest_day ≤ℤ (pos 86_400 +ℤ s.offset -ℤ n.offset)) × ((pos 86_400 +ℤ s.offset -ℤ n.offset) ≤ℤ pos longest_day)
 last_lasts rule s n is next e low high all =
     let some = is.some in
     let day : ℤ = s.next -ℤ pos 1 in

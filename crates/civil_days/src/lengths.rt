@@ -6,7 +6,7 @@ ghost use Rattle.fixed_units.specs.Quantities.{IsDay};
 ghost use Rattle.civil_days.specs.Starts.{LastsWell};
 
 use crate::stretches::{CALENDAR_END, stretch_from};
-use fixed_units::FIRST_DAY;
+use fixed_units::{FIRST_DAY, LONGEST_DAY, SHORTEST_DAY};
 use jiff_tz::posix::TimeZone;
 
 // Whether each day of the calendar lasts 20 to 28 hours: all but the last one of a stretch last 24.
@@ -17,7 +17,7 @@ pub(crate) fn lasts_well(rule: &TimeZone) -> bool
     while stretch.next <= CALENDAR_END {
         let next = stretch_from(rule, stretch.next);
         let length = 86_400 + stretch.offset - next.offset;
-        if length < 72_000 || length > 100_800 {
+        if length < SHORTEST_DAY || length > LONGEST_DAY {
             return false;
         }
         stretch = next;

@@ -30,7 +30,7 @@ pub enum WordsFault {
     #[error("the words are no command")]
     Usage,
     /// The words ask something, and there was no memory for `clap` to read it too.
-    #[error("no memory to read the words")]
+    #[error("there is no memory to read the words")]
     NoMemory,
 }
 

@@ -15,7 +15,7 @@ use Rattle.commands.specs.declared.runs.RunEnd.{RunEnd}
 use Rattle.commands.specs.declared.runs.Work.{Work}
 use Rattle.commands.specs.declared.runs.RunEnd.TheVariants as ends
 use Rattle.desk.proofs.FaultLemmas.{count_reopened}
-use Rattle.desk.specs.Passing.{Passes, RoseBy, fault_count}
+use Rattle.desk.specs.Passing.{Passes, RoseBy}
 use Rattle.history.specs.After.{go_on, reopen}
 use Rattle.history.specs.Events.{Event, History}
 use Rattle.history.specs.Legal.{IsLegal}
@@ -24,6 +24,7 @@ use Rattle.journal.specs.JournalBytes.{HasHeader, IsJournalOf}
 use Rattle.journal.specs.Moments.{LeavesOnly, SyncsFirst, IsContent}
 use Rattle.journal.specs.declared.opening.OpenFault.{OpenFault}
 use Rattle.journal.specs.declared.opening.OpenFault.TheVariants as opening
+use Rattle.office.specs.Counting.{fault_count}
 use Rattle.office.specs.Openings.{IsDamagedFor, IsNotOpened}
 use Rattle.office.specs.Stops.{IsLeft, IsLeftBetween}
 use Rattle.records.specs.Sheets.{Record}

@@ -6,7 +6,7 @@ use Rattle.commands.specs.declared.runs.RunEnd.TheVariants.{Made, Served, Loaded
 use Rattle.commands.specs.declared.runs.Work.{Work}
 use Rattle.commands.specs.declared.runs.Work.TheVariants.{Session, Loading}
 use Rattle.station_loading.specs.Loading.{IsLoaded}
-use Rattle.desk.specs.Passing.{RoseBy, fault_count}
+use Rattle.desk.specs.Passing.{RoseBy}
 use Rattle.desk.specs.Sessions.{IsServed}
 use Rattle.devices.specs.Cabinets.{Place, OthersStay}
 use Rattle.devices.specs.Faults.{Rose}
@@ -16,6 +16,7 @@ use Rattle.history.specs.Events.{History}
 use Rattle.history.specs.Legal.{IsLegal}
 use Rattle.journal.specs.JournalBytes.{HasHeader, IsJournalOf}
 use Rattle.journal.specs.Moments.{SyncsFirst}
+use Rattle.office.specs.Counting.{fault_count}
 use Rattle.office.specs.Openings.{IsDamagedFor}
 use Rattle.office.specs.Stops.{IsLeft, IsLeftBetween}
 use Rattle.records.specs.Sheets.{Record}

@@ -9,6 +9,7 @@ use Rattle.std.proofs.lemmas.Int.{ints, clamps, fits_signed_mul}
 use Rattle.std.proofs.lemmas.List.{length-map, get_or-map}
 use Rattle.std.proofs.lemmas.List.Sums.{sum_by-cons}
 use borrow.Author.Differences.{up, down}
+use Rattle.fixed_units.specs.Calendar.{longest_day}
 use Rattle.fixed_units.specs.Lines.{line_at}
 use Rattle.fixed_units.specs.Quantities.{IsWithin, IsMicro, most_millionths}
 use Rattle.fixed_units.specs.declared.readings.Reading.{Reading}
@@ -161,7 +162,7 @@ points-le day are (p ∷ ps) h =
 pub covered-le : (point : Unit → Point) → ((u : Unit) → (point u).0 ≡ u.at) → (day : DayParts) → AreParts day → (sum_of point day).covered ≤ day_length day
 covered-le point e day are = points-le day are (map point (units_of day)) (points-rise point e (units_of day) (units-rise day day.window are.rising))
 
-pub day_length-le : (day : DayParts) → AreParts day → day_length day ≤ 100_800
+pub day_length-le : (day : DayParts) → AreParts day → day_length day ≤ longest_day
 day_length-le day are =
     let long = positive_part-is (day.until -ℤ day.from) (omega (arith, ints, are.shortest)) in
     omega (arith, ints, long, are.longest)

@@ -6,6 +6,7 @@ use Rattle.std.proofs.lemmas.Int.{ints, clamps}
 use Rattle.std.proofs.lemmas.List.{drop_all}
 use Rattle.std.proofs.lemmas.List.Sums.{sum_by-cons}
 use Rattle.fixed_units.specs.declared.readings.Reading.{Reading}
+use Rattle.fixed_units.specs.Calendar.{longest_day}
 use Rattle.unit_discharge.specs.declared.unit_values.Unit.{Unit}
 use Rattle.unit_discharge.specs.declared.unit_values.Missing.{Missing}
 use Rattle.unit_discharge.specs.declared.unit_values.Missing.TheVariants as missing
@@ -173,16 +174,16 @@ counts-whole day are rs i counts l h =
     let whole = counts-done day counts (subst (λ (left : List Reading). AreCountsOfRest day (map (unit_of day) left) (units_of day) counts) none h) in
     subst (AreCounts (day_length day)) (sym whole) (counts-within day are)
 
-counted-most : (day : DayParts) → AreParts day → count_by (is_of_day day) (units_of day) ≤ 100_800
+counted-most : (day : DayParts) → AreParts day → count_by (is_of_day day) (units_of day) ≤ longest_day
 counted-most day are = let most = counted-le day are in let long = day_length-le day are in omega (arith, most, long)
 
 -- so the counts are no more than that
 pub record AreFew (counts : Counts) : Type 0 where
-  pub readings : counts.readings ≤ 100_800
-  pub affected : counts.affected ≤ 100_800
-  pub no_rating : counts.no_rating ≤ 100_800
-  pub below : counts.below ≤ 100_800
-  pub above : counts.above ≤ 100_800
+  pub readings : counts.readings ≤ longest_day
+  pub affected : counts.affected ≤ longest_day
+  pub no_rating : counts.no_rating ≤ longest_day
+  pub below : counts.below ≤ longest_day
+  pub above : counts.above ≤ longest_day
 
 pub counts-few : (day : DayParts) → AreParts day → (rest : List Unit) (counts : Counts) → AreCountsOfRest day rest (units_of day) counts → AreFew counts
 counts-few day are rest counts h =
@@ -195,7 +196,7 @@ counts-few day are rest counts h =
       above = few missing.Above counts.above h.above;
     }
   where
-    few : (reason : Missing) (n : ℕ) → n + count_by (is_missing day reason) rest ≡ count_by (is_missing day reason) (units_of day) → n ≤ 100_800
+    few : (reason : Missing) (n : ℕ) → n + count_by (is_missing day reason) rest ≡ count_by (is_missing day reason) (units_of day) → n ≤ longest_day
     few reason n h =
         let most = counted-most day are in
         let less = count-le (is_of_day day) (λ (u : Unit). has_reason reason u.discharge) (units_of day) in

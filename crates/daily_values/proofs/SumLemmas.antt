@@ -5,6 +5,7 @@ use Rattle.std.proofs.lemmas.Int.{ints}
 use Rattle.std.proofs.lemmas.List.{drop_all}
 use Rattle.std.proofs.lemmas.List.Elements.{All-head, All-tail, All-cons, All-nil}
 use Rattle.std.proofs.lemmas.List.Sums.{sum_by-cons}
+use Rattle.fixed_units.specs.Calendar.{longest_day}
 use Rattle.fixed_units.specs.Quantities.{IsStage}
 use Rattle.fixed_units.specs.declared.readings.Reading.{Reading}
 use Rattle.unit_discharge.specs.declared.unit_values.Unit.{Unit}
@@ -117,7 +118,7 @@ module _ (point : Unit → Point) (at : (u : Unit) → (point u).0 ≡ u.at) (da
       subst (All (λ (p : Point × Point). p.0.0 <ℤ p.1.0)) (sym e)
       (pairs-rise (map point (units_of day)) (points-rise point at (units_of day) (units-rise day day.window are.rising)))
 
-  pub made-room : (pairs : List (Point × Point)) → pairs ≡ neighbours (map point (units_of day)) → sum_by (pair_seconds day) pairs ≤ 100_800
+  pub made-room : (pairs : List (Point × Point)) → pairs ≡ neighbours (map point (units_of day)) → sum_by (pair_seconds day) pairs ≤ longest_day
   made-room pairs e =
       let all = covered-le point at day are in
       let long = day_length-le day are in
@@ -137,13 +138,13 @@ module _ (point : Unit → Point) (at : (u : Unit) → (point u).0 ≡ u.at) (da
 
     pub next-room : (sum : Sum) → i < length rest → r ≡ get_or rest i r → right ≡ unit_of day r → p ≡ point left → q ≡ point right
         → IsSumOfRest day (neighbours (map point (left ∷ map (unit_of day) (drop i rest)))) (neighbours (map point (units_of day))) sum
-        → sum.covered + pair_seconds day (p, q) ≤ 100_800
+        → sum.covered + pair_seconds day (p, q) ≤ longest_day
     next-room sum l h k e f summed =
         let all = neighbours (map point (units_of day)) in
         let step = units-step day rest i r right l h k in
         let next = subst (λ (us : List Unit). IsSumOfRest day (neighbours (map point (left ∷ us))) all sum) step summed in
         let covered = covered-le point at day are in
         let long = day_length-le day are in
-        let room = sum-room day (point left, point right) (neighbours (map point (right ∷ map (unit_of day) (drop (i + 1) rest)))) all sum 100_800 next (omega (arith, covered, long)) in
+        let room = sum-room day (point left, point right) (neighbours (map point (right ∷ map (unit_of day) (drop (i + 1) rest)))) all sum longest_day next (omega (arith, covered, long)) in
         let pair = ap (pair_seconds day) (pair-same p q (point left) (point right) e f) in
         omega (arith, room, pair)

@@ -8,7 +8,7 @@ use Rattle.fixed_units.specs.declared.published.Published.{Published}
 use Rattle.daily_values.specs.declared.counts.Counts.{Counts}
 use Rattle.daily_values.specs.declared.extremes.Extremes.{Extremes}
 use Rattle.daily_values.specs.declared.sums.Sum.{Sum}
-use Rattle.day_inputs.specs.DayInputs.{shortest_day, longest_day}
+use Rattle.fixed_units.specs.Calendar.{shortest_day, longest_day}
 
 -- the figures of a day, as contracts see them
 pub record DayFigures : Type 0 where

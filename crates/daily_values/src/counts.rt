@@ -1,7 +1,7 @@
 //! How many readings a day has, and how many of them have no discharge.
 
 ghost use Rattle.std.specs.Prelude.{◌≡◌, ◌+◌, ◌≤◌, ◌&&◌, int_le, int_lt, if◌then◌else◌};
-ghost use Rattle.day_inputs.specs.DayInputs.{longest_day};
+ghost use Rattle.fixed_units.specs.Calendar.{longest_day};
 ghost use Rattle.unit_discharge.specs.declared.unit_values.Missing.TheVariants as missing;
 ghost use Rattle.daily_values.specs.DayValue.{is_missing, is_of_day};
 

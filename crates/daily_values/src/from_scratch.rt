@@ -3,7 +3,7 @@
 
 ghost use Rattle.std.specs.List.{list_any};
 ghost use Rattle.std.specs.Prelude.{◌≡◌, ◌*◌, ◌≤◌, ◌++◌, ◌&&◌, ℕ, pos, ◌-ℤ◌, ◌≤ℤ◌, ◌<ℤ◌, int_lt, map, sum_by, int_le, not, is_some, All, find, reverse, option_to_list, IfOk, IfSome, OnOk};
-ghost use Rattle.fixed_units.specs.Quantities.{IsDischarge, IsStage, IsStamp, most_discharge};
+ghost use Rattle.fixed_units.specs.Quantities.{IsDischarge, IsStage, IsStamp, most_discharge, most_gap};
 ghost use Rattle.unit_discharge.specs.Unit.{most_corrected};
 ghost use Rattle.curves.specs.Entries.{IsSeries};
 ghost use Rattle.curves.specs.Corrections.{AreCorrections, entries_of};
@@ -12,7 +12,8 @@ ghost use Rattle.readings.specs.Readings as readings_of;
 ghost use Rattle.readings.specs.Readings.{IsRising};
 ghost use Rattle.readings.specs.Window as windows;
 ghost use Rattle.day_inputs.specs.DayInputs as inputs;
-ghost use Rattle.day_inputs.specs.DayInputs.{AreParts, shortest_day, longest_day, most_gap};
+ghost use Rattle.fixed_units.specs.Calendar.{shortest_day, longest_day};
+ghost use Rattle.day_inputs.specs.DayInputs.{AreParts};
 ghost use Rattle.daily_values.specs.DayValue as values;
 ghost use Rattle.daily_values.specs.DayValue.{counts_of, extremes_of, own_units, pair_seconds, sum_of, twice_areas, value_of};
 ghost use Rattle.daily_values.specs.Figures.{AreCounts, IsSumWithin, IsValueWithin};
@@ -370,7 +371,7 @@ fn add_areas(parts: &DayParts, pairs: &[(Point, Point)]) -> Sum
     let mut sum = Sum::none();
     for pair in pairs {
         let seconds = seconds_between(parts, pair.0.0, pair.1.0);
-        sum = add_pair(sum, parts, &pair.0, &pair.1, seconds);
+        add_pair(&mut sum, parts, &pair.0, &pair.1, seconds);
     }
     sum
 }

@@ -1,10 +1,11 @@
 //! Sums over trapezoids between the values of neighbouring points of a day.
 
-ghost use Rattle.std.specs.Prelude.{◌≡◌, ◌+◌, ◌*◌, ◌^◌, ◌≤◌, ℕ, ℤ, pos, neg_ℤ, ◌+ℤ◌, ◌-ℤ◌, ◌≤ℤ◌, ◌<ℤ◌};
+ghost use Rattle.std.specs.Prelude.{◌≡◌, ◌+◌, ◌*◌, ◌≤◌, ℕ, ℤ, pos, neg_ℤ, ◌+ℤ◌, ◌-ℤ◌, ◌≤ℤ◌, ◌<ℤ◌};
 ghost use Rattle.std.specs.Int.{int_max, int_min};
 ghost use Rattle.fixed_units.specs.Lines as lines;
-ghost use Rattle.fixed_units.specs.Quantities.{IsWithin, most_millionths};
-ghost use Rattle.day_inputs.specs.DayInputs.{AreParts, longest_day};
+ghost use Rattle.fixed_units.specs.Quantities.{IsWithin, most_millionths, most_seconds};
+ghost use Rattle.fixed_units.specs.Calendar.{longest_day};
+ghost use Rattle.day_inputs.specs.DayInputs.{AreParts};
 ghost use Rattle.daily_values.specs.DayValue as values;
 ghost use Rattle.daily_values.specs.DayValue.{discharge_point, pair_area, pair_seconds, stage_point};
 ghost use Rattle.daily_values.specs.Figures.{IsAreaWithin, IsSumWithin, IsValueWithin};
@@ -55,31 +56,29 @@ pub(crate) fn discharge_point(unit: &Unit) -> Point
     (unit.at, unit.discharge.ok())
 }
 
-/// The sum with the area under the line between two points more, cut to the day. Nothing comes to it where one of the two
+/// Adds the area under the line between two points to a sum, cut to the day. Nothing comes to it where one of the two
 /// values is missing.
 #[inline(always)]
-pub(crate) fn add_pair(sum: Sum, parts: &DayParts, left: &Point, right: &Point, seconds: u32) -> Sum
+pub(crate) fn add_pair(sum: &mut Sum, parts: &DayParts, left: &Point, right: &Point, seconds: u32)
     requires parts { AreParts parts.now }
     requires rising { left.now.0 <ℤ right.now.0 }
     requires seconds { seconds ≡ values.seconds_between parts.now left.now.0 right.now.0 }
-    requires room { sum.covered + pair_seconds parts.now (left.now, right.now) ≤ longest_day }
-    requires fits { IsSumWithin most_millionths most_millionths sum }
-    ensures twice { result.twice ≡ sum.twice +ℤ pair_area parts.now (left.now, right.now) }
-    ensures covered { result.covered ≡ sum.covered + pair_seconds parts.now (left.now, right.now) }
-    ensures fits { IsSumWithin most_millionths most_millionths result }
-    ensures within { (below above : ℕ) → IsValueWithin below above left.now.1 → IsValueWithin below above right.now.1 → IsSumWithin below above sum → IsSumWithin below above result }
+    requires room { sum.old.covered + pair_seconds parts.now (left.now, right.now) ≤ longest_day }
+    requires fits { IsSumWithin most_millionths most_millionths sum.old }
+    ensures twice { sum.new.twice ≡ sum.old.twice +ℤ pair_area parts.now (left.now, right.now) }
+    ensures covered { sum.new.covered ≡ sum.old.covered + pair_seconds parts.now (left.now, right.now) }
+    ensures fits { IsSumWithin most_millionths most_millionths sum.new }
+    ensures within { (below above : ℕ) → IsValueWithin below above left.now.1 → IsValueWithin below above right.now.1 → IsSumWithin below above sum.old → IsSumWithin below above sum.new }
 {
     let Some(from) = left.1 else {
-        return sum;
+        return;
     };
     let Some(to) = right.1 else {
-        return sum;
+        return;
     };
     let twice = twice_area(parts, &(left.0, from), &(right.0, to), seconds);
-    Sum {
-        twice: sum.twice + twice,
-        covered: sum.covered + seconds,
-    }
+    sum.twice += twice;
+    sum.covered += seconds;
 }
 
 /// How many seconds of the day lie between two instants that are near enough to each other.
@@ -118,8 +117,8 @@ fn right_end(parts: &DayParts, at: Second) -> Second
 /// How many seconds it is from one instant to another.
 fn elapsed(from: Second, until: Second) -> i64
     ensures value { result ≡ until -ℤ from }
-    ensures low { neg_ℤ (pos (2 * 10 ^ 10)) ≤ℤ result }
-    ensures high { result ≤ℤ pos (2 * 10 ^ 10) }
+    ensures low { neg_ℤ (pos (2 * most_seconds)) ≤ℤ result }
+    ensures high { result ≤ℤ pos (2 * most_seconds) }
 {
     until.get() - from.get()
 }
@@ -149,14 +148,14 @@ fn twice_area(
     if seconds == 0 {
         return 0;
     }
-    let first = value_at(left, right, left_end(parts, left.0));
-    let last = value_at(left, right, right_end(parts, right.0));
-    (i128::from(first.get()) + i128::from(last.get())) * i128::from(seconds)
+    let first = first_value(left, right, left_end(parts, left.0));
+    let last = last_value(left, right, right_end(parts, right.0));
+    i128::from(first.get() + last.get()) * i128::from(seconds)
 }
 
-/// The value at an instant on the line between two others at theirs, which at either end is that end's value. Only the lines
+/// The value at an instant on the line between two others at theirs, which at the first of them is its value. Only the lines
 /// that the day cuts are read between their ends.
-fn value_at(left: &(Second, Micro), right: &(Second, Micro), at: Second) -> Micro
+fn first_value(left: &(Second, Micro), right: &(Second, Micro), at: Second) -> Micro
     requires rising { left.now.0 <ℤ right.now.0 }
     requires from { left.now.0 ≤ℤ at }
     requires until { at ≤ℤ right.now.0 }
@@ -164,12 +163,25 @@ fn value_at(left: &(Second, Micro), right: &(Second, Micro), at: Second) -> Micr
     ensures between { (least greatest : ℤ) → IsWithin least greatest left.now.1 → IsWithin least greatest right.now.1 → IsWithin least greatest result }
 {
     if at == left.0 {
-        return left.1;
+        left.1
+    } else {
+        value_between(left, right, at)
     }
+}
+
+/// The value at an instant on the line between two others at theirs, which at the last of them is its value.
+fn last_value(left: &(Second, Micro), right: &(Second, Micro), at: Second) -> Micro
+    requires rising { left.now.0 <ℤ right.now.0 }
+    requires from { left.now.0 ≤ℤ at }
+    requires until { at ≤ℤ right.now.0 }
+    ensures value { result ≡ lines.line_at left.now right.now at }
+    ensures between { (least greatest : ℤ) → IsWithin least greatest left.now.1 → IsWithin least greatest right.now.1 → IsWithin least greatest result }
+{
     if at == right.0 {
-        return right.1;
+        right.1
+    } else {
+        value_between(left, right, at)
     }
-    value_between(left, right, at)
 }
 
 /// The value at an instant on the line between two others.

@@ -75,15 +75,15 @@ fn totals_along(parts: &DayParts, first: Reading, rest: &[Reading]) -> Totals
     for reading in rest {
         let right = unit_of(parts, reading);
         let seconds = seconds_between(parts, left.at, right.at);
-        stage = add_pair(
-            stage,
+        add_pair(
+            &mut stage,
             parts,
             &stage_point(&left),
             &stage_point(&right),
             seconds,
         );
-        discharge = add_pair(
-            discharge,
+        add_pair(
+            &mut discharge,
             parts,
             &discharge_point(&left),
             &discharge_point(&right),

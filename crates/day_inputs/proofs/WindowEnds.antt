@@ -10,7 +10,7 @@ use Rattle.curves.specs.declared.entries.Entry.{Entry}
 use Rattle.curves.specs.Corrections.{Corrections, AreCorrections}
 use Rattle.curves.specs.Entries.{IsSeries}
 use Rattle.curves.proofs.SeriesLemmas.{bearing_series}
-use Rattle.fixed_units.specs.Quantities.{IsDischarge, IsStage, IsStamp}
+use Rattle.fixed_units.specs.Quantities.{IsDischarge, IsStage, IsStamp, most_gap}
 use Rattle.ratings.specs.Numbered.{StationRatings, AreRatings}
 use Rattle.ratings.specs.Parts as rating_parts
 use Rattle.ratings.proofs.CuttingLemmas.{parts_are}
@@ -18,7 +18,8 @@ use Rattle.rising.proofs.Selecting.{AllPairs-head, AllPairs-tail}
 use Rattle.readings.specs.Readings.{IsRising}
 use Rattle.day_inputs.specs.declared.day_inputs.DayParts.{DayParts}
 use Rattle.day_inputs.specs.declared.day_inputs.DayInputs.TheVariants.{Empty, Day}
-use Rattle.day_inputs.specs.DayInputs.{last_at, window_ends, ends_of, with_window, AreInputs, most_gap, shortest_day, longest_day, parts_with as parts_of}
+use Rattle.fixed_units.specs.Calendar.{shortest_day, longest_day}
+use Rattle.day_inputs.specs.DayInputs.{last_at, window_ends, ends_of, with_window, AreInputs, parts_with as parts_of}
 use Rattle.day_inputs.proofs.EqualityLemmas.{AreSame, from_parts}
 
 last_told : (r : Reading) (rs : List Reading) → option_map (λ (x : Reading). x.at) (last (r ∷ rs)) ≡ Some (last_at r rs)

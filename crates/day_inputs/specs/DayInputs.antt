@@ -1,6 +1,7 @@
 -- The inputs of a day: all that its value depends on.
 use Rattle.std.specs.Prelude.{ℕ, ◌*◌, ◌≤◌, List, [], ◌∷◌, All, IfSome, Option, Some, None, ℤ, pos, ◌-ℤ◌, ◌≤ℤ◌, ⊤}
-use Rattle.fixed_units.specs.Quantities.{IsDischarge, IsStage}
+use Rattle.fixed_units.specs.Calendar.{shortest_day, longest_day}
+use Rattle.fixed_units.specs.Quantities.{IsDischarge, IsStage, most_gap}
 use Rattle.fixed_units.specs.declared.readings.Reading.{Reading}
 use Rattle.readings.specs.Readings.{IsRising}
 use Rattle.readings.specs.Window.{window}
@@ -71,17 +72,6 @@ with_window gap stage_array discharge_array from until corrections shifts rating
 abbrev pub day_inputs : ℕ → List ℕ → List ℕ → ℤ → ℤ → Corrections → List Entry → StationRatings → List Reading → Option ℤ → DayInputs
 day_inputs gap stage_array discharge_array from until corrections shifts ratings readings estimate =
     with_window gap stage_array discharge_array from until corrections shifts ratings (window from until (pos (60 * gap)) readings) estimate
-
--- a day has 20 to 28 hours, in seconds
-abbrev pub shortest_day : ℕ
-shortest_day = 72_000
-
-abbrev pub longest_day : ℕ
-longest_day = 100_800
-
--- the greatest gap tolerance, in minutes
-abbrev pub most_gap : ℕ
-most_gap = 720
 
 -- what the inputs of a day keep to: a gap tolerance of 1 to 720 minutes, a day of 20 to 28 hours, rising readings of stages,
 -- series of entries, parts of rating periods, and an estimate that is a discharge

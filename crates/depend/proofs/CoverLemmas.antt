@@ -26,7 +26,7 @@ use Rattle.ratings.specs.Periods.{begin}
 use Rattle.ratings.specs.Spans.{Span}
 use Rattle.station_inputs.specs.KeptStation.{IsStation}
 use Rattle.office_inputs.specs.Stations.{station_of}
-use Rattle.station_inputs.specs.Stations.{StationRecord, series_of}
+use Rattle.station_inputs.specs.Stations.{StationState, series_of}
 use Rattle.station_inputs.specs.declared.series.StationSeries.{StationSeries}
 use Rattle.station_inputs.specs.declared.series.StationSeries.TheVariants.{Correction, Shift}
 use Rattle.office_inputs.specs.Touched.{is_filled, is_between_filled, in_reach, touched_by, meets, most_gap_seconds, IsUsedSpan}
@@ -198,7 +198,7 @@ and_none true c e = e
 and_none false c e = refl
 
 -- the interval of a time between two instants
-pub about_cover : (stations : List StationRecord) (site : SiteNumber) (s : StationRecord) (text : List ℕ) (from until : ℤ) (cells : Bool) (a b : ℤ)
+pub about_cover : (stations : List StationState) (site : SiteNumber) (s : StationState) (text : List ℕ) (from until : ℤ) (cells : Bool) (a b : ℤ)
     → cells ≡ false → station_of stations site ≡ Some s → text ≡ s.zone → IsCover (meets_in text from until) a b → IsCover (in_reach stations site (Between from until cells)) a b
 about_cover stations site s text from until true a b n e z h = absurd (cc)
 about_cover stations site s text from until false a b n e z h =
@@ -243,7 +243,7 @@ both_cover p q a b x y h k = record {
       both_true (p d) (q d) (h.only d l (omega (arith, ints)) (omega (arith, ints))) (k.only d l (omega (arith, ints)) (omega (arith, ints)));
 }
 
-pub common_cover : (stations : List StationRecord) (site : SiteNumber) (s : StationRecord) (text : List ℕ) (from until : ℤ) (cells : Bool) (a b x y low high : ℤ)
+pub common_cover : (stations : List StationState) (site : SiteNumber) (s : StationState) (text : List ℕ) (from until : ℤ) (cells : Bool) (a b x y low high : ℤ)
     → cells ≡ true → station_of stations site ≡ Some s → text ≡ s.zone → IsCover (meets_in text from until) a b → IsCover (is_between_filled stations site) x y
     → low ≡ int_max a x → high ≡ int_min b y → IsCover (in_reach stations site (Between from until cells)) low high
 common_cover stations site s text from until false a b x y low high n e z h k f l = absurd (cc)
@@ -252,11 +252,11 @@ common_cover stations site s text from until true a b x y low high n e z h k f l
     (cover_same (λ d. meets_in text from until d && is_between_filled stations site d) (in_reach stations site (Between from until true)) (int_max a x) (int_min b y)
     (λ d. rw (e, sym z) refl) (both_cover (meets_in text from until) (is_between_filled stations site) a b x y h k))
 
-pub no_station : (stations : List StationRecord) (site : SiteNumber) (from until : ℤ) (cells : Bool) → station_of stations site ≡ None
+pub no_station : (stations : List StationState) (site : SiteNumber) (from until : ℤ) (cells : Bool) → station_of stations site ≡ None
     → AreCompared (in_reach stations site (Between from until cells)) None
 no_station stations site from until cells e d k = rw e refl
 
-pub none_common : (stations : List StationRecord) (site : SiteNumber) (from until : ℤ) (cells : Bool) → cells ≡ true
+pub none_common : (stations : List StationState) (site : SiteNumber) (from until : ℤ) (cells : Bool) → cells ≡ true
     → AreCompared (is_between_filled stations site) None → AreCompared (in_reach stations site (Between from until cells)) None
 none_common stations site from until false n h d k = absurd (cc)
 none_common stations site from until true n h d k = and_none _ (is_between_filled stations site d) (h d k)
@@ -273,13 +273,13 @@ le_is x y h = grind (arith, ints)
 le_if : (x y : ℤ) → x ≤ℤ y → int_le x y ≡ true
 le_if x y h = grind (arith, ints)
 
-abbrev begun : List StationRecord → SiteNumber → ℤ → Bool
+abbrev begun : List StationState → SiteNumber → ℤ → Bool
 begun stations site day = list_any (λ earlier. int_le earlier day && is_filled stations site earlier) calendar
 
-abbrev goes_on : List StationRecord → SiteNumber → ℤ → Bool
+abbrev goes_on : List StationState → SiteNumber → ℤ → Bool
 goes_on stations site day = list_any (λ later. int_le day later && is_filled stations site later) calendar
 
-used_low : (stations : List StationRecord) (site : SiteNumber) (from until day : ℤ) → IsUsedSpan stations site (Some (from, until))
+used_low : (stations : List StationState) (site : SiteNumber) (from until day : ℤ) → IsUsedSpan stations site (Some (from, until))
     → is_between_filled stations site day ≡ true → from ≤ℤ day
 used_low stations site from until day u h =
     by_lt_z day from
@@ -291,7 +291,7 @@ used_low stations site from until day u h =
     absurd (cc))
     (λ l. l)
 
-used_high : (stations : List StationRecord) (site : SiteNumber) (from until day : ℤ) → IsUsedSpan stations site (Some (from, until))
+used_high : (stations : List StationState) (site : SiteNumber) (from until day : ℤ) → IsUsedSpan stations site (Some (from, until))
     → is_between_filled stations site day ≡ true → day ≤ℤ until
 used_high stations site from until day u h =
     by_lt_z until day
@@ -303,7 +303,7 @@ used_high stations site from until day u h =
     absurd (cc))
     (λ l. l)
 
-pub used_cover : (stations : List StationRecord) (site : SiteNumber) (from until : ℤ) → IsUsedSpan stations site (Some (from, until)) → IsDay from → IsDay until
+pub used_cover : (stations : List StationState) (site : SiteNumber) (from until : ℤ) → IsUsedSpan stations site (Some (from, until)) → IsDay from → IsDay until
     → IsCover (is_between_filled stations site) from until
 used_cover stations site from until u f l = record {
   begins = f;
@@ -317,7 +317,7 @@ used_cover stations site from until u f l = record {
       (both_true (int_le d until) (is_filled stations site until) (le_if d until (omega (arith, ints))) u.1));
 }
 
-pub none_used : (stations : List StationRecord) (site : SiteNumber) → IsUsedSpan stations site None → AreCompared (is_between_filled stations site) None
+pub none_used : (stations : List StationState) (site : SiteNumber) → IsUsedSpan stations site None → AreCompared (is_between_filled stations site) None
 none_used stations site u day d =
     not_and _ _ (λ t v.
     let none = calendar_any_none (λ earlier. int_le earlier day && is_filled stations site earlier) (λ x k. and_none (int_le x day) (is_filled stations site x) (u x k)) in
@@ -325,7 +325,7 @@ none_used stations site u day d =
     absurd (cc))
 
 -- one day
-pub one_cover : (stations : List StationRecord) (site : SiteNumber) (own : ℤ) → IsDay own → IsCover (in_reach stations site (One own)) own own
+pub one_cover : (stations : List StationState) (site : SiteNumber) (own : ℤ) → IsDay own → IsCover (in_reach stations site (One own)) own own
 one_cover stations site own k = record {
   begins = k;
   ends = k;
@@ -352,7 +352,7 @@ between_stamps (Some r) (Some t) from until cells h k e =
     let g : t.at ≡ until = cc in
     (subst IsStamp f (h r refl), subst IsStamp g (k t refl))
 
-span_between : (s : StationRecord) (a b from until : ℤ) (cells : Bool) → IsStation s → about_span a b s.readings ≡ Between from until cells → IsStamp from × IsStamp until
+span_between : (s : StationState) (a b from until : ℤ) (cells : Bool) → IsStation s → about_span a b s.readings ≡ Between from until cells → IsStamp from × IsStamp until
 span_between s a b from until cells k e =
     let all = All-filter (is_within a b) (λ (r : Reading). IsStamp r.at) s.readings k.readings_are.stamps in
     between_stamps (first (in_span a b s.readings)) (last (in_span a b s.readings)) from until cells
@@ -366,7 +366,7 @@ entry_between at es from until cells h k e =
     let g : until_of at es ≡ until = cc in
     (subst IsStamp f stamps.0, subst IsStamp g stamps.1)
 
-series_between : (s : StationRecord) (which : StationSeries) (at from until : ℤ) (cells : Bool) → IsStation s → IsStamp at
+series_between : (s : StationState) (which : StationSeries) (at from until : ℤ) (cells : Bool) → IsStation s → IsStamp at
     → about_entry at (series_of which s) ≡ Between from until cells → IsStamp from × IsStamp until
 series_between s which at from until cells k h e =
     let kept = k.entries_at_stamps in
@@ -396,7 +396,7 @@ dropped_between : (o : Option Span) (from until : ℤ) (cells : Bool) → ((q : 
 dropped_between None from until cells k e = absurd (cc)
 dropped_between (Some q) from until cells k e = let h = k q refl in period_between q.from (period_end q) from until cells h.begins (end_stamp q.until h.ends) e
 
-stamps_at : (s : StationRecord) (what : What) (from until : ℤ) (cells : Bool) → IsStation s → IsLawful what → touched_at s what ≡ Between from until cells
+stamps_at : (s : StationState) (what : What) (from until : ℤ) (cells : Bool) → IsStation s → IsLawful what → touched_at s what ≡ Between from until cells
     → IsStamp from × IsStamp until
 stamps_at s (PutReadings readings) from until cells k l e =
     let all = All-weaker IsPutReading (λ (r : Reading). IsStamp r.at) (λ r k. k.stamp) readings l.each in
@@ -415,7 +415,7 @@ stamps_at s (DropPeriod start) from until cells k l e =
     dropped_between (period_from start s.ratings.periods) from until cells (at_kept begin IsPutPeriod start s.ratings.periods k.periods_are) e
 stamps_at s _ from until cells k l e = absurd (cc)
 
-pub stamps : (o : Option StationRecord) (what : What) (from until : ℤ) (cells : Bool) → ((s : StationRecord) → o ≡ Some s → IsStation s) → IsLawful what
+pub stamps : (o : Option StationState) (what : What) (from until : ℤ) (cells : Bool) → ((s : StationState) → o ≡ Some s → IsStation s) → IsLawful what
     → touched_by o what ≡ Between from until cells → IsStamp from × IsStamp until
 stamps None what from until cells k l e = absurd (cc)
 stamps (Some s) what from until cells k l e = stamps_at s what from until cells (k s refl) l e

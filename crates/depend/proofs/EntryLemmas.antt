@@ -3,7 +3,7 @@ use Rattle.std.specs.Prelude.{◌≡◌, ◌*◌, ◌==◌, ◌≤◌, ℕ, Bool
 use Rattle.std.proofs.Common.{arith, refl, ap, sym, ◌∙◌}
 use Rattle.std.proofs.lemmas.Int.{ints}
 use Rattle.std.proofs.lemmas.List.Elements.{All-head, All-tail, All-cons, All-weaker, All-filter, filter_passes}
-use Rattle.fixed_units.specs.Quantities.{IsDay, IsStamp, last_stamp}
+use Rattle.fixed_units.specs.Quantities.{IsDay, IsStamp, last_stamp, most_gap}
 use Rattle.fixed_units.specs.declared.readings.Reading.{Reading}
 use Rattle.rising.specs.Lists as lists
 use Rattle.rising.specs.Ends.{first, last}
@@ -22,13 +22,13 @@ use Rattle.curves.specs.Bearing.{bearing, bears_at}
 use Rattle.curves.specs.Corrections.{Corrections}
 use Rattle.curves.proofs.ChangeLemmas.{says_led, says_alone, says_until}
 use Rattle.civil_days.proofs.RiseLemmas.{zone_steps}
-use Rattle.day_inputs.specs.DayInputs.{with_window, last_at, most_gap}
+use Rattle.day_inputs.specs.DayInputs.{with_window, last_at}
 use Rattle.day_inputs.specs.Equality.{same_inputs}
 use Rattle.day_inputs.proofs.EqualityLemmas.{Decides-same_inputs}
 use Rattle.station_inputs.specs.KeptStation.{IsStation}
 use Rattle.ratings.specs.Numbered.{StationRatings}
 use Rattle.station_inputs.specs.Series.{corrections_with, entries_in, shifts_with}
-use Rattle.station_inputs.specs.Stations.{StationRecord, estimated_discharge, series_of, station_day, with_series, day_start}
+use Rattle.station_inputs.specs.Stations.{StationState, estimated_discharge, series_of, station_day, with_series, day_start}
 use Rattle.station_inputs.specs.Touched as touched
 use Rattle.office_inputs.specs.Touched.{meets, most_gap_seconds}
 use Rattle.station_inputs.specs.Touched.{about_entry, has_inputs, says_from}
@@ -96,12 +96,12 @@ set_has P c true d x y z = x
 set_has P c false true x y z = y
 set_has P c false false x y z = z
 
-pub series_has : (P : List Entry → Type 0) (which : StationSeries) (s : StationRecord) → P s.corrections.first → P s.corrections.second → P s.corrections.third
+pub series_has : (P : List Entry → Type 0) (which : StationSeries) (s : StationState) → P s.corrections.first → P s.corrections.second → P s.corrections.third
     → P s.shifts → P (series_of which s)
 series_has P (Correction set) s x y z w = set_has P s.corrections (set == 1) (set == 2) x y z
 series_has P Shift s x y z w = w
 
-series_rise : (which : StationSeries) (s : StationRecord) → IsStation s → series.IsRising (series_of which s)
+series_rise : (which : StationSeries) (s : StationState) → IsStation s → series.IsRising (series_of which s)
 series_rise which s k =
     series_has series.IsRising which s k.corrections_are.first.rising k.corrections_are.second.rising k.corrections_are.third.rising k.shifts_are.rising
 
@@ -162,7 +162,7 @@ kept_not : (b : Bool) → b ≡ true → b ≡ false → ⊥
 kept_not b e f = absurd (cc)
 
 -- a day that changes has inputs, and meets that time
-in_window : (s : StationRecord) (a b : ℤ) (which : StationSeries) (at : ℤ) (change : List Entry → List Entry) (w : List Reading) (estimate : Option ℤ) → IsRising w
+in_window : (s : StationState) (a b : ℤ) (which : StationSeries) (at : ℤ) (change : List Entry → List Entry) (w : List Reading) (estimate : Option ℤ) → IsRising w
     → All (IsNear a b (pos (60 * s.gap))) w → All (λ (r : Reading). IsStamp r.at) w → s.gap ≤ most_gap → Keeps at change (series_of which s)
     → same_inputs (with_window s.gap s.stage_array s.discharge_array a b s.corrections s.shifts s.ratings w estimate)
     (with_window s.gap s.stage_array s.discharge_array a b (corrections_with which change s.corrections) (shifts_with which change s.shifts) s.ratings w estimate) ≡ false
@@ -184,7 +184,7 @@ in_window s a b which at change (r ∷ rs) estimate rising near stamps g k n =
           (parts_kept s.gap s.stage_array s.discharge_array a b change r rs s.ratings estimate which s.corrections s.shifts (k lo hi (ends_rise r rs rising) f))) n)),
     )
 
-pub entry_meets : (s : StationRecord) (day : ℤ) (which : StationSeries) (at : ℤ) (change : List Entry → List Entry) → IsStation s → IsDay day
+pub entry_meets : (s : StationState) (day : ℤ) (which : StationSeries) (at : ℤ) (change : List Entry → List Entry) → IsStation s → IsDay day
     → ((es : List Entry) → series.IsRising es → Keeps at change es)
     → same_inputs (station_day s day) (station_day (with_series which change s) day) ≡ false
     → (has_inputs (station_day s day) ≡ true)

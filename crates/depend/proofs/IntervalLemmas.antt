@@ -19,12 +19,12 @@ use Rattle.edits.specs.declared.content.What.{What}
 use Rattle.edits.specs.declared.content.What.TheVariants.{AddStation, SetStation, PutReadings, DropReadings, FlagReadings, PutCorrection, DropCorrection, PutShift, DropShift, AddRating, PutPeriod, DropPeriod, PutEstimate, DropEstimate, PutMeasurement, DropMeasurement, Review, Decide}
 use Rattle.edits.specs.declared.content.Edit.{Edit}
 use Rattle.office_inputs.specs.Changes.{keeps_day}
-use Rattle.office_inputs.specs.Kept.{AreStations, records_of}
+use Rattle.office_inputs.specs.Kept.{AreStations, states_of}
 use Rattle.station_inputs.specs.KeptStation.{KeptStation, IsStation}
 use Rattle.office_inputs.specs.Refusals.{refusal_of}
 use Rattle.office_inputs.specs.Stations.{place_of, station_of}
 use Rattle.station_inputs.specs.Changes.{keeps_station_day}
-use Rattle.station_inputs.specs.Stations.{StationRecord, station_day, described, series_of, with_series}
+use Rattle.station_inputs.specs.Stations.{StationState, station_day, described, series_of, with_series}
 use Rattle.station_inputs.specs.declared.series.StationSeries.{StationSeries}
 use Rattle.station_inputs.specs.declared.series.StationSeries.TheVariants.{Correction, Shift}
 use Rattle.office_inputs.specs.Touched.{in_reach, touched_by, touched_of}
@@ -40,15 +40,15 @@ use Rattle.depend.proofs.ReadingDays.{drop_day, flag_day, put_day}
 use Rattle.depend.proofs.TouchedDays.{IsTouchedDay, of_interval}
 
 -- a station that is found keeps to its ranges
-station_step : (s t : StationRecord) (o : Option StationRecord) (b : Bool) → IsStation s → cond b (Some s) o ≡ Some t → (o ≡ Some t → IsStation t) → IsStation t
+station_step : (s t : StationState) (o : Option StationState) (b : Bool) → IsStation s → cond b (Some s) o ≡ Some t → (o ≡ Some t → IsStation t) → IsStation t
 station_step s t o true h e k = let same : s ≡ t = cc in subst IsStation same h
 station_step s t o false h e k = k e
 
-pub station_is : (kept : List KeptStation) (site : SiteNumber) (s : StationRecord) → All (λ (k : KeptStation). IsStation k.station) kept
-    → station_of (records_of kept) site ≡ Some s → IsStation s
+pub station_is : (kept : List KeptStation) (site : SiteNumber) (s : StationState) → All (λ (k : KeptStation). IsStation k.station) kept
+    → station_of (states_of kept) site ≡ Some s → IsStation s
 station_is [] site s h e = absurd (cc)
 station_is (k ∷ kept) site s h e =
-    station_step k.station s (station_of (records_of kept) site) (int_eq (place_of k.station) (site_place site))
+    station_step k.station s (station_of (states_of kept) site) (int_eq (place_of k.station) (site_place site))
     (All-head (λ (k : KeptStation). IsStation k.station) k kept h) e
     (station_is kept site s (All-tail (λ (k : KeptStation). IsStation k.station) k kept h))
 
@@ -57,7 +57,7 @@ is_empty : (inputs : DayInputs) → has_inputs inputs ≡ false → inputs ≡ E
 is_empty Empty h = refl
 is_empty (Day p) h = absurd (cc)
 
-empty_kept : (s : StationRecord) (day : ℤ) (name : List ℕ) (gap : ℕ) (stages discharges : List ℕ) → has_inputs (station_day s day) ≡ false
+empty_kept : (s : StationState) (day : ℤ) (name : List ℕ) (gap : ℕ) (stages discharges : List ℕ) → has_inputs (station_day s day) ≡ false
     → true ≡ same_inputs (station_day s day) (station_day (described name gap stages discharges s) day)
 empty_kept s day name gap stages discharges h =
     let t = described name gap stages discharges s in
@@ -73,7 +73,7 @@ told_not : (b : Bool) → true ≡ b → b ≡ false → ⊥
 told_not b e n = let k : true ≡ false = e ∙ n in absurd (cc)
 
 -- one that an entry changes has inputs, and meets the time in which the entry has a say
-entry_day : (s : StationRecord) (day : ℤ) (which : StationSeries) (at : ℤ) (change : List Entry → List Entry) → IsStation s → IsDay day
+entry_day : (s : StationState) (day : ℤ) (which : StationSeries) (at : ℤ) (change : List Entry → List Entry) → IsStation s → IsDay day
     → ((es : List Entry) → series.IsRising es → Keeps at change es) → same_inputs (station_day s day) (station_day (with_series which change s) day) ≡ false
     → IsTouchedDay s (about_entry at (series_of which s)) day
 entry_day s day which at change k d keeps n = let found = entry_meets s day which at change k d keeps n in (found.1, λ t. found.0)
@@ -94,7 +94,7 @@ own_day : (own day : ℤ) (other : Bool) → (not (int_eq own day) || other) ≡
 own_day own day other e = (Decides-int_eq own day).0 (own_step (int_eq own day) other e)
 
 -- a day that an edit of a station changes is one that what it touches can change
-changed_day : (s : StationRecord) (what : What) (day : ℤ) → IsStation s → IsLawful what → IsDay day → keeps_station_day s what day ≡ false
+changed_day : (s : StationState) (what : What) (day : ℤ) → IsStation s → IsLawful what → IsDay day → keeps_station_day s what day ≡ false
     → IsTouchedDay s (touched_at s what) day
 changed_day s (AddStation name zone gap stages discharges) day k l d n = absurd (same_not (station_day s day) n)
 changed_day s (SetStation name gap stages discharges) day k l d n =
@@ -117,15 +117,15 @@ changed_day s (Review from to) day k l d n = same_not (station_day s day) n
 changed_day s (Decide from to decision) day k l d n = same_not (station_day s day) n
 
 -- and so it is of the edit's interval
-by_station : (limits : Limits) (kept : List KeptStation) (edit : Edit) (day : ℤ) (o : Option StationRecord) → station_of (records_of kept) edit.site ≡ o
-    → AreStations kept → refusal_of limits (records_of kept) edit ≡ None → IsDay day → keeps_day (records_of kept) edit day ≡ false
-    → in_reach (records_of kept) edit.site (touched_by o edit.what) day ≡ true
-by_station limits kept edit day None e k r d n = absurd (told_not _ (sym (add_told limits (records_of kept) edit day r e)) n)
+by_station : (limits : Limits) (kept : List KeptStation) (edit : Edit) (day : ℤ) (o : Option StationState) → station_of (states_of kept) edit.site ≡ o
+    → AreStations kept → refusal_of limits (states_of kept) edit ≡ None → IsDay day → keeps_day (states_of kept) edit day ≡ false
+    → in_reach (states_of kept) edit.site (touched_by o edit.what) day ≡ true
+by_station limits kept edit day None e k r d n = absurd (told_not _ (sym (add_told limits (states_of kept) edit day r e)) n)
 by_station limits kept edit day (Some s) e k r d n =
-    of_interval (records_of kept) edit.site s (touched_at s edit.what) day e d
+    of_interval (states_of kept) edit.site s (touched_at s edit.what) day e d
     (changed_day s edit.what day (station_is kept edit.site s k.each e) edit.lawful d
-    (change_told (records_of kept) edit s day (adds_none limits (records_of kept) edit s r e) e ∙ n))
+    (change_told (states_of kept) edit s day (adds_none limits (states_of kept) edit s r e) e ∙ n))
 
-pub no_day_outside : (limits : Limits) (kept : List KeptStation) (edit : Edit) (day : ℤ) → AreStations kept → refusal_of limits (records_of kept) edit ≡ None
-    → IsDay day → keeps_day (records_of kept) edit day ≡ false → in_reach (records_of kept) edit.site (touched_of (records_of kept) edit) day ≡ true
-no_day_outside limits kept edit day k r d n = by_station limits kept edit day (station_of (records_of kept) edit.site) refl k r d n
+pub no_day_outside : (limits : Limits) (kept : List KeptStation) (edit : Edit) (day : ℤ) → AreStations kept → refusal_of limits (states_of kept) edit ≡ None
+    → IsDay day → keeps_day (states_of kept) edit day ≡ false → in_reach (states_of kept) edit.site (touched_of (states_of kept) edit) day ≡ true
+no_day_outside limits kept edit day k r d n = by_station limits kept edit day (station_of (states_of kept) edit.site) refl k r d n

@@ -21,7 +21,7 @@ use Rattle.ratings.specs.Spans.{Span}
 use Rattle.office_inputs.specs.Touched.{meets, most_gap_seconds}
 use Rattle.office_inputs.proofs.KeepLemmas.{at_place}
 use Rattle.station_inputs.specs.KeptStation.{IsStation}
-use Rattle.station_inputs.specs.Stations.{StationRecord, day_start, estimated_discharge, station_day, station_window, with_ratings}
+use Rattle.station_inputs.specs.Stations.{StationState, day_start, estimated_discharge, station_day, station_window, with_ratings}
 use Rattle.station_inputs.specs.Touched.{about_dropped_period, about_period, end_or_last, has_inputs, later_end, period_end}
 use Rattle.station_inputs.proofs.PeriodDays.{no_window_told, periods_told}
 use Rattle.depend.proofs.CoverLemmas.{greater}
@@ -46,7 +46,7 @@ ends_near a b gap lo hi (r ∷ rs) g near stamps e =
     let stamp = (All-head (λ (x : Reading). IsStamp x.at) r rs stamps).high in
     record { low = omega (arith, ints); high = omega (arith, ints); stamp = omega (arith, ints) }
 
-day_near : (s : StationRecord) (day lo hi : ℤ) → IsStation s → IsDay day → window_ends (station_window s day) ≡ Some (lo, hi)
+day_near : (s : StationState) (day lo hi : ℤ) → IsStation s → IsDay day → window_ends (station_window s day) ≡ Some (lo, hi)
     → AreNear (day_start s day) (day_start s (day +ℤ pos 1)) lo hi
 day_near s day lo hi k d e =
     let a = day_start s day in
@@ -63,7 +63,7 @@ ends_filled : (gap : ℕ) (stages discharges : List ℕ) (from until : ℤ) (set
 ends_filled gap stages discharges from until sets shifts ratings [] estimate lo hi e = absurd (cc)
 ends_filled gap stages discharges from until sets shifts ratings (r ∷ rs) estimate lo hi e = refl
 
-day_filled : (s : StationRecord) (day lo hi : ℤ) → window_ends (station_window s day) ≡ Some (lo, hi) → has_inputs (station_day s day) ≡ true
+day_filled : (s : StationState) (day lo hi : ℤ) → window_ends (station_window s day) ≡ Some (lo, hi) → has_inputs (station_day s day) ≡ true
 day_filled s day lo hi e =
     ends_filled s.gap s.stage_array s.discharge_array (day_start s day) (day_start s (day +ℤ pos 1)) s.corrections s.shifts s.ratings (station_window s day) (estimated_discharge s day) lo hi e
 
@@ -110,11 +110,11 @@ put_met lo hi a b p (Some q) n own e =
     ]
 
 -- a day keeps its inputs where the part of a period stays, with it and without it
-period_told : (s : StationRecord) (day : ℤ) (p : Span) (lo hi : ℤ) → IsStation s → window_ends (station_window s day) ≡ Some (lo, hi)
+period_told : (s : StationState) (day : ℤ) (p : Span) (lo hi : ℤ) → IsStation s → window_ends (station_window s day) ≡ Some (lo, hi)
     → stays_with_period lo hi p s.ratings.periods ≡ same_inputs (station_day s day) (station_day (with_ratings (with_period p) s) day)
 period_told s day p lo hi k e = sym (put_changes lo hi s.ratings.tables p s.ratings.periods k.ratings_are.apart.rising) ∙ periods_told s day (with_period p) lo hi e
 
-no_period_told : (s : StationRecord) (day from lo hi : ℤ) → IsStation s → window_ends (station_window s day) ≡ Some (lo, hi)
+no_period_told : (s : StationState) (day from lo hi : ℤ) → IsStation s → window_ends (station_window s day) ≡ Some (lo, hi)
     → stays_without_period lo hi from s.ratings.periods ≡ same_inputs (station_day s day) (station_day (with_ratings (without_period from) s) day)
 no_period_told s day from lo hi k e = sym (taken_changes lo hi s.ratings.tables from s.ratings.periods k.ratings_are.apart.rising) ∙ periods_told s day (without_period from) lo hi e
 
@@ -122,7 +122,7 @@ no_period_told s day from lo hi k e = sym (taken_changes lo hi s.ratings.tables 
 kept_not : (b c : Bool) → b ≡ c → b ≡ true → c ≡ false → ⊥
 kept_not b c e f g = let k : true ≡ false = sym f ∙ (e ∙ g) in absurd (cc)
 
-put_by_ends : (s : StationRecord) (day : ℤ) (p : Span) (ends : Option (ℤ × ℤ)) → IsStation s → IsDay day → window_ends (station_window s day) ≡ ends
+put_by_ends : (s : StationState) (day : ℤ) (p : Span) (ends : Option (ℤ × ℤ)) → IsStation s → IsDay day → window_ends (station_window s day) ≡ ends
     → same_inputs (station_day s day) (station_day (with_ratings (with_period p) s) day) ≡ false
     → IsTouchedDay s (about_period p.from (later_end p (period_from p.from s.ratings.periods))) day
 put_by_ends s day p None k d e n = absurd (kept_not true _ (no_window_told s day (with_period p) e) refl n)
@@ -132,26 +132,26 @@ put_by_ends s day p (Some (lo, hi)) k d e n = (
   λ t. day_filled s day lo hi e,
 )
 
-pub put_period_day : (s : StationRecord) (day : ℤ) (p : Span) → IsStation s → IsDay day
+pub put_period_day : (s : StationState) (day : ℤ) (p : Span) → IsStation s → IsDay day
     → same_inputs (station_day s day) (station_day (with_ratings (with_period p) s) day) ≡ false
     → IsTouchedDay s (about_period p.from (later_end p (period_from p.from s.ratings.periods))) day
 put_period_day s day p k d n = put_by_ends s day p (window_ends (station_window s day)) k d refl n
 
 -- and one that is taken out where it met it
-taken_met : (s : StationRecord) (day lo hi : ℤ) (o : Option Span) → AreNear (day_start s day) (day_start s (day +ℤ pos 1)) lo hi
+taken_met : (s : StationState) (day lo hi : ℤ) (o : Option Span) → AreNear (day_start s day) (day_start s (day +ℤ pos 1)) lo hi
     → has_inputs (station_day s day) ≡ true → stays_without lo hi o ≡ false → IsTouchedDay s (about_dropped_period o) day
 taken_met s day lo hi None n f e = absurd (cc)
 taken_met s day lo hi (Some q) n f e =
     (met lo hi (day_start s day) (day_start s (day +ℤ pos 1)) (period_end q) q n (is_met (parts.meets lo hi q) e) (omega (arith, ints)), λ t. f)
 
-drop_by_ends : (s : StationRecord) (day from : ℤ) (ends : Option (ℤ × ℤ)) → IsStation s → IsDay day → window_ends (station_window s day) ≡ ends
+drop_by_ends : (s : StationState) (day from : ℤ) (ends : Option (ℤ × ℤ)) → IsStation s → IsDay day → window_ends (station_window s day) ≡ ends
     → same_inputs (station_day s day) (station_day (with_ratings (without_period from) s) day) ≡ false
     → IsTouchedDay s (about_dropped_period (period_from from s.ratings.periods)) day
 drop_by_ends s day from None k d e n = absurd (kept_not true _ (no_window_told s day (without_period from) e) refl n)
 drop_by_ends s day from (Some (lo, hi)) k d e n =
     taken_met s day lo hi (period_from from s.ratings.periods) (day_near s day lo hi k d e) (day_filled s day lo hi e) (no_period_told s day from lo hi k e ∙ n)
 
-pub dropped_period_day : (s : StationRecord) (day from : ℤ) → IsStation s → IsDay day
+pub dropped_period_day : (s : StationState) (day from : ℤ) → IsStation s → IsDay day
     → same_inputs (station_day s day) (station_day (with_ratings (without_period from) s) day) ≡ false
     → IsTouchedDay s (about_dropped_period (period_from from s.ratings.periods)) day
 dropped_period_day s day from k d n = drop_by_ends s day from (window_ends (station_window s day)) k d refl n

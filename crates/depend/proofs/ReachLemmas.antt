@@ -10,12 +10,12 @@ use Rattle.fixed_units.proofs.CalendarLemmas.{calendar_none}
 use Rattle.day_inputs.specs.Equality.{same_inputs}
 use Rattle.edits.specs.declared.content.Edit.{Edit}
 use Rattle.office_inputs.specs.Changes.{changed_days, keeps_day}
-use Rattle.office_inputs.specs.Kept.{AreStations, records_of}
+use Rattle.office_inputs.specs.Kept.{AreStations, states_of}
 use Rattle.station_inputs.specs.Changes.{keeps_station_day}
 use Rattle.station_inputs.specs.KeptStation.{KeptStation}
 use Rattle.office_inputs.specs.Refusals.{refusal_of}
 use Rattle.office_inputs.specs.Stations.{station_of, inputs_of_day, stations_after}
-use Rattle.station_inputs.specs.Stations.{StationRecord}
+use Rattle.station_inputs.specs.Stations.{StationState}
 use Rattle.office_inputs.specs.Touched.{in_reach, touched_of, interval}
 use Rattle.office_inputs.specs.declared.limits.Limits.{Limits}
 use Rattle.depend.specs.Compared.{days_within, IsCover, AreCompared}
@@ -77,36 +77,36 @@ not_kept_none : (b c : Bool) → (b ≡ false → c ≡ true) → c ≡ false �
 not_kept_none true c h e = refl
 not_kept_none false c h e = absurd (let k = h refl in cc)
 
-pub found_days : (limits : Limits) (kept : List KeptStation) (edit : Edit) (s : StationRecord) (first last : ℤ) → AreStations kept
-    → refusal_of limits (records_of kept) edit ≡ None → station_of (records_of kept) edit.site ≡ Some s
-    → IsCover (in_reach (records_of kept) edit.site (touched_of (records_of kept) edit)) first last
-    → filter (λ day. not (keeps_station_day s edit.what day)) (days_within first last) ≡ changed_days (records_of kept) edit
+pub found_days : (limits : Limits) (kept : List KeptStation) (edit : Edit) (s : StationState) (first last : ℤ) → AreStations kept
+    → refusal_of limits (states_of kept) edit ≡ None → station_of (states_of kept) edit.site ≡ Some s
+    → IsCover (in_reach (states_of kept) edit.site (touched_of (states_of kept) edit)) first last
+    → filter (λ day. not (keeps_station_day s edit.what day)) (days_within first last) ≡ changed_days (states_of kept) edit
 found_days limits kept edit s first last k r e c =
-    filter_agree (λ day. not (keeps_station_day s edit.what day)) (λ day. not (keeps_day (records_of kept) edit day))
-    (λ d. ap not (change_told (records_of kept) edit s d (adds_none limits (records_of kept) edit s r e) e)) (days_within first last)
-    ∙ sym (calendar_span (λ day. not (keeps_day (records_of kept) edit day)) first last c.begins c.ends
-    (λ d l t. c.all d l (no_day_outside limits kept edit d k r l (not_false (keeps_day (records_of kept) edit d) t))))
+    filter_agree (λ day. not (keeps_station_day s edit.what day)) (λ day. not (keeps_day (states_of kept) edit day))
+    (λ d. ap not (change_told (states_of kept) edit s d (adds_none limits (states_of kept) edit s r e) e)) (days_within first last)
+    ∙ sym (calendar_span (λ day. not (keeps_day (states_of kept) edit day)) first last c.begins c.ends
+    (λ d l t. c.all d l (no_day_outside limits kept edit d k r l (not_false (keeps_day (states_of kept) edit d) t))))
 
-pub no_days : (limits : Limits) (kept : List KeptStation) (edit : Edit) → AreStations kept → refusal_of limits (records_of kept) edit ≡ None
-    → AreCompared (in_reach (records_of kept) edit.site (touched_of (records_of kept) edit)) None → [] ≡ changed_days (records_of kept) edit
+pub no_days : (limits : Limits) (kept : List KeptStation) (edit : Edit) → AreStations kept → refusal_of limits (states_of kept) edit ≡ None
+    → AreCompared (in_reach (states_of kept) edit.site (touched_of (states_of kept) edit)) None → [] ≡ changed_days (states_of kept) edit
 no_days limits kept edit k r c =
-    sym (calendar_none (λ day. not (keeps_day (records_of kept) edit day))
-    (λ d l. not_kept_none (keeps_day (records_of kept) edit d) (in_reach (records_of kept) edit.site (touched_of (records_of kept) edit) d)
+    sym (calendar_none (λ day. not (keeps_day (states_of kept) edit day))
+    (λ d l. not_kept_none (keeps_day (states_of kept) edit d) (in_reach (states_of kept) edit.site (touched_of (states_of kept) edit) d)
     (no_day_outside limits kept edit d k r l) (c d l)))
 
 -- none where the station is not kept
-pub unkept_days : (limits : Limits) (stations : List StationRecord) (edit : Edit) → refusal_of limits stations edit ≡ None → station_of stations edit.site ≡ None
+pub unkept_days : (limits : Limits) (stations : List StationState) (edit : Edit) → refusal_of limits stations edit ≡ None → station_of stations edit.site ≡ None
     → [] ≡ changed_days stations edit
 unkept_days limits stations edit r e =
     sym (calendar_none (λ day. not (keeps_day stations edit day)) (λ d l. ap not (add_told limits stations edit d r e)))
 
 -- they rise
-pub changed_rise : (stations : List StationRecord) (edit : Edit) (days : List ℤ) → days ≡ changed_days stations edit → AllPairs (λ (a b : ℤ). a <ℤ b) days
+pub changed_rise : (stations : List StationState) (edit : Edit) (days : List ℤ) → days ≡ changed_days stations edit → AllPairs (λ (a b : ℤ). a <ℤ b) days
 changed_rise stations edit days e =
     subst (λ (x : List ℤ). AllPairs (λ (a b : ℤ). a <ℤ b) x) (sym e) (calendar_rises (λ day. not (keeps_day stations edit day)))
 
 -- and they are at most two more than those of the interval
-pub few_steps : (stations : List StationRecord) (edit : Edit) (first last : ℤ) (before after : ℕ)
+pub few_steps : (stations : List StationState) (edit : Edit) (first last : ℤ) (before after : ℕ)
     → IsCover (in_reach stations edit.site (touched_of stations edit)) first last → after ≤ before + length (days_within first last)
     → after ≤ before + length (interval stations edit) + 9
 few_steps stations edit first last before after c h =
@@ -118,10 +118,10 @@ pub whole_calendar : days_within first_day last_day ≡ calendar
 unfolding calendar
 whole_calendar = refl
 
-abbrev pub differs : List StationRecord → List StationRecord → SiteNumber → ℤ → Bool
+abbrev pub differs : List StationState → List StationState → SiteNumber → ℤ → Bool
 differs before after site day = not (same_inputs (inputs_of_day before site day) (inputs_of_day after site day))
 
-pub asked_days : (before after : List StationRecord) (edit : Edit) (days : List ℤ) → after ≡ stations_after before edit
+pub asked_days : (before after : List StationState) (edit : Edit) (days : List ℤ) → after ≡ stations_after before edit
     → days ≡ filter (differs before after edit.site) (days_within first_day last_day) → days ≡ changed_days before edit
 asked_days before after edit days e f =
-    f ∙ ap (filter (differs before after edit.site)) whole_calendar ∙ ap (λ (x : List StationRecord). filter (differs before x edit.site) calendar) e
+    f ∙ ap (filter (differs before after edit.site)) whole_calendar ∙ ap (λ (x : List StationState). filter (differs before x edit.site) calendar) e

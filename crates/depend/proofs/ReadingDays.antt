@@ -22,7 +22,7 @@ use Rattle.day_inputs.specs.DayInputs.{with_window}
 use Rattle.edits.specs.Lawful.{ArePutReadings}
 use Rattle.office_inputs.specs.Touched.{meets, most_gap_seconds}
 use Rattle.station_inputs.specs.KeptStation.{IsStation}
-use Rattle.station_inputs.specs.Stations.{StationRecord, day_start, estimated_discharge, station_day, with_readings}
+use Rattle.station_inputs.specs.Stations.{StationState, day_start, estimated_discharge, station_day, with_readings}
 use Rattle.station_inputs.specs.Touched.{about_span, between_readings}
 use Rattle.depend.proofs.EntryLemmas.{by_test, gap_seconds}
 use Rattle.depend.proofs.TouchedDays.{IsTouchedDay, meets_at}
@@ -42,7 +42,7 @@ abbrev Leaves : (List Reading → List Reading) → List Reading → List Readin
 Leaves change touched rs = (a b gap : ℤ) → a ≤ℤ b → pos 0 ≤ℤ gap → All (IsFar a b gap) touched → window a b gap (change rs) ≡ window a b gap rs
 
 -- and then the day's inputs
-left_day : (s : StationRecord) (day : ℤ) (change : List Reading → List Reading) (touched : List Reading) → IsStation s → IsDay day → Leaves change touched s.readings
+left_day : (s : StationState) (day : ℤ) (change : List Reading → List Reading) (touched : List Reading) → IsStation s → IsDay day → Leaves change touched s.readings
     → All (IsFar (day_start s day) (day_start s (day +ℤ pos 1)) (pos (60 * s.gap))) touched → true ≡ same_inputs (station_day s day) (station_day (with_readings change s) day)
 left_day s day change touched k d leaves far =
     let a = day_start s day in
@@ -61,7 +61,7 @@ not_met : (first last a b : ℤ) → meets first last a b ≡ false → (b <ℤ 
 not_met first last a b h =
     by_lt_z b (first -ℤ most_gap_seconds) (λ l. inl l) (λ l. inr (grind (arith, ints)))
 
-far_readings : (s : StationRecord) (day : ℤ) (touched : List Reading) (f l : Reading) → IsStation s → IsRising touched → first touched ≡ Some f → last touched ≡ Some l
+far_readings : (s : StationState) (day : ℤ) (touched : List Reading) (f l : Reading) → IsStation s → IsRising touched → first touched ≡ Some f → last touched ≡ Some l
     → meets_at s f.at l.at day ≡ false → All (IsFar (day_start s day) (day_start s (day +ℤ pos 1)) (pos (60 * s.gap))) touched
 far_readings s day touched f l k h e g m =
     let a = day_start s day in
@@ -69,7 +69,7 @@ far_readings s day touched f l k h e g m =
     ends_far a b (pos (60 * s.gap)) most_gap_seconds touched f l h e g (gap_seconds s.gap k.gap_high) (not_met f.at l.at a b m)
 
 -- so a day that changes meets the time from the first of them to the last
-changed_readings : (s : StationRecord) (day : ℤ) (change : List Reading → List Reading) (touched : List Reading) (o p : Option Reading) → IsStation s → IsDay day → IsRising touched
+changed_readings : (s : StationState) (day : ℤ) (change : List Reading → List Reading) (touched : List Reading) (o p : Option Reading) → IsStation s → IsDay day → IsRising touched
     → Leaves change touched s.readings → same_inputs (station_day s day) (station_day (with_readings change s) day) ≡ false → first touched ≡ o → last touched ≡ p
     → IsTouchedDay s (between_readings o p) day
 changed_readings s day change touched None p k d h leaves n e g =
@@ -81,22 +81,22 @@ changed_readings s day change touched (Some f) (Some l) k d h leaves n e g = (
   λ t. absurd (cc),
 )
 
-pub put_day : (s : StationRecord) (day : ℤ) (rs : List Reading) → IsStation s → IsDay day → ArePutReadings rs
+pub put_day : (s : StationState) (day : ℤ) (rs : List Reading) → IsStation s → IsDay day → ArePutReadings rs
     → same_inputs (station_day s day) (station_day (with_readings (put_all rs) s) day) ≡ false → IsTouchedDay s (between_readings (first rs) (last rs)) day
 put_day s day rs k d l n =
     changed_readings s day (put_all rs) rs (first rs) (last rs) k d l.rising
     (λ a b gap o g far. far_put_leaves a b gap rs s.readings k.readings_are.rising o g far) n refl refl
 
-span_rises : (s : StationRecord) (from to : ℤ) → IsStation s → IsRising (in_span from to s.readings)
+span_rises : (s : StationState) (from to : ℤ) → IsStation s → IsRising (in_span from to s.readings)
 span_rises s from to k = filter_rises readings.instant_of (is_within from to) s.readings k.readings_are.rising
 
-pub drop_day : (s : StationRecord) (day from to : ℤ) → IsStation s → IsDay day
+pub drop_day : (s : StationState) (day from to : ℤ) → IsStation s → IsDay day
     → same_inputs (station_day s day) (station_day (with_readings (without_span from to) s) day) ≡ false → IsTouchedDay s (about_span from to s.readings) day
 drop_day s day from to k d n =
     changed_readings s day (without_span from to) (in_span from to s.readings) (first (in_span from to s.readings)) (last (in_span from to s.readings)) k d (span_rises s from to k)
     (λ a b gap o g far. far_drop_leaves a b gap from to s.readings k.readings_are.rising o g far) n refl refl
 
-pub flag_day : (s : StationRecord) (day from to : ℤ) (flag : Flag) → IsStation s → IsDay day
+pub flag_day : (s : StationState) (day from to : ℤ) (flag : Flag) → IsStation s → IsDay day
     → same_inputs (station_day s day) (station_day (with_readings (with_flag from to flag) s) day) ≡ false → IsTouchedDay s (about_span from to s.readings) day
 flag_day s day from to flag k d n =
     changed_readings s day (with_flag from to flag) (in_span from to s.readings) (first (in_span from to s.readings)) (last (in_span from to s.readings)) k d (span_rises s from to k)

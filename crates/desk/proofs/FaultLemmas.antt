@@ -1,14 +1,12 @@
 -- Each reply of the status 503 is that to an edit which a fault of the journal refused, and each such edit has one.
 use Rattle.std.specs.Prelude.{◌≡◌, ◌⊎◌, ℕ, ◌+◌, Bool, true, false, cond, List, [], ◌∷◌, ◌++◌, map, count_by, Option, Some, None, Result, Ok, Err}
 use Rattle.std.specs.Fmt.{digits}
-use Rattle.std.proofs.Common.{refl, ap, sym, subst, ◌∙◌, inl, inr, arith, append-nil}
+use Rattle.std.proofs.Common.{refl, ap, subst, ◌∙◌, inl, inr, arith}
 use Rattle.std.proofs.lemmas.List.Sums.{sum_by-cons}
 use Rattle.approval.specs.declared.status.Status.{Status}
 use Rattle.edits.specs.declared.content.Edit.{Edit}
-use Rattle.desk.specs.Passing.{fault_count}
 use Rattle.desk.specs.Replies.{AreReplies, Alone, Fails, IsAnswered, IsAnsweredBy, IsLeftBy, IsReplied, IsTold, day_reply, departure_reply, edit_reply, fault_reply, history_after, history_by, measurement_reply, memory_reply, reply_to, sheet_reply, station_reply, table_reply, tells_fault}
-use Rattle.desk.proofs.PassingLemmas.{Publishes, no_fault}
-use Rattle.desk.proofs.StretchLemmas.{fault_count-append}
+use Rattle.desk.proofs.PassingLemmas.{Publishes}
 use Rattle.desk.proofs.TurnLemmas.{publishes_turns}
 use Rattle.history.specs.After.{after_edit, after_fault, publication, reopen}
 use Rattle.history.specs.Awaited.{DayAnswer, pending_days}
@@ -27,11 +25,13 @@ use Rattle.http_api.specs.declared.asks.Denied.TheVariants as denials
 use Rattle.http_api.specs.declared.replies.Reply.TheVariants as replies
 use Rattle.measurements.specs.declared.departures.Departure.{Departure}
 use Rattle.records.specs.Sheets.{Record}
+use Rattle.office.proofs.CountLemmas.{fault_count-append, none_accepted, none_published, one_accepted, one_faulted}
 use Rattle.office.proofs.RefusedLemmas.{not_a_fault}
+use Rattle.office.specs.Counting.{fault_count}
 use Rattle.office_inputs.specs.declared.limits.Limits.{Limits}
 use Rattle.office_inputs.specs.declared.refusals.Refusal.{Refusal}
 use Rattle.office_inputs.specs.declared.refusals.Refusal.TheVariants as refusals
-use Rattle.station_inputs.specs.Stations.{StationRecord}
+use Rattle.station_inputs.specs.Stations.{StationState}
 use Rattle.wire.specs.declared.messages.Message.{Message}
 use Rattle.wire.specs.declared.messages.Message.TheVariants as messages
 use Rattle.wire.specs.declared.messages.Verb.TheVariants as verbs
@@ -88,7 +88,7 @@ plain_edit h edit (Repeats earlier) number is = refl
 plain_edit h edit (Refuses refusal) number is = plain_refused refusal (λ in_doubt. not_a_fault h edit refusal in_doubt is)
 plain_edit h edit Accepts number is = refl
 
-plain_station : (station : Option StationRecord) → tells_fault (station_reply station) ≡ false
+plain_station : (station : Option StationState) → tells_fault (station_reply station) ≡ false
 unfolding bytes_of digits
 plain_station None = refl
 plain_station (Some station) = refl
@@ -115,7 +115,7 @@ unfolding bytes_of digits
 plain_departure None = refl
 plain_departure (Some departure) = refl
 
-plain_measurement : (number : ℕ) (station : Option StationRecord) → tells_fault (measurement_reply number station) ≡ false
+plain_measurement : (number : ℕ) (station : Option StationState) → tells_fault (measurement_reply number station) ≡ false
 unfolding bytes_of digits
 plain_measurement number None = refl
 plain_measurement number (Some station) = plain_departure _
@@ -150,13 +150,12 @@ published_none : (h next : History) → Publishes h next → fault_count next.ev
 published_none h next publishes =
     let whole : fault_count next.events ≡ fault_count h.events + fault_count (map publication publishes.days) =
     ap (λ (x : History). fault_count x.events) publishes.after_is ∙ fault_count-append h.events (map publication publishes.days) in
-    omega (arith, whole, no_fault publishes.days)
+    omega (arith, whole, none_published publishes.days)
 
 pub edit_adds_none : (h : History) (edit : Edit) → fault_count (after_edit h edit).events ≡ fault_count h.events
 edit_adds_none h edit =
     let whole = fault_count-append h.events (Accepted (record_of h edit) ∷ []) in
-    let one : fault_count (Accepted (record_of h edit) ∷ []) ≡ 0 = refl in
-    omega (arith, whole, one)
+    omega (arith, whole, one_accepted (record_of h edit))
 
 accepted_none : (said : Verdict) (h : History) (edit : Edit) → fault_count (history_by said h edit).events ≡ fault_count h.events
 accepted_none (Repeats earlier) h edit = refl
@@ -167,8 +166,7 @@ accepted_none Accepts h edit = edit_adds_none h edit
 pub fault_adds_one : (h : History) (left : Option Record) → fault_count (after_fault h left).events ≡ fault_count h.events + 1
 fault_adds_one h left =
     let whole = fault_count-append h.events (Faulted left ∷ []) in
-    let one : fault_count (Faulted left ∷ []) ≡ 1 = refl in
-    omega (arith, whole, one)
+    omega (arith, whole, one_faulted left)
 
 own_none : (h : History) (ask : Ask) → fault_count (history_after h ask).events ≡ fault_count h.events
 own_none h (asks.Edit edit) = accepted_none (verdict h edit) h edit
@@ -301,6 +299,4 @@ pub all_opened : (limits : Limits) (pieces : List Record) (ms : List Message) (r
     → AreReplies Alone (reopen limits pieces) ms rs after → fault_count after.events ≡ count_by tells_fault rs
 all_opened limits pieces ms rs after is =
     let whole = all_told (reopen limits pieces) ms rs after is in
-    let none : fault_count (map Accepted pieces) ≡ 0 =
-    ap (λ (events : List Event). fault_count events) (sym (append-nil (map Accepted pieces))) ∙ count_reopened pieces [] in
-    omega (arith, whole, none)
+    omega (arith, whole, none_accepted pieces)

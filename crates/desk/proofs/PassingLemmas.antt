@@ -1,7 +1,7 @@
 -- What passes in the office while an ask is answered.
 use Rattle.std.proofs.Common.{◌≡◌, ℕ, ◌≤◌, Bool, true, false, List, [], ◌∷◌, ◌++◌, map, Option, IsSome, is_some, refl, sym, ◌∙◌, ap, subst, inl, append_assoc, append-nil, arith}
 use Rattle.std.proofs.lemmas.List.{map-append}
-use Rattle.desk.specs.Passing.{Passes, RoseBy, fault_count}
+use Rattle.desk.specs.Passing.{Passes, RoseBy}
 use Rattle.devices.specs.Faults.{Rose}
 use Rattle.devices.specs.declared.disks.Disk.{Ghosts}
 use Rattle.edits.specs.declared.content.Edit.{Edit}
@@ -11,6 +11,8 @@ use Rattle.history.specs.Events.{Event, Accepted, Faulted, History}
 use Rattle.history.specs.Verdicts.{record_of}
 use Rattle.journal.proofs.Moments.{started}
 use Rattle.journal.specs.Moments.{LeavesOnly}
+use Rattle.office.proofs.CountLemmas.{none_published}
+use Rattle.office.specs.Counting.{fault_count}
 use Rattle.office.specs.Stops.{IsLeft, IsLeftBefore, IsLeftBetween}
 use Rattle.office.specs.Edits.{IsRefusedBy, IsTaken}
 use Rattle.office_inputs.specs.declared.refusals.Refusal.{Refusal}
@@ -38,11 +40,6 @@ publishes_more h mid after first second = record {
       ∙ ap (λ (e : List Event). h.events ++ e) (sym (map-append publication first.days second.days)));
 }
 
--- no publication is a fault
-pub no_fault : (days : List SiteDay) → fault_count (map publication days) ≡ 0
-no_fault [] = refl
-no_fault (d ∷ days) = no_fault days
-
 left_now : (h : History) (behind : List Event) (image : List ℕ) → IsLeft h image → IsLeftBefore (go_on h []) behind image
 left_now h [] image is = subst (λ (x : History). IsLeft x image) (sym (go_on_none h)) is
 left_now h (e ∷ behind) image is = inl (subst (λ (x : History). IsLeft x image) (sym (go_on_none h)) is)
@@ -65,7 +62,7 @@ module _ {D : Type 0} (g : Ghosts D) where
   passes_published h after disk only stands days = record {
     since = map publication days.days;
     goes_on = days.after_is;
-    causes = let none : fault_count (map publication days.days) ≡ 0 = no_fault days.days in
+    causes = let none : fault_count (map publication days.days) ≡ 0 = none_published days.days in
         let least : RoseBy 0 (g.faults disk) (g.faults disk) = omega arith in
         subst (λ (n : ℕ). RoseBy n (g.faults disk) (g.faults disk)) (sym none) least;
     leaves = λ told.

@@ -1,11 +1,12 @@
 -- What passes in an office: nothing, and one stretch behind another.
-use Rattle.std.proofs.Common.{◌≡◌, inl, ℕ, ◌+◌, cond, List, [], ◌∷◌, ◌++◌, Option, Some, None, IsSome, is_some, refl, sym, ◌∙◌, ap, subst, append_assoc, append-nil, arith}
-use Rattle.desk.specs.Passing.{Passes, RoseBy, fault_count, is_fault}
+use Rattle.std.proofs.Common.{◌≡◌, inl, ℕ, ◌+◌, List, [], ◌∷◌, ◌++◌, Option, Some, None, IsSome, is_some, refl, sym, ◌∙◌, ap, subst, append_assoc, append-nil, arith}
+use Rattle.desk.specs.Passing.{Passes, RoseBy}
 use Rattle.devices.specs.declared.disks.Disk.{Ghosts}
 use Rattle.history.specs.After.{go_on}
 use Rattle.history.specs.Events.{Event, History}
 use Rattle.journal.proofs.Moments.{joined, started}
-use Rattle.std.proofs.lemmas.List.Sums.{sum_by-append}
+use Rattle.office.proofs.CountLemmas.{fault_count-append}
+use Rattle.office.specs.Counting.{fault_count}
 use Rattle.office.specs.Stops.{IsLeft, IsLeftBefore, IsLeftBetween}
 
 -- no event more
@@ -48,10 +49,6 @@ left_earlier h after first image left = record {
   after_is = left.after_is ∙ ap (λ (l : List Event). l ++ left.behind) (append_assoc h.events first left.since);
   left = subst (λ (at : History). IsLeftBefore at left.behind image) (went_on h first left.since) left.left;
 }
-
--- the faults of events and of others behind them
-pub fault_count-append : (events others : List Event) → fault_count (events ++ others) ≡ fault_count events + fault_count others
-fault_count-append events others = sum_by-append (λ (event : Event). cond (is_fault event) 1 0) events others
 
 rose_on : (m n k f0 f f' : ℕ) → k ≡ m + n → RoseBy m f0 f → RoseBy n f f' → RoseBy k f0 f'
 rose_on m n k f0 f f' is a b = omega (arith, is, a, b)

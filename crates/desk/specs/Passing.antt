@@ -1,20 +1,11 @@
 -- What passes in the office while messages are replied to.
-use Rattle.std.specs.Prelude.{◌≡◌, ℕ, ◌+◌, ◌-◌, ◌^◌, ◌≤◌, min, Bool, true, false, List, count_by, IsSome, is_some}
+use Rattle.std.specs.Prelude.{◌≡◌, ℕ, ◌+◌, ◌-◌, ◌^◌, ◌≤◌, min, List, IsSome, is_some}
 use Rattle.devices.specs.declared.disks.Disk.{Ghosts}
 use Rattle.history.specs.After.{go_on}
-use Rattle.history.specs.Events.{Event, Accepted, Published, Faulted, History}
+use Rattle.history.specs.Events.{Event, History}
 use Rattle.journal.specs.Moments.{LeavesOnly}
+use Rattle.office.specs.Counting.{fault_count}
 use Rattle.office.specs.Stops.{IsLeftBetween}
-
--- a fault of the journal
-abbrev pub is_fault : Event → Bool
-is_fault (Accepted piece) = false
-is_fault (Published site day) = false
-is_fault (Faulted left) = true
-
--- how many faults of the journal there were
-abbrev pub fault_count : List Event → ℕ
-fault_count events = count_by is_fault events
 
 -- the count of faults rose by so many, or stands at its type's end
 abbrev pub RoseBy : ℕ → ℕ → ℕ → Type 0

@@ -28,7 +28,7 @@ use Rattle.measurements.specs.Departures.{departure_of}
 use Rattle.measurements.specs.declared.departures.Departure.{Departure}
 use Rattle.office.specs.Edits.{IsFaulted}
 use Rattle.office_inputs.specs.Stations.{station_of}
-use Rattle.station_inputs.specs.Stations.{StationRecord}
+use Rattle.station_inputs.specs.Stations.{StationState}
 use Rattle.office_inputs.specs.declared.refusals.Refusal.TheVariants.{JournalFault}
 use Rattle.wire.specs.ReplyHead.{reply_bytes, status_line}
 use Rattle.wire.specs.declared.messages.Message.{Message}
@@ -52,7 +52,7 @@ history_by (Refuses refusal) h edit = h
 history_by Accepts h edit = after_edit h edit
 
 -- the reply for a station, and for a day of this status
-abbrev pub station_reply : Option StationRecord → List ℕ
+abbrev pub station_reply : Option StationState → List ℕ
 station_reply None = bytes_of replies.NoStation
 station_reply (Some station) = answer_bytes (station_text station)
 
@@ -90,7 +90,7 @@ abbrev pub departure_reply : Option Departure → List ℕ
 departure_reply None = bytes_of replies.NoMeasurement
 departure_reply (Some departure) = bytes_of (replies.Measurement departure)
 
-abbrev pub measurement_reply : ℕ → Option StationRecord → List ℕ
+abbrev pub measurement_reply : ℕ → Option StationState → List ℕ
 measurement_reply number None = bytes_of replies.NoStation
 measurement_reply number (Some station) = departure_reply (departure_of number station)
 

@@ -1,10 +1,10 @@
 //! What holds of the replies of every session.
 
 ghost use Rattle.std.specs.Prelude.{◌≡◌, ◌+◌, ℕ, List, All, count_by};
-ghost use Rattle.desk.specs.Passing.{fault_count};
 ghost use Rattle.desk.specs.Replies.{AreReplies, Alone, IsOwn, tells_fault};
 ghost use Rattle.history.specs.After.{reopen};
 ghost use Rattle.history.specs.Events.{History};
+ghost use Rattle.office.specs.Counting.{fault_count};
 ghost use Rattle.office_inputs.specs.declared.limits.Limits.{Limits};
 ghost use Rattle.records.specs.Sheets.{Record};
 ghost use Rattle.wire.specs.declared.messages.Message.{Message};

@@ -1,5 +1,5 @@
 -- Texts of the compact form are the printed tokens of their values.
-use Rattle.std.proofs.Common.{◌≡◌, ℕ, ◌+◌, ◌<◌, ◌≤◌, Bool, true, false, List, [], ◌∷◌, ◌++◌, length, take, drop, take-append-drop, get_or, fold, codes, Some, Ok, option_and_then, option_map, ℤ, refl, sym, ap, ◌∙◌, arith, append_assoc, append-nil}
+use Rattle.std.proofs.Common.{◌≡◌, ℕ, ◌+◌, ◌-◌, ◌<◌, ◌≤◌, Bool, true, false, List, [], ◌∷◌, ◌++◌, length, take, drop, take-append-drop, take-add, take_all, length-drop, get_or, fold, codes, Some, Ok, option_and_then, option_map, ℤ, refl, sym, ap, subst, ◌∙◌, arith, append_assoc, append-nil}
 use Rattle.std.proofs.lemmas.Grind.{flat_map-append}
 use Rattle.std.proofs.lemmas.List.{take_more}
 use Rattle.json.specs.Json.{Items, no_items, item}
@@ -32,6 +32,20 @@ escape_more bytes i below so_far this =
     ap escape more ∙ flat_map-append escape_byte (take i bytes) (get_or bytes i 0 ∷ [])
     ∙ ap (λ l. l ++ escape (get_or bytes i 0 ∷ [])) so_far
     ∙ ap (λ l. take i bytes ++ l) (append-nil (escape_byte (get_or bytes i 0)) ∙ this) ∙ sym more
+
+-- a block of plain bytes behind plain bytes
+pub block_more : (bytes block : List ℕ) (known more : ℕ) → known ≤ length bytes → more ≤ length (take (length bytes - known) (drop known bytes))
+    → block ≡ take more (take (length bytes - known) (drop known bytes)) → escape (take known bytes) ≡ take known bytes → escape block ≡ block
+    → (known + more ≤ length bytes) × (escape (take (known + more) bytes) ≡ take (known + more) bytes)
+block_more bytes block known more within enough same so_far own =
+    let behind = drop known bytes in
+    let all : take (length bytes - known) behind ≡ behind = take_all _ behind (omega (arith, length-drop known bytes)) in
+    let plain : escape (take more behind) ≡ take more behind = subst (λ l. escape l ≡ l) (same ∙ ap (λ l. take more l) all) own in
+    let parts = take-add known more bytes in (
+      omega (arith, length-drop known bytes, ap length all, within, enough),
+      ap escape parts ∙ flat_map-append escape_byte (take known bytes) (take more behind) ∙ ap (λ l. l ++ escape (take more behind)) so_far
+          ∙ ap (λ l. take known bytes ++ l) plain ∙ sym parts,
+    )
 
 pub quoted_whole : (text behind s rest end : List ℕ) → text ≡ 34 ∷ behind → behind ≡ s ++ rest → rest ≡ 34 ∷ end → escape s ≡ s → text ≡ quoted s ++ end
 quoted_whole text behind s rest end a b c plain =

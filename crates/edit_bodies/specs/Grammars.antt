@@ -5,13 +5,13 @@ use Rattle.civil_days.specs.Spelling.{day_of_text, stamp_of_text, only}
 use Rattle.curves.specs.Curve.{curve_of}
 use Rattle.edit_bodies.specs.Texts.{are_initials, is_reference, is_name, is_array}
 use Rattle.edit_bodies.specs.Zones.{is_zone}
-use Rattle.edits.specs.Lawful.{most_gap, most_readings, most_reviewed_days}
+use Rattle.edits.specs.Lawful.{most_readings, most_reviewed_days}
 use Rattle.edits.specs.declared.decisions.Decision.{Decision}
 use Rattle.edits.specs.declared.decisions.Decision.TheVariants.{Approve, Rescind}
 use Rattle.fixed_units.specs.Decimals.{decimal_of}
 use Rattle.edits.specs.declared.measurements.Grade.{Grade}
 use Rattle.edits.specs.declared.measurements.Grade.TheVariants.{Excellent, Good, Fair, Poor}
-use Rattle.fixed_units.specs.Quantities.{SiteNumber, is_amount, is_discharge, is_stage}
+use Rattle.fixed_units.specs.Quantities.{SiteNumber, is_amount, is_discharge, is_stage, most_gap, most_rating_number}
 use Rattle.fixed_units.specs.declared.readings.Flag.{Flag}
 use Rattle.fixed_units.specs.declared.readings.Flag.TheVariants.{Usable, Erroneous, Affected}
 use Rattle.fixed_units.specs.declared.readings.Reading.{Reading}
@@ -151,7 +151,7 @@ points_of value = option_and_then curve_if (option_and_then (each_of point_of) (
 
 -- the number of a rating
 abbrev pub rating_number_of : Data → Option ℕ
-rating_number_of value = option_and_then (kept_within 1 999_999) (whole_of value)
+rating_number_of value = option_and_then (kept_within 1 most_rating_number) (whole_of value)
 
 -- a discharge in millionths of a cubic foot per second
 abbrev pub discharge_of : Data → Option ℤ

@@ -160,7 +160,8 @@ fn quoted_in<'a>(text: &'a str) -> Option<(&'a str, &'a str)>
 fn plain_len(bytes: &[u8]) -> usize
     ensures plain { escape (take result bytes.now) ≡ take result bytes.now }
 {
-    let mut count = 0;
+    let count = plain_blocks::<16>(bytes, 0);
+    let mut count = plain_blocks::<4>(bytes, count);
     while count < bytes.len() {
         if !is_plain(bytes[count]) {
             return count;
@@ -170,18 +171,44 @@ fn plain_len(bytes: &[u8]) -> usize
     count
 }
 
+/// How many bytes at the front a string has as they stand, where so many are known and the further ones are taken in whole blocks.
+#[inline(always)]
+fn plain_blocks<const N: usize>(bytes: &[u8], known: usize) -> usize
+    requires some { 0 < N }
+    requires few { N ≤ 16 }
+    requires within { known ≤ length bytes.now }
+    requires plain { escape (take known bytes.now) ≡ take known bytes.now }
+    ensures within { result ≤ length bytes.now }
+    ensures plain { escape (take result bytes.now) ≡ take result bytes.now }
+{
+    let mut count = known;
+    while let Some(block) = bytes[count..].first_chunk::<N>() {
+        if !are_plain(block) {
+            return count;
+        }
+        count += N;
+    }
+    count
+}
+
+/// Whether each byte of a block stands for itself in a string. Each is asked, so that they can be asked side by side.
+#[inline(always)]
+fn are_plain<const N: usize>(block: &[u8; N]) -> bool
+    ensures { OnTrue result (escape block.now ≡ block.now) }
+{
+    let mut plain = true;
+    for byte in block {
+        plain &= is_plain(*byte);
+    }
+    plain
+}
+
 /// Whether a byte stands for itself in a string: it is no quote, no backslash and no control.
 #[inline(always)]
 fn is_plain(byte: u8) -> bool
     ensures { OnTrue result (escape_byte byte ≡ byte ∷ []) }
 {
-    if byte == b'"' {
-        return false;
-    }
-    if byte == b'\\' {
-        return false;
-    }
-    32 <= byte
+    (byte != b'"') & (byte != b'\\') & (32 <= byte)
 }
 
 /// What is behind a byte, where it stands at the front.

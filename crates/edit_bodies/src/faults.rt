@@ -13,6 +13,6 @@ pub enum BodyFault {
     #[error("the member {0} is missing, ill formed or too many")]
     Body(Member),
     /// There was no memory for the edit.
-    #[error("there was no memory for the edit of a body")]
+    #[error("there is no memory for the edit of a body")]
     NoMemory,
 }

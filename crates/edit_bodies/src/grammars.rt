@@ -6,9 +6,9 @@ ghost use Rattle.edit_bodies.specs.Grammars.{array_of, by_of, gap_of, instant_of
 ghost use Rattle.edit_bodies.specs.Members.{member_text, required};
 ghost use Rattle.edit_bodies.specs.Texts.{is_name};
 ghost use Rattle.edit_bodies.specs.Trees.{left, stated};
-ghost use Rattle.edits.specs.Lawful.{IsGap, IsSetNumber, IsStationZone, most_gap};
+ghost use Rattle.edits.specs.Lawful.{IsGap, IsSetNumber, IsStationZone};
 ghost use Rattle.edits.specs.Texts.{IsName};
-ghost use Rattle.fixed_units.specs.Quantities.{IsStamp};
+ghost use Rattle.fixed_units.specs.Quantities.{IsStamp, most_gap};
 ghost use Rattle.fixed_units.specs.RoundingArray.{IsRoundingArray};
 ghost use Rattle.serde_json.specs.Find.{as_bool, as_str, get_member};
 

@@ -6,6 +6,7 @@ ghost use Rattle.edit_bodies.specs.Grammars.{each_of, kept_within, rating_number
 ghost use Rattle.edit_bodies.specs.Members.{member_text, required};
 ghost use Rattle.edit_bodies.specs.Trees.{items_stated, left, stated};
 ghost use Rattle.edits.specs.Lawful.{IsRatingNumber};
+ghost use Rattle.fixed_units.specs.Quantities.{most_rating_number};
 ghost use Rattle.rating_tables.specs.Table.{IsRating};
 ghost use Rattle.serde_json.specs.Find.{get_member};
 
@@ -39,7 +40,7 @@ fn rating_number_at(fields: &Fields<'_>) -> Option<u32>
 
 /// The rating of this number, or `None` exactly where there is none.
 pub fn rating_number_from(number: u64) -> Option<u32>
-    ensures value { result ≡ kept_within 1 999_999 number }
+    ensures value { result ≡ kept_within 1 most_rating_number number }
     ensures number { IfSome result IsRatingNumber }
 {
     let rating = u32::try_from(number).ok()?;

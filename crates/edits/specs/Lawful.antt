@@ -7,7 +7,7 @@ use Rattle.edits.specs.declared.content.What.{What}
 use Rattle.edits.specs.declared.content.What.TheVariants.{AddStation, SetStation, PutReadings, DropReadings, FlagReadings, PutCorrection, DropCorrection, PutShift, DropShift, AddRating, PutPeriod, DropPeriod, PutEstimate, DropEstimate, PutMeasurement, DropMeasurement, Review, Decide}
 use Rattle.edits.specs.declared.estimates.Estimate.{Estimate}
 use Rattle.edits.specs.declared.measurements.Measurement.{Measurement}
-use Rattle.fixed_units.specs.Quantities.{IsAmount, IsDay, IsDischarge, IsStage, IsStamp}
+use Rattle.fixed_units.specs.Quantities.{IsAmount, IsDay, IsDischarge, IsStage, IsStamp, most_gap, most_rating_number}
 use Rattle.fixed_units.specs.RoundingArray.{IsRoundingArray}
 use Rattle.fixed_units.specs.declared.readings.Reading.{Reading}
 use Rattle.readings.specs.Readings.{IsRising}
@@ -16,9 +16,6 @@ use Rattle.ratings.specs.Spans.{Span, EndsLater}
 use Rattle.rising.specs.Lists as lists
 
 -- a gap tolerance is 1 to 720 minutes
-abbrev pub most_gap : ℕ
-most_gap = 720
-
 pub record IsGap (gap : ℕ) : Type 0 where
   pub low : 1 ≤ gap
   pub high : gap ≤ most_gap
@@ -77,7 +74,7 @@ pub record IsPutCurve (points : List (ℤ × ℤ)) : Type 0 where
 -- the number of a rating: 1 to 999,999
 pub record IsRatingNumber (rating : ℕ) : Type 0 where
   pub least : 1 ≤ rating
-  pub greatest : rating ≤ 999_999
+  pub greatest : rating ≤ most_rating_number
 
 -- a period that is put: of a rating, from a stamp until a later one, or without end
 pub record IsPutPeriod (period : Span) : Type 0 where

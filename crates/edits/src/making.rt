@@ -17,8 +17,8 @@ use crate::senders::{By, Ref};
 use civil_days::{StationZone, ZoneFault};
 use curves::Curve;
 use fixed_units::{
-    Day, Micro, NoMemory, Reading, RoundingArray, Second, Site, is_amount, is_discharge, is_stage,
-    is_stamp,
+    Day, MOST_GAP, MOST_RATING_NUMBER, Micro, NoMemory, Reading, RoundingArray, Second, Site,
+    is_amount, is_discharge, is_stage, is_stamp,
 };
 use ratings::{Period, SharedTable};
 use std::alloc::Global;
@@ -141,7 +141,7 @@ pub fn are_settings(name: &[u8], gap: u32, stage_array: &[u8], discharge_array: 
 pub fn is_gap(gap: u32) -> bool
     ensures { result ≡ true ↔ IsGap gap }
 {
-    (1..=720).contains(&gap)
+    (1..=MOST_GAP).contains(&gap)
 }
 
 /// Whether the text is a name, and the zone of a station. `NoMemory` comes only where it is.
@@ -245,7 +245,7 @@ pub fn is_put_point(point: &(Micro, Micro)) -> bool
 pub fn is_rating_number(rating: u32) -> bool
     ensures { result ≡ true ↔ IsRatingNumber rating }
 {
-    (1..=999_999).contains(&rating)
+    (1..=MOST_RATING_NUMBER).contains(&rating)
 }
 
 /// Whether an edit may add the rating of a number and a table.

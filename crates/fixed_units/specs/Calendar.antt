@@ -7,6 +7,13 @@ unfoldable pub days_from : ℤ → ℕ → List ℤ
 days_from day zero = []
 days_from day (suc n) = day ∷ days_from (day +ℤ pos 1) n
 
+-- a day has 20 to 28 hours, in seconds
+abbrev pub shortest_day : ℕ
+shortest_day = 72_000
+
+abbrev pub longest_day : ℕ
+longest_day = 100_800
+
 -- how many days the calendar has
 abbrev pub days_of_calendar : ℕ
 days_of_calendar = 73_049

@@ -85,6 +85,14 @@ IsAmount n = IsWithin (neg_ℤ (pos most_amount)) (pos most_amount) n
 abbrev pub is_amount : ℤ → Bool
 is_amount n = is_within (neg_ℤ (pos most_amount)) (pos most_amount) n
 
+-- the greatest gap tolerance, in minutes
+abbrev pub most_gap : ℕ
+most_gap = 720
+
+-- the greatest number of a rating
+abbrev pub most_rating_number : ℕ
+most_rating_number = 999_999
+
 -- a site number, as contracts see it
 pub record SiteNumber : Type 0 where
   pub digits : ℕ

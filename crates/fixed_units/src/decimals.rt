@@ -13,13 +13,13 @@ use thiserror::Error;
 #[derive(Clone, Copy, Debug, PartialEq, Eq, Error)]
 pub enum Bad {
     /// The text is not a sign and digits with at most one point.
-    #[error("not a number")]
+    #[error("the text is no number")]
     NotANumber,
     /// More than six digits follow the point.
-    #[error("more than six decimals")]
+    #[error("the number has more than six decimals")]
     TooManyDecimals,
     /// The magnitude is over 10,000,000.
-    #[error("out of range")]
+    #[error("the number is out of range")]
     OutOfRange,
 }
 

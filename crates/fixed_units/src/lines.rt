@@ -141,5 +141,5 @@ fn quantity(millionths: i128) -> Micro
     requires { IsMicro millionths }
     ensures { result ≡ millionths }
 {
-    Micro::new(millionths as i64).unwrap()
+    Micro::of_millionths(millionths as i64)
 }

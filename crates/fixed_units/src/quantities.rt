@@ -50,6 +50,14 @@ impl Micro {
         }
     }
 
+    /// The quantity of that many millionths, which are in range: nothing is tested.
+    pub fn of_millionths(value: i64) -> Micro
+        requires { IsMicro value }
+        ensures { result ≡ value }
+    {
+        Micro { millionths: value }
+    }
+
     /// The quantity of a sign and a magnitude of at most 10^13 millionths.
     pub(crate) fn of_magnitude(negative: bool, magnitude: u64) -> Micro
         requires { magnitude ≤ most_stated }
@@ -100,6 +108,14 @@ impl Second {
         } else {
             None
         }
+    }
+
+    /// The instant of that many seconds, which are in range: nothing is tested.
+    pub fn of_seconds(value: i64) -> Second
+        requires { IsSecond value }
+        ensures { result ≡ value }
+    {
+        Second { seconds: value }
     }
 
     /// The number of seconds.

@@ -9,6 +9,18 @@ pub const FIRST_STAMP: i64 = -2_208_816_000;
 /// The last stamp in seconds, 2099-12-28T23:59:59Z.
 pub const LAST_STAMP: i64 = 4_102_185_599;
 
+/// The shortest day that a zone may have in seconds: 20 hours.
+pub const SHORTEST_DAY: i32 = 72_000;
+
+/// The longest day that a zone may have in seconds: 28 hours.
+pub const LONGEST_DAY: i32 = 100_800;
+
+/// The greatest gap tolerance in minutes.
+pub const MOST_GAP: u32 = 720;
+
+/// The greatest number of a rating.
+pub const MOST_RATING_NUMBER: u32 = 999_999;
+
 /// The greatest magnitude of a stage: 100,000 feet in millionths.
 const MOST_STAGE: i64 = 100_000_000_000;
 

@@ -64,8 +64,8 @@ fn small_magnitude(num: u64, den: u64) -> u64
 }
 
 /// A number near to `num / den`, by one division of floating point, which processors do faster than one of whole numbers of 64 bits.
-/// Nothing is promised of it, so it must be tested: it is 0 for numbers that a double does not hold exactly, and for 0 / 0. Signed numbers
-/// of 64 bits are made doubles in one step, and both are small enough.
+/// Nothing is promised of it, so it must be tested: it is 0 for a `num` above 2^53 and for 0 / 0, and far off for a quotient of 2^52 or
+/// more. Signed numbers of 64 bits are made doubles in one step, and both are small enough.
 fn near_quotient(num: u64, den: u64) -> u64
     requires { den ≤ 2 ^ 31 }
 {

@@ -8,7 +8,7 @@ use thiserror::Error;
 
 /// There was no memory for what was asked.
 #[derive(Clone, Copy, Debug, PartialEq, Eq, Error)]
-#[error("out of memory")]
+#[error("there is no memory for the text")]
 pub struct NoMemory;
 
 impl From<AllocError> for NoMemory {

@@ -11,7 +11,7 @@ use thiserror::Error;
 
 /// There was no memory for a column's room, or no block is as large.
 #[derive(Clone, Copy, Debug, PartialEq, Eq, Error)]
-#[error("no memory for a column")]
+#[error("there is no memory for a column")]
 pub struct NoMemory;
 
 impl From<AllocError> for NoMemory {

@@ -32,7 +32,7 @@ use Rattle.office_inputs.specs.Changes.{keeps_day}
 use Rattle.office_inputs.specs.Stations.{inputs_of_day, stations_of}
 use Rattle.office_inputs.specs.declared.limits.Limits.{Limits}
 use Rattle.records.specs.Sheets.{Record}
-use Rattle.station_inputs.specs.Stations.{StationRecord}
+use Rattle.station_inputs.specs.Stations.{StationState}
 
 -- where no day of the calendar passes a test, none does
 none_step : (b : Bool) (x : ℤ) (found : Option ℤ) (any : Bool) → cond b (Some x) found ≡ None → (found ≡ None → any ≡ false) → (b || any) ≡ false
@@ -104,7 +104,7 @@ module _ (limits : Limits) (site : SiteNumber) (day : ℤ) (is : IsDay day) wher
   pub inputs_step : (events : List Event) (piece : Record) → MayBeKept limits events piece → is_approved (status_at events site day) ≡ true
       → inputs_at (events ++ Accepted piece ∷ []) site day ≡ inputs_at events site day
   inputs_step events piece m approved =
-      ap (λ (l : List StationRecord). inputs_of_day l site day) (stations_accepted events piece)
+      ap (λ (l : List StationState). inputs_of_day l site day) (stations_accepted events piece)
       ∙ unchanged_day (stations_at events) piece.edit site day (unlocked_step events piece (same_site piece.edit.site site) refl m approved)
 
   -- what stays of an approved day

@@ -9,7 +9,7 @@ use Rattle.history.specs.Accepted.{accepted, edit_of, edits_of, stations_at, cha
 use Rattle.history.specs.Awaited.{awaited_back, awaited, is_day_of}
 use Rattle.history.specs.Events.{Event, Accepted, Published, Faulted}
 use Rattle.office_inputs.specs.Stations.{stations_of, stations_after}
-use Rattle.station_inputs.specs.Stations.{StationRecord}
+use Rattle.station_inputs.specs.Stations.{StationState}
 use Rattle.records.specs.Sheets.{Record}
 
 pub accepted-append : (xs ys : List Event) → accepted (xs ++ ys) ≡ accepted xs ++ accepted ys

@@ -10,7 +10,7 @@ use Rattle.history.specs.Events.{Event, Accepted, Published, Faulted}
 use Rattle.history.proofs.EventLemmas.{accepted-append, stations_accepted, accepted_published, accepted_faulted}
 use Rattle.history.proofs.StationLemmas.{unchanged_day}
 use Rattle.office_inputs.specs.Stations.{stations_of, inputs_of_day}
-use Rattle.station_inputs.specs.Stations.{StationRecord}
+use Rattle.station_inputs.specs.Stations.{StationState}
 use Rattle.records.specs.Sheets.{Record}
 
 module _ (site : SiteNumber) (day : ℤ) where
@@ -42,7 +42,7 @@ module _ (site : SiteNumber) (day : ℤ) where
       → inputs_of_day (stations_at (reverse back ++ Accepted piece ∷ [])) site day ≡ inputs_back older
   accepted_step true back older piece edit e h l rec = let k : length (accepted back) + 1 ≡ edit = cc in absurd (omega arith)
   accepted_step false back older piece edit e h l rec =
-      ap (λ (s : List StationRecord). inputs_of_day s site day) (stations_accepted (reverse back) piece)
+      ap (λ (s : List StationState). inputs_of_day s site day) (stations_accepted (reverse back) piece)
       ∙ unchanged_day (stations_at (reverse back)) piece.edit site day e ∙ rec h
 
   stay : (newer older : List Event) (edit : ℕ) → edit ≤ length (accepted older) → awaited_back (newer ++ older) site day ≡ Some edit

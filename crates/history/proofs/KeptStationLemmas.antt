@@ -24,7 +24,7 @@ use Rattle.office_inputs.proofs.LawLemmas.{kept_stays}
 use Rattle.office_inputs.proofs.RefusalLemmas.{accepted as not_refused}
 use Rattle.records.specs.Sheets.{Record}
 use Rattle.rising.specs.Lists.{at}
-use Rattle.station_inputs.specs.Stations.{StationRecord}
+use Rattle.station_inputs.specs.Stations.{StationState}
 
 needed : (adds kept : Bool) → (not adds && not kept) ≡ false → adds ≡ false → kept ≡ true
 needed true kept e f = absurd (cc)
@@ -52,7 +52,7 @@ module _ (limits : Limits) (site : SiteNumber) (day : ℤ) where
   station_stays : (events : List Event) (piece : Record) → is_some (station_of (stations_at events) site) ≡ true
       → is_some (station_of (stations_at (events ++ Accepted piece ∷ [])) site) ≡ true
   station_stays events piece k =
-      ap (λ (ss : List StationRecord). is_some (station_of ss site)) (stations_accepted events piece) ∙ kept_stays (stations_at events) piece.edit site k
+      ap (λ (ss : List StationState). is_some (station_of ss site)) (stations_accepted events piece) ∙ kept_stays (stations_at events) piece.edit site k
 
   behind_edit : (events : List Event) (piece : Record) (b : Bool) → same_site piece.edit.site site ≡ b → MayBeKept limits events piece → HasStation events
       → HasStation (events ++ Accepted piece ∷ [])

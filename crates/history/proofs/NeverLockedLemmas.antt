@@ -17,24 +17,24 @@ use Rattle.office_inputs.specs.Refusals.{adds_station}
 use Rattle.office_inputs.specs.Stations.{inputs_of_day, station_of, stations_after, with_changed}
 use Rattle.office_inputs.specs.declared.refusals.Refusal.TheVariants.{Locked}
 use Rattle.office_inputs.proofs.KeepLemmas.{change_told, only_changed}
-use Rattle.station_inputs.specs.Stations.{StationRecord, station_after, station_day}
+use Rattle.station_inputs.specs.Stations.{StationState, station_after, station_day}
 
 itself : (inputs : DayInputs) → same_inputs inputs inputs ≡ true
 itself inputs = (Decides-same_inputs inputs inputs).1 refl
 
 -- an edit that leaves every station as it is keeps every day
-keeps_by : (stations : List StationRecord) (edit : Edit) (day : ℤ) (o : Option StationRecord) → station_of stations edit.site ≡ o → adds_station edit.what ≡ false
-    → ((s : StationRecord) → station_after edit.what s ≡ s) → keeps_day stations edit day ≡ true
+keeps_by : (stations : List StationState) (edit : Edit) (day : ℤ) (o : Option StationState) → station_of stations edit.site ≡ o → adds_station edit.what ≡ false
+    → ((s : StationState) → station_after edit.what s ≡ s) → keeps_day stations edit day ≡ true
 keeps_by stations edit day None e a same =
     let left : stations_after stations edit ≡ stations =
-    only_changed edit.site edit.what stations a ∙ ap (λ (o : Option StationRecord). with_changed (station_after edit.what) o stations) e in
-    ap (λ (ss : List StationRecord). same_inputs (inputs_of_day stations edit.site day) (inputs_of_day ss edit.site day)) left
+    only_changed edit.site edit.what stations a ∙ ap (λ (o : Option StationState). with_changed (station_after edit.what) o stations) e in
+    ap (λ (ss : List StationState). same_inputs (inputs_of_day stations edit.site day) (inputs_of_day ss edit.site day)) left
     ∙ itself (inputs_of_day stations edit.site day)
 keeps_by stations edit day (Some s) e a same =
-    sym (change_told stations edit s day a e) ∙ ap (λ (t : StationRecord). same_inputs (station_day s day) (station_day t day)) (same s)
+    sym (change_told stations edit s day a e) ∙ ap (λ (t : StationState). same_inputs (station_day s day) (station_day t day)) (same s)
     ∙ itself (station_day s day)
 
-never : (h : History) (edit : Edit) (day : ℤ) → adds_station edit.what ≡ false → ((s : StationRecord) → station_after edit.what s ≡ s)
+never : (h : History) (edit : Edit) (day : ℤ) → adds_station edit.what ≡ false → ((s : StationState) → station_after edit.what s ≡ s)
     → verdict h edit ≡ Refuses (Locked day) → ⊥
 never h edit day a same v =
     let kept = keeps_by (stations_at h.events) edit day (station_of (stations_at h.events) edit.site) refl a same in

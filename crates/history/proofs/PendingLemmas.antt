@@ -24,7 +24,7 @@ use Rattle.history.proofs.SpanLemmas.{span_more, none_ever_changed, stations_mor
 use Rattle.history.proofs.StationLemmas.{places_equal, places_apart, found_passes, found_place, same_station, kept_other, station_stays, changed_has_station}
 use Rattle.office_inputs.specs.Changes.{keeps_day, changed_days}
 use Rattle.office_inputs.specs.Stations.{added, place_of, station_of, stations_of, stations_after, with_added, with_changed}
-use Rattle.station_inputs.specs.Stations.{StationRecord, station_after}
+use Rattle.station_inputs.specs.Stations.{StationState, station_after}
 use Rattle.records.specs.Sheets.{Record}
 use Rattle.rising.specs.Lists.{IsRising, at, put}
 use Rattle.rising.proofs.Placing.{put_rises}
@@ -43,17 +43,17 @@ calendar_days =
     All-weaker (IsAmong first_day days_of_calendar) IsDay (λ d h. is_day d h) (days_from first_day days_of_calendar) (days_are first_day days_of_calendar)
 
 -- stations that rise still do after an edit
-changed_rise : (change : StationRecord → StationRecord) (found : Option StationRecord) (stations : List StationRecord) → IsRising place_of stations
+changed_rise : (change : StationState → StationState) (found : Option StationState) (stations : List StationState) → IsRising place_of stations
     → IsRising place_of (with_changed change found stations)
 changed_rise change None stations h = h
 changed_rise change (Some s) stations h = put_rises place_of (change s) stations h
 
-added_rises : (site : SiteNumber) (what : What) (o : Option StationRecord) (stations : List StationRecord) → IsRising place_of stations
+added_rises : (site : SiteNumber) (what : What) (o : Option StationState) (stations : List StationState) → IsRising place_of stations
     → IsRising place_of (with_added site what o stations)
 added_rises site what None stations h = changed_rise (station_after what) (station_of stations site) stations h
 added_rises site what (Some s) stations h = put_rises place_of s stations h
 
-pub stations_rise_after : (stations : List StationRecord) (edit : Edit) → IsRising place_of stations → IsRising place_of (stations_after stations edit)
+pub stations_rise_after : (stations : List StationState) (edit : Edit) → IsRising place_of stations → IsRising place_of (stations_after stations edit)
 stations_rise_after stations edit h = added_rises edit.site edit.what (added edit.site edit.what) stations h
 
 -- what is awaited hangs on where the site stands
@@ -84,8 +84,8 @@ pub pending_by : (events : List Event) (a b : SiteNumber) → site_place a ≡ s
 pending_by events a b e =
     ap (λ (days : List ℤ). length days) (filter_agree (is_pending events a) (is_pending events b) (λ d. ap (λ (o : Option ℕ). is_some o) (awaited_back_by (reverse events) a b d e)) calendar)
 
-at_number : (stations : List StationRecord) (s : StationRecord) (n : ℤ) → at place_of n stations ≡ Some s → place_of s ≡ n
-at_number stations s n h = (Decides-int_eq (place_of s) n).0 (found_passes (λ (t : StationRecord). int_eq (place_of t) n) stations s h)
+at_number : (stations : List StationState) (s : StationState) (n : ℤ) → at place_of n stations ≡ Some s → place_of s ≡ n
+at_number stations s n h = (Decides-int_eq (place_of s) n).0 (found_passes (λ (t : StationState). int_eq (place_of t) n) stations s h)
 
 some_cond : (b : Bool) (n : ℕ) (o : Option ℕ) → is_some (cond b (Some n) o) ≡ (b || is_some o)
 some_cond true n o = refl
@@ -96,13 +96,13 @@ published_some true o h = absurd (false≢true h)
 published_some false o h = h
 
 -- a sum over the stations with one edit more, of a number that hangs on the site
-module _ (stations : List StationRecord) (edit : Edit) (f g : SiteNumber → ℕ)
+module _ (stations : List StationState) (edit : Edit) (f g : SiteNumber → ℕ)
     (f_by : (a b : SiteNumber) → site_place a ≡ site_place b → f a ≡ f b) (g_by : (a b : SiteNumber) → site_place a ≡ site_place b → g a ≡ g b)
     (others : (site : SiteNumber) → same_site edit.site site ≡ false → g site ≡ f site)
     (none_before : (site : SiteNumber) → is_some (station_of stations site) ≡ false → f site ≡ 0)
     (none_after : is_some (station_of (stations_after stations edit) edit.site) ≡ false → g edit.site ≡ f edit.site) where
-  kept_at : (n : ℤ) (old new : Option StationRecord) → at place_of n stations ≡ old → at place_of n (stations_after stations edit) ≡ new
-      → given 0 (λ (s : StationRecord). f s.site) new ≡ given 0 (λ (s : StationRecord). f s.site) old
+  kept_at : (n : ℤ) (old new : Option StationState) → at place_of n stations ≡ old → at place_of n (stations_after stations edit) ≡ new
+      → given 0 (λ (s : StationState). f s.site) new ≡ given 0 (λ (s : StationState). f s.site) old
   kept_at n None None e k = refl
   kept_at n (Some s) (Some t) e k = f_by t.site s.site (at_number (stations_after stations edit) t n k ∙ sym (at_number stations s n e))
   kept_at n None (Some t) e k = none_before t.site (ap is_some (ap (λ m. at place_of m stations) (at_number (stations_after stations edit) t n k) ∙ e))
@@ -112,25 +112,25 @@ module _ (stations : List StationRecord) (edit : Edit) (f g : SiteNumber → ℕ
       ap is_some (ap (λ m. at place_of m (stations_after stations edit)) (at_number stations s n e) ∙ k) in
       absurd (false≢true (sym gone ∙ station_stays stations edit s.site here))
 
-  kept_sum : IsRising place_of stations → sum_by (λ (s : StationRecord). f s.site) (stations_after stations edit) ≡ sum_by (λ (s : StationRecord). f s.site) stations
+  kept_sum : IsRising place_of stations → sum_by (λ (s : StationState). f s.site) (stations_after stations edit) ≡ sum_by (λ (s : StationState). f s.site) stations
   kept_sum h =
-      merged_sums place_of place_of (λ (s : StationRecord). f s.site) (λ (s : StationRecord). f s.site) (stations_after stations edit) stations
+      merged_sums place_of place_of (λ (s : StationState). f s.site) (λ (s : StationState). f s.site) (stations_after stations edit) stations
       (stations_rise_after stations edit h) h (λ n. kept_at n (at place_of n stations) (at place_of n (stations_after stations edit)) refl refl)
 
-  elsewhere : (s : StationRecord) → (place_of s ≡ site_place edit.site → ⊥) → g s.site ≡ f s.site
+  elsewhere : (s : StationState) → (place_of s ≡ site_place edit.site → ⊥) → g s.site ≡ f s.site
   elsewhere s apart = others s.site (false_from_ne_true (same_site edit.site s.site) (λ t. apart (sym (places_equal edit.site s.site t))))
 
-  sum_step : IsRising place_of stations → (found : Option StationRecord) → station_of (stations_after stations edit) edit.site ≡ found
-      → sum_by (λ (s : StationRecord). g s.site) (stations_after stations edit) + f edit.site ≡ sum_by (λ (s : StationRecord). f s.site) stations + g edit.site
+  sum_step : IsRising place_of stations → (found : Option StationState) → station_of (stations_after stations edit) edit.site ≡ found
+      → sum_by (λ (s : StationState). g s.site) (stations_after stations edit) + f edit.site ≡ sum_by (λ (s : StationState). f s.site) stations + g edit.site
   sum_step h None e =
-      let kept = sums_kept place_of (λ (s : StationRecord). f s.site) (λ (s : StationRecord). g s.site) (site_place edit.site) elsewhere (stations_after stations edit) e in
+      let kept = sums_kept place_of (λ (s : StationState). f s.site) (λ (s : StationState). g s.site) (site_place edit.site) elsewhere (stations_after stations edit) e in
       let same = none_after (ap is_some e) in
       let sum = kept_sum h in
       omega (arith, kept, same, sum)
   sum_step h (Some s) e =
       let place = found_place (stations_after stations edit) edit.site s e in
       let swapped =
-      sums_swapped place_of (λ (s : StationRecord). f s.site) (λ (s : StationRecord). g s.site) (site_place edit.site) elsewhere (stations_after stations edit) s
+      sums_swapped place_of (λ (s : StationState). f s.site) (λ (s : StationState). g s.site) (site_place edit.site) elsewhere (stations_after stations edit) s
       (stations_rise_after stations edit h) e in
       let a = f_by s.site edit.site place in
       let b = g_by s.site edit.site place in
@@ -138,7 +138,7 @@ module _ (stations : List StationRecord) (edit : Edit) (f g : SiteNumber → ℕ
       omega (arith, swapped, a, b, sum)
 
   pub sum_after : IsRising place_of stations
-      → sum_by (λ (s : StationRecord). g s.site) (stations_after stations edit) + f edit.site ≡ sum_by (λ (s : StationRecord). f s.site) stations + g edit.site
+      → sum_by (λ (s : StationState). g s.site) (stations_after stations edit) + f edit.site ≡ sum_by (λ (s : StationState). f s.site) stations + g edit.site
   sum_after h = sum_step h (station_of (stations_after stations edit) edit.site) refl
 
 -- a pending day is one of a station
@@ -151,7 +151,7 @@ pending_back_has_station (Accepted piece ∷ back) site day h =
     ap stations_at (reverse-append (Accepted piece ∷ []) back) ∙ stations_accepted (reverse back) piece in
     let split : (changes (stations_at (reverse back)) piece.edit site day || is_some (awaited_back back site day)) ≡ true =
     sym (some_cond (changes (stations_at (reverse back)) piece.edit site day) (length (accepted back) + 1) (awaited_back back site day)) ∙ h in
-    ap (λ (s : List StationRecord). is_some (station_of s site)) turn
+    ap (λ (s : List StationState). is_some (station_of s site)) turn
     ∙ elim (or_cases (changes (stations_at (reverse back)) piece.edit site day) (is_some (awaited_back back site day)) split) [
       | inl y ↦ changed_has_station (stations_at (reverse back)) piece.edit site day y
       | inr y ↦ station_stays (stations_at (reverse back)) piece.edit site (pending_back_has_station back site day y)
@@ -160,13 +160,13 @@ pending_back_has_station (Published own its ∷ back) site day h =
     let turn : stations_at (reverse (Published own its ∷ back)) ≡ stations_at (reverse back) =
     ap stations_at (reverse-append (Published own its ∷ []) back)
     ∙ ap (λ (ps : List Record). stations_of (map edit_of ps)) (accepted_published (reverse back) own its) in
-    ap (λ (s : List StationRecord). is_some (station_of s site)) turn
+    ap (λ (s : List StationState). is_some (station_of s site)) turn
     ∙ pending_back_has_station back site day (published_some (is_day_of own its site day) (awaited_back back site day) h)
 pending_back_has_station (Faulted doubt ∷ back) site day h =
     let turn : stations_at (reverse (Faulted doubt ∷ back)) ≡ stations_at (reverse back) =
     ap stations_at (reverse-append (Faulted doubt ∷ []) back)
     ∙ ap (λ (ps : List Record). stations_of (map edit_of ps)) (accepted_faulted (reverse back) doubt) in
-    ap (λ (s : List StationRecord). is_some (station_of s site)) turn ∙ pending_back_has_station back site day h
+    ap (λ (s : List StationState). is_some (station_of s site)) turn ∙ pending_back_has_station back site day h
 
 pub pending_has_station : (events : List Event) (site : SiteNumber) (day : ℤ) → is_pending events site day ≡ true → is_some (station_of (stations_at events) site) ≡ true
 pending_has_station events site day h =
@@ -187,10 +187,10 @@ not_none None = refl
 not_none (Some a) = refl
 
 -- the pending days by station
-pub pending_sum : (events : List Event) → length (pending_days events) ≡ sum_by (λ (s : StationRecord). pending_at events s.site) (stations_at events)
+pub pending_sum : (events : List Event) → length (pending_days events) ≡ sum_by (λ (s : StationState). pending_at events s.site) (stations_at events)
 pending_sum events =
     length-flat_map (pending_of events) (stations_at events)
-    ∙ sums_same (λ (s : StationRecord). pending_at events s.site) (λ (s : StationRecord). length (pending_of events s)) (stations_at events)
+    ∙ sums_same (λ (s : StationState). pending_at events s.site) (λ (s : StationState). length (pending_of events s)) (stations_at events)
     (λ k d l. length-map (filter (is_pending events (get_or (stations_at events) k d).site) calendar) (λ day. record { site = (get_or (stations_at events) k d).site; day = day }))
 
 pub own_site : (site : SiteNumber) → same_site site site ≡ true
@@ -229,14 +229,14 @@ module _ (events : List Event) (piece : Record) (rising : IsRising place_of (sta
       let more = events ++ Accepted piece ∷ [] in
       let own = piece.edit.site in
       let turn = stations_accepted events piece in
-      let sum : sum_by (λ (s : StationRecord). pending_at more s.site) (stations_after (stations_at events) piece.edit) + pending_at events own
-      ≡ sum_by (λ (s : StationRecord). pending_at events s.site) (stations_at events) + pending_at more own =
+      let sum : sum_by (λ (s : StationState). pending_at more s.site) (stations_after (stations_at events) piece.edit) + pending_at events own
+      ≡ sum_by (λ (s : StationState). pending_at events s.site) (stations_at events) + pending_at more own =
       sum_after (stations_at events) piece.edit (pending_at events) (pending_at more) (pending_by events) (pending_by more) other_pending (none_pending events)
-      (λ h. none_pending more own (ap (λ (s : List StationRecord). is_some (station_of s own)) turn ∙ h)
+      (λ h. none_pending more own (ap (λ (s : List StationState). is_some (station_of s own)) turn ∙ h)
       ∙ sym (none_pending events own (false_from_ne_true (is_some (station_of (stations_at events) own))
       (λ t. false≢true (sym h ∙ station_stays (stations_at events) piece.edit own t)))))
       rising in
-      let whole = pending_sum more ∙ ap (λ (s : List StationRecord). sum_by (λ (s : StationRecord). pending_at more s.site) s) turn in
+      let whole = pending_sum more ∙ ap (λ (s : List StationState). sum_by (λ (s : StationState). pending_at more s.site) s) turn in
       let before = pending_sum events in
       let here = own_pending in
       omega (arith, sum, whole, before, here)
@@ -253,18 +253,18 @@ module _ (edits : List Edit) (edit : Edit) (rising : IsRising place_of (stations
       let own = edit.site in
       let turn = stations_more edits edit in
       let wide = with_days (with_days None (days_ever_changed edits own)) (changed_days (stations_of edits) edit) in
-      let sum : sum_by (λ (s : StationRecord). cells_of more s.site) (stations_after (stations_of edits) edit) + cells_of edits own
-      ≡ sum_by (λ (s : StationRecord). cells_of edits s.site) (stations_of edits) + cells_of more own =
+      let sum : sum_by (λ (s : StationState). cells_of more s.site) (stations_after (stations_of edits) edit) + cells_of edits own
+      ≡ sum_by (λ (s : StationState). cells_of edits s.site) (stations_of edits) + cells_of more own =
       sum_after (stations_of edits) edit (cells_of edits) (cells_of more) (cells_by edits) (cells_by more)
       (λ site h. ap days_of (span_more edits edit site
       ∙ ap (λ b. cond b (with_days (with_days None (days_ever_changed edits site)) (changed_days (stations_of edits) edit)) (with_days None (days_ever_changed edits site))) h))
       (no_cells edits)
-      (λ h. no_cells more own (ap (λ (s : List StationRecord). is_some (station_of s own)) turn ∙ h)
+      (λ h. no_cells more own (ap (λ (s : List StationState). is_some (station_of s own)) turn ∙ h)
       ∙ sym (no_cells edits own (false_from_ne_true (is_some (station_of (stations_of edits) own))
       (λ t. false≢true (sym h ∙ station_stays (stations_of edits) edit own t)))))
       rising in
       let here : cells_of more own ≡ days_of wide =
       ap days_of (span_more edits edit own ∙ ap (λ b. cond b wide (with_days None (days_ever_changed edits own))) (own_site own)) in
-      let whole : cell_count more ≡ sum_by (λ (s : StationRecord). cells_of more s.site) (stations_after (stations_of edits) edit) =
-      ap (λ (s : List StationRecord). sum_by (λ (s : StationRecord). cells_of more s.site) s) turn in
+      let whole : cell_count more ≡ sum_by (λ (s : StationState). cells_of more s.site) (stations_after (stations_of edits) edit) =
+      ap (λ (s : List StationState). sum_by (λ (s : StationState). cells_of more s.site) s) turn in
       omega (arith, sum, here, whole)

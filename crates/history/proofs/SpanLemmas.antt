@@ -16,7 +16,7 @@ use Rattle.history.specs.Accepted.{changes, was_changed_back, was_changed, days_
 use Rattle.history.proofs.StationLemmas.{places_equal, station_stays, changed_has_station}
 use Rattle.office_inputs.specs.Changes.{keeps_day, changed_days}
 use Rattle.office_inputs.specs.Stations.{station_of, stations_of, stations_after}
-use Rattle.station_inputs.specs.Stations.{StationRecord}
+use Rattle.station_inputs.specs.Stations.{StationState}
 
 min_turned : (a b c : ℤ) → int_min (int_min a b) c ≡ int_min (int_min a c) b
 min_turned a b c = grind (arith, ints)
@@ -134,7 +134,7 @@ changed_back_has_station [] site day h = absurd (false≢true h)
 changed_back_has_station (edit ∷ back) site day h =
     let turn : stations_of (reverse (edit ∷ back)) ≡ stations_after (stations_of (reverse back)) edit =
     ap stations_of (reverse-append (edit ∷ []) back) ∙ stations_more (reverse back) edit in
-    ap (λ (s : List StationRecord). is_some (station_of s site)) turn
+    ap (λ (s : List StationState). is_some (station_of s site)) turn
     ∙ elim (or_cases (changes (stations_of (reverse back)) edit site day) (was_changed_back back site day) h) [
       | inl y ↦ changed_has_station (stations_of (reverse back)) edit site day y
       | inr y ↦ station_stays (stations_of (reverse back)) edit site (changed_back_has_station back site day y)

@@ -15,7 +15,7 @@ use Rattle.history.specs.Accepted.{changes}
 use Rattle.office_inputs.specs.Changes.{keeps_day}
 use Rattle.office_inputs.proofs.LawLemmas.{station_left}
 use Rattle.office_inputs.specs.Stations.{added, place_of, station_of, with_added, with_changed, changed_at, after_what, stations_after, day_of_station, inputs_of_day}
-use Rattle.station_inputs.specs.Stations.{StationRecord, new_station, station_after}
+use Rattle.station_inputs.specs.Stations.{StationState, new_station, station_after}
 use Rattle.rising.specs.Lists.{at, put}
 use Rattle.rising.proofs.Placing.{at_put}
 
@@ -35,19 +35,19 @@ pub found_passes : {X : Type 0} (p : X → Bool) (xs : List X) (y : X) → find 
 found_passes p [] y h = absurd (cc)
 found_passes p (x ∷ xs) y h = found_step p x y xs (p x) refl h (found_passes p xs y)
 
-pub found_place : (stations : List StationRecord) (site : SiteNumber) (s : StationRecord) → station_of stations site ≡ Some s → place_of s ≡ site_place site
+pub found_place : (stations : List StationState) (site : SiteNumber) (s : StationState) → station_of stations site ≡ Some s → place_of s ≡ site_place site
 found_place stations site s h =
-    (Decides-int_eq (place_of s) (site_place site)).0 (found_passes (λ (t : StationRecord). int_eq (place_of t) (site_place site)) stations s h)
+    (Decides-int_eq (place_of s) (site_place site)).0 (found_passes (λ (t : StationState). int_eq (place_of t) (site_place site)) stations s h)
 
 -- the stations of two sites that are one
-pub same_station : (stations : List StationRecord) (a b : SiteNumber) → site_place a ≡ site_place b → station_of stations a ≡ station_of stations b
+pub same_station : (stations : List StationState) (a b : SiteNumber) → site_place a ≡ site_place b → station_of stations a ≡ station_of stations b
 same_station stations a b e = ap (λ n. at place_of n stations) e
 
-pub same_day : (stations : List StationRecord) (a b : SiteNumber) (day : ℤ) → site_place a ≡ site_place b → inputs_of_day stations a day ≡ inputs_of_day stations b day
+pub same_day : (stations : List StationState) (a b : SiteNumber) (day : ℤ) → site_place a ≡ site_place b → inputs_of_day stations a day ≡ inputs_of_day stations b day
 same_day stations a b day e = ap (λ o. day_of_station o day) (same_station stations a b e)
 
 -- a station keeps its place through an edit, and one that is added has that of its site
-pub changed_place : (what : What) (s : StationRecord) → place_of (station_after what s) ≡ place_of s
+pub changed_place : (what : What) (s : StationState) → place_of (station_after what s) ≡ place_of s
 changed_place (AddStation name zone gap stages discharges) s = refl
 changed_place (SetStation name gap stages discharges) s = refl
 changed_place (PutReadings readings) s = refl
@@ -67,7 +67,7 @@ changed_place (DropMeasurement number) s = refl
 changed_place (Review from to) s = refl
 changed_place (Decide from to decision) s = refl
 
-pub added_place : (site : SiteNumber) (what : What) (s : StationRecord) → added site what ≡ Some s → place_of s ≡ site_place site
+pub added_place : (site : SiteNumber) (what : What) (s : StationState) → added site what ≡ Some s → place_of s ≡ site_place site
 added_place site (AddStation name zone gap stages discharges) s e =
     let same : new_station site name zone gap stages discharges ≡ s = cc in
     ap place_of (sym same)
@@ -89,16 +89,16 @@ added_place site (DropMeasurement number) s e = absurd (cc)
 added_place site (Review from to) s e = absurd (cc)
 added_place site (Decide from to decision) s e = absurd (cc)
 
-module _ (own : SiteNumber) (stations : List StationRecord) where
+module _ (own : SiteNumber) (stations : List StationState) where
   -- a change of a station keeps it
-  own_changed : (change : StationRecord → StationRecord) (found : Option StationRecord) → station_of stations own ≡ found
-      → ((s : StationRecord) → place_of (change s) ≡ place_of s) → is_some found ≡ true
+  own_changed : (change : StationState → StationState) (found : Option StationState) → station_of stations own ≡ found
+      → ((s : StationState) → place_of (change s) ≡ place_of s) → is_some found ≡ true
       → is_some (station_of (with_changed change found stations) own) ≡ true
   own_changed change None e keeps h = absurd (false≢true h)
   own_changed change (Some s) e keeps h =
       ap is_some (ap (λ n. at place_of n (put place_of (change s) stations)) (sym (keeps s ∙ found_place stations own s e)) ∙ at_put place_of (change s) stations)
 
-  own_added : (what : What) (o : Option StationRecord) → ((s : StationRecord) → o ≡ Some s → place_of s ≡ site_place own) → is_some (station_of stations own) ≡ true
+  own_added : (what : What) (o : Option StationState) → ((s : StationState) → o ≡ Some s → place_of s ≡ site_place own) → is_some (station_of stations own) ≡ true
       → is_some (station_of (with_added own what o stations) own) ≡ true
   own_added what None n h = own_changed (station_after what) (station_of stations own) refl (λ s. changed_place what s) h
   own_added what (Some s) n h = ap is_some (ap (λ m. at place_of m (put place_of s stations)) (sym (n s refl)) ∙ at_put place_of s stations)
@@ -106,7 +106,7 @@ module _ (own : SiteNumber) (stations : List StationRecord) where
   own_after : (what : What) → is_some (station_of stations own) ≡ true → is_some (station_of (after_what own what stations) own) ≡ true
   own_after what h = own_added what (added own what) (added_place own what) h
 
-module _ (stations : List StationRecord) (edit : Edit) (site : SiteNumber) where
+module _ (stations : List StationState) (edit : Edit) (site : SiteNumber) where
   -- an edit of another site leaves the station
   pub kept_other : same_site edit.site site ≡ false → station_of (stations_after stations edit) site ≡ station_of stations site
   kept_other h = station_left stations edit site h
@@ -135,7 +135,7 @@ module _ (stations : List StationRecord) (edit : Edit) (site : SiteNumber) where
       ]
 
   -- a day that the edit changes is one of a station
-  none_same : (a b : Option StationRecord) (day : ℤ) → is_some a ≡ false → is_some b ≡ false → same_inputs (day_of_station a day) (day_of_station b day) ≡ true
+  none_same : (a b : Option StationState) (day : ℤ) → is_some a ≡ false → is_some b ≡ false → same_inputs (day_of_station a day) (day_of_station b day) ≡ true
   none_same None None day h k = refl
   none_same (Some s) b day h k = absurd (cc)
   none_same None (Some t) day h k = absurd (cc)

@@ -7,7 +7,7 @@ use Rattle.fixed_units.specs.Quantities.{SiteNumber, same_site}
 use Rattle.history.specs.Events.{Event, Accepted, Published, Faulted, History}
 use Rattle.office_inputs.specs.Changes.{keeps_day}
 use Rattle.office_inputs.specs.Stations.{stations_of}
-use Rattle.station_inputs.specs.Stations.{StationRecord}
+use Rattle.station_inputs.specs.Stations.{StationState}
 use Rattle.records.specs.Payloads.{payload}
 use Rattle.records.specs.Sheets.{Record}
 
@@ -30,11 +30,11 @@ abbrev pub record_numbered : List Event → ℕ → Option Record
 record_numbered events number = if number == 0 then None else slice_get (accepted events) (number - 1)
 
 -- the stations in force
-abbrev pub stations_at : List Event → List StationRecord
+abbrev pub stations_at : List Event → List StationState
 stations_at events = stations_of (edits_of events)
 
 -- the edit changes this day of this site, on the stations in force before it
-abbrev pub changes : List StationRecord → Edit → SiteNumber → ℤ → Bool
+abbrev pub changes : List StationState → Edit → SiteNumber → ℤ → Bool
 changes stations edit site day = same_site edit.site site && not (keeps_day stations edit day)
 
 -- an accepted edit with its number
@@ -68,7 +68,7 @@ cells_of edits site = days_of (with_days None (days_ever_changed edits site))
 
 -- the cells of all stations
 abbrev pub cell_count : List Edit → ℕ
-cell_count edits = sum_by (λ (s : StationRecord). cells_of edits s.site) (stations_of edits)
+cell_count edits = sum_by (λ (s : StationState). cells_of edits s.site) (stations_of edits)
 
 -- the bytes of a journal of these records: the header and the closed gate, and of each an open gate, a length and a payload
 abbrev pub journal_size : List Record → ℕ

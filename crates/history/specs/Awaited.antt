@@ -10,7 +10,7 @@ use Rattle.fixed_units.specs.Quantities.{SiteNumber, same_site}
 use Rattle.history.specs.Accepted.{accepted, edits_of, stations_at, changes}
 use Rattle.history.specs.Events.{Event, Accepted, Published, Faulted}
 use Rattle.office_inputs.specs.Stations.{station_of, inputs_of_day}
-use Rattle.station_inputs.specs.Stations.{StationRecord}
+use Rattle.station_inputs.specs.Stations.{StationState}
 
 -- it is this day of this site
 abbrev pub is_day_of : SiteNumber → ℤ → SiteNumber → ℤ → Bool
@@ -39,7 +39,7 @@ pub record SiteDay : Type 0 where
   pub day : ℤ
 
 -- the pending days of a station, in order
-abbrev pub pending_of : List Event → StationRecord → List SiteDay
+abbrev pub pending_of : List Event → StationState → List SiteDay
 pending_of events s = map (λ day. record { site = s.site; day = day }) (filter (is_pending events s.site) calendar)
 
 -- the pending days of all stations, by site, then day

@@ -9,6 +9,7 @@ use fixed_units::{Day, Site};
 use records::Record;
 use std::marker::Model;
 use std::snapshot::Snapshot;
+use thiserror::Error;
 
 /// An event, which takes no memory; contracts see that of the definitions.
 #[derive(Drop)]
@@ -27,13 +28,16 @@ enum Kind {
 }
 
 /// Why the record of an edit was not kept in a journal.
-#[derive(Clone, Copy, Debug, PartialEq, Eq)]
+#[derive(Clone, Copy, Debug, PartialEq, Eq, Error)]
 pub enum NotKept {
     /// The journal was in doubt of a record, and could not be mended: it still is.
+    #[error("the journal is in doubt of a record, and could not be mended")]
     Mend,
     /// The record could not be written and synced: the journal is in doubt of none.
+    #[error("the record could not be written and synced")]
     Record,
     /// The gate before the record could not be opened and synced: the journal is in doubt of the record.
+    #[error("the gate before the record could not be opened and synced")]
     Gate,
 }
 

@@ -7,7 +7,7 @@ use Rattle.matchit.specs.Params.{named}
 use Rattle.civil_days.specs.Spelling.{day_of_text}
 use Rattle.edit_bodies.specs.Grammars.{kept_if, kept_within}
 use Rattle.edit_bodies.specs.Texts.{are_initials, is_reference}
-use Rattle.fixed_units.specs.Quantities.{SiteNumber}
+use Rattle.fixed_units.specs.Quantities.{SiteNumber, most_rating_number}
 use Rattle.site_texts.specs.SiteText.{site_of_text}
 
 -- what the parameters of a target took: the name of each with its part of the target
@@ -31,7 +31,7 @@ count_of text = option_and_then turns_of (number_of text)
 
 -- the number of a rating, and that of a measurement
 abbrev pub rating_of : List ℕ → Option ℕ
-rating_of text = option_and_then (kept_within 1 999_999) (number_of text)
+rating_of text = option_and_then (kept_within 1 most_rating_number) (number_of text)
 
 abbrev pub measurement_of : List ℕ → Option ℕ
 measurement_of text = option_and_then (kept_within 1 999_999_999) (number_of text)

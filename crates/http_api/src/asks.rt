@@ -58,7 +58,7 @@ pub enum Denied {
     #[error("the body is no rating in RDB: {0}")]
     Rdb(RdbFault),
     /// There was no memory to read the body.
-    #[error("there was no memory to read the body")]
+    #[error("there is no memory to read the body")]
     NoMemory,
 }
 

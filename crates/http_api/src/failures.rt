@@ -72,6 +72,7 @@ fn told(status: u16, code: &'static str, detail: Detail) -> Failure
 }
 
 /// The failure that a reply tells, unless it is an answer.
+#[inline(always)]
 pub(crate) fn failure_of(reply: &Reply<'_>) -> Option<Failure>
     ensures { result ≡ failure_of reply.now }
 {

@@ -135,6 +135,7 @@ fn kind_of(reply: &Reply<'_>) -> Kind
 }
 
 /// Adds the body of a reply, of which a part may be added where memory runs out.
+#[inline(always)]
 fn write_body(alloc: Global, reply: &Reply<'_>, out: &mut Text) -> Result<(), NoMemory>
     ensures ok { OnOk result (out.new ≡ out.old ++ body_of reply.now) }
     ensures err { OnErr result (take (length out.old) out.new ≡ out.old) }

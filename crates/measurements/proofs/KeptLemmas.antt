@@ -12,9 +12,9 @@ use Rattle.ratings.specs.Periods.{in_force, is_in_force}
 use Rattle.ratings.specs.Spans.{Span}
 use Rattle.ratings.proofs.CuttingLemmas.{found_has}
 use Rattle.station_inputs.specs.KeptStation.{IsStation}
-use Rattle.station_inputs.specs.Stations.{StationRecord, measurement_of, number_of}
+use Rattle.station_inputs.specs.Stations.{StationState, measurement_of, number_of}
 
-pub kept_measurement : (number : ℕ) (s : StationRecord) (m : Measurement) → IsStation s → Some m ≡ measurement_of number s → IsPutMeasurement m
+pub kept_measurement : (number : ℕ) (s : StationState) (m : Measurement) → IsStation s → Some m ≡ measurement_of number s → IsPutMeasurement m
 kept_measurement number s m h e =
     subst (λ (o : Option Measurement). IfSome o IsPutMeasurement) (sym e)
     (found_has IsPutMeasurement (λ (x : Measurement). int_eq (number_of x) (pos number)) s.measurements h.measurements_are.each)

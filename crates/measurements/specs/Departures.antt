@@ -11,7 +11,7 @@ use Rattle.rating_tables.specs.Table.{Row, rated, stage_of}
 use Rattle.rating_tables.specs.declared.table.Rated.{Rated}
 use Rattle.rating_tables.specs.declared.table.Rated.TheVariants.{Value, Below, Above}
 use Rattle.ratings.specs.Numbered.{rows_in_force}
-use Rattle.station_inputs.specs.Stations.{StationRecord, measurement_of}
+use Rattle.station_inputs.specs.Stations.{StationState, measurement_of}
 
 -- the discharge of the rating in force at a stage, if one is in force and has the stage
 abbrev pub value_of : Rated → Option ℤ
@@ -44,12 +44,12 @@ departure_by m shift rows = record {
 }
 
 -- what the measurement of a number of a station says
-abbrev pub departure_in : StationRecord → Measurement → Departure
+abbrev pub departure_in : StationState → Measurement → Departure
 departure_in s m = departure_by m (series_value s.shifts m.at m.gage) (rows_in_force m.at s.ratings)
 
-abbrev pub departure_of : ℕ → StationRecord → Option Departure
+abbrev pub departure_of : ℕ → StationState → Option Departure
 departure_of number s = option_map (departure_in s) (measurement_of number s)
 
 -- what the measurement of a number at a site says
-abbrev pub departure_at : List StationRecord → SiteNumber → ℕ → Option Departure
+abbrev pub departure_at : List StationState → SiteNumber → ℕ → Option Departure
 departure_at stations site number = option_and_then (departure_of number) (station_of stations site)

@@ -1,8 +1,8 @@
 //! Percent departures of field measurements (the practice of Water-Supply Paper 2175).
 
-ghost use Rattle.std.specs.Prelude.{◌≡◌, ◌^◌, pos, neg_ℤ, ◌+ℤ◌, ◌-ℤ◌, ◌*ℤ◌, ◌<ℤ◌, ◌≤ℤ◌, option_map, IfSome};
+ghost use Rattle.std.specs.Prelude.{◌≡◌, ◌*◌, pos, neg_ℤ, ◌+ℤ◌, ◌-ℤ◌, ◌*ℤ◌, ◌<ℤ◌, ◌≤ℤ◌, option_map, IfSome};
 ghost use Rattle.edits.specs.Lawful.{IsPutMeasurement};
-ghost use Rattle.fixed_units.specs.Quantities.{IsDischarge, IsMicro, IsStage};
+ghost use Rattle.fixed_units.specs.Quantities.{IsDischarge, IsMicro, IsStage, most_discharge};
 ghost use Rattle.fixed_units.specs.Rounding.{round};
 ghost use Rattle.measurements.specs.Departures.{departure_at, departure_by, departure_of, indicated_shift, percent_departure, rated_discharge, value_of};
 ghost use Rattle.office_inputs.specs.Kept.{in_force};
@@ -101,16 +101,16 @@ fn scaled(measured: Micro, rated: Micro) -> i128
     requires measured { IsDischarge measured }
     requires rated { IsDischarge rated }
     ensures value { result ≡ pos 10_000 *ℤ (measured -ℤ rated) }
-    ensures low { neg_ℤ (pos (10 ^ 17)) ≤ℤ result }
-    ensures high { result ≤ℤ pos (10 ^ 17) }
+    ensures low { neg_ℤ (pos (10_000 * most_discharge)) ≤ℤ result }
+    ensures high { result ≤ℤ pos (10_000 * most_discharge) }
 {
     10_000 * (i128::from(measured.get()) - i128::from(rated.get()))
 }
 
-/// A number of at most 10^17 either way.
+/// A number of at most 10,000 times the greatest discharge either way.
 fn narrow(number: i128) -> i64
-    requires low { neg_ℤ (pos (10 ^ 17)) ≤ℤ number }
-    requires high { number ≤ℤ pos (10 ^ 17) }
+    requires low { neg_ℤ (pos (10_000 * most_discharge)) ≤ℤ number }
+    requires high { number ≤ℤ pos (10_000 * most_discharge) }
     ensures { result ≡ number }
 {
     number as i64

@@ -1,14 +1,15 @@
 -- The disk has counted each fault among the events.
-use Rattle.std.specs.Prelude.{◌≡◌, ℕ, suc, ◌+◌, ◌-◌, ◌^◌, ◌≤◌, min, Bool, true, false, List, [], ◌∷◌, ◌++◌, map, Option, Some, None, Ok, Err}
+use Rattle.std.specs.Prelude.{◌≡◌, ℕ, ◌+◌, ◌-◌, ◌^◌, ◌≤◌, min, Bool, true, false, cond, List, [], ◌∷◌, ◌++◌, map, Option, Some, None, Ok, Err}
 use Rattle.std.proofs.Common.{arith, refl, ap, sym, subst, inl, inr, ◌∙◌}
+use Rattle.std.proofs.lemmas.List.Sums.{sum_by-append}
 use Rattle.devices.specs.Faults.{Rose}
 use Rattle.edits.specs.declared.content.Edit.{Edit}
 use Rattle.history.specs.Accepted.{accepted}
 use Rattle.history.specs.After.{after_publication, after_publications, after_settlement, publication, reopen}
 use Rattle.history.specs.Awaited.{SiteDay, pending_days}
-use Rattle.history.specs.Events.{Event, Accepted, Published, Faulted, History}
+use Rattle.history.specs.Events.{Event, Accepted, Faulted, History}
 use Rattle.history.specs.Verdicts.{Refuses, record_of, verdict}
-use Rattle.office.specs.Counting.{fault_count, HasCounted, RisesFor, Counts, CountsEdit, GoesOverCounting}
+use Rattle.office.specs.Counting.{fault_count, is_journal_fault, HasCounted, RisesFor, Counts, CountsEdit, GoesOverCounting}
 use Rattle.office.specs.Edits.{IsRefusedBy, IsTaken, is_fault}
 use Rattle.office.specs.Steps.{Step, AnEdit, AClaim, ALook, APublication, ATurn, ASettlement, AnAnswer, AStop, IsReopened, IsStep, Publishes, cut_off, added_by}
 use Rattle.office.proofs.RefusedLemmas.{refused_no_fault}
@@ -25,35 +26,23 @@ counts_refused h edit refusal count v =
     let none : is_fault refusal ≡ false = refused_no_fault h edit refusal v in rw none refl
 
 -- faults among events, and others behind them
-fault_count-append : (xs ys : List Event) → fault_count (xs ++ ys) ≡ fault_count xs + fault_count ys
-unfolding fault_count
-fault_count-append [] ys =
-    let none : fault_count [] ≡ 0 = refl in
-    let whole : fault_count ([] ++ ys) ≡ fault_count ys = refl in
-    omega (arith, none, whole)
-fault_count-append (Accepted piece ∷ xs) ys = fault_count-append xs ys
-fault_count-append (Published site day ∷ xs) ys = fault_count-append xs ys
-fault_count-append (Faulted doubt ∷ xs) ys =
-    let whole : fault_count ((Faulted doubt ∷ xs) ++ ys) ≡ suc (fault_count (xs ++ ys)) = refl in
-    let first : fault_count (Faulted doubt ∷ xs) ≡ suc (fault_count xs) = refl in
-    omega (arith, whole, first, fault_count-append xs ys)
+pub fault_count-append : (xs ys : List Event) → fault_count (xs ++ ys) ≡ fault_count xs + fault_count ys
+fault_count-append xs ys = sum_by-append (λ (event : Event). cond (is_journal_fault event) 1 0) xs ys
 
-none_published : (days : List SiteDay) → fault_count (map publication days) ≡ 0
-unfolding fault_count
+-- no publication is a fault, and no accepted edit
+pub none_published : (days : List SiteDay) → fault_count (map publication days) ≡ 0
 none_published [] = refl
 none_published (d ∷ days) = none_published days
 
-none_accepted : (pieces : List Record) → fault_count (map Accepted pieces) ≡ 0
-unfolding fault_count
+pub none_accepted : (pieces : List Record) → fault_count (map Accepted pieces) ≡ 0
 none_accepted [] = refl
 none_accepted (piece ∷ pieces) = none_accepted pieces
 
-one_accepted : (piece : Record) → fault_count (Accepted piece ∷ []) ≡ 0
-unfolding fault_count
+pub one_accepted : (piece : Record) → fault_count (Accepted piece ∷ []) ≡ 0
 one_accepted piece = refl
 
-one_faulted : (left : Option Record) → fault_count (Faulted left ∷ []) ≡ 1
-unfolding fault_count
+-- a failed record is one
+pub one_faulted : (left : Option Record) → fault_count (Faulted left ∷ []) ≡ 1
 one_faulted left = refl
 
 -- by a call of no edit there is no fault more

@@ -1,5 +1,5 @@
 -- The disk's count of faults, step by step.
-use Rattle.std.specs.Prelude.{◌≡◌, ℕ, suc, ◌-◌, ◌^◌, ◌≤◌, min, Bool, true, false, List, [], ◌∷◌, Result, Ok, Err}
+use Rattle.std.specs.Prelude.{◌≡◌, ℕ, ◌-◌, ◌^◌, ◌≤◌, min, Bool, true, false, List, [], ◌∷◌, count_by, Result, Ok, Err}
 use Rattle.devices.specs.Faults.{Rose}
 use Rattle.history.specs.Events.{Event, Accepted, Published, Faulted, History}
 use Rattle.office.specs.Edits.{is_fault}
@@ -8,12 +8,15 @@ use Rattle.office.specs.declared.offices.Accepted as told
 use Rattle.office_inputs.specs.declared.refusals.Refusal.{Refusal}
 use Rattle.register.specs.Registered.{Registered}
 
--- how many faults there were
-unfoldable pub fault_count : List Event → ℕ
-fault_count [] = 0
-fault_count (Accepted piece ∷ events) = fault_count events
-fault_count (Published site day ∷ events) = fault_count events
-fault_count (Faulted doubt ∷ events) = suc (fault_count events)
+-- a fault of the journal
+abbrev pub is_journal_fault : Event → Bool
+is_journal_fault (Accepted piece) = false
+is_journal_fault (Published site day) = false
+is_journal_fault (Faulted left) = true
+
+-- how many faults of the journal there were
+abbrev pub fault_count : List Event → ℕ
+fault_count events = count_by is_journal_fault events
 
 -- a disk has counted them all, or its count stands at the end of its type
 abbrev pub HasCounted : History → ℕ → Type 0

@@ -8,7 +8,7 @@ use Rattle.edits.specs.declared.content.What.TheVariants.{AddStation, SetStation
 use Rattle.fixed_units.specs.declared.readings.Reading.{Reading}
 use Rattle.readings.specs.Readings.{flagged_where, is_within}
 use Rattle.readings.specs.Window.{is_of_day}
-use Rattle.station_inputs.specs.Stations.{StationRecord, day_start, station_after}
+use Rattle.station_inputs.specs.Stations.{StationState, day_start, station_after}
 use Rattle.station_inputs.proofs.DayCounts.{filters_swapped}
 use Rattle.office_inputs.proofs.CountLemmas.{IsFewer}
 
@@ -33,13 +33,13 @@ same n = omega arith
 as_many : (n m : ℕ) → n ≡ m → n ≤ m
 as_many n m e = omega (arith, e)
 
-kept_all : (s t : StationRecord) → t.readings ≡ s.readings → t.zone ≡ s.zone → IsFewer s t
+kept_all : (s t : StationState) → t.readings ≡ s.readings → t.zone ≡ s.zone → IsFewer s t
 kept_all s t e z = record {
   all = as_many (length t.readings) (length s.readings) (ap (λ (rs : List Reading). length rs) e);
   days = λ day. as_many _ _ (rw (e, z) refl);
 }
 
-pub fewer : (what : What) (s : StationRecord) → ((readings : List Reading) → what ≡ PutReadings readings → ⊥) → IsFewer s (station_after what s)
+pub fewer : (what : What) (s : StationState) → ((readings : List Reading) → what ≡ PutReadings readings → ⊥) → IsFewer s (station_after what s)
 fewer (AddStation name zone gap stages discharges) s n = kept_all s _ refl refl
 fewer (SetStation name gap stages discharges) s n = kept_all s _ refl refl
 fewer (PutReadings readings) s n = absurd (n readings refl)

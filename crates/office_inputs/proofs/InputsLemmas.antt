@@ -4,11 +4,11 @@ use Rattle.std.specs.Ordering.{int_eq}
 use Rattle.std.proofs.Common.{refl, ap, sym, subst, ◌∙◌, Bor}
 use Rattle.fixed_units.specs.Quantities.{SiteNumber, site_place}
 use Rattle.office_inputs.specs.Stations.{station_of}
-use Rattle.station_inputs.specs.Stations.{StationRecord}
+use Rattle.station_inputs.specs.Stations.{StationState}
 use Rattle.station_inputs.specs.KeptStation.{KeptStation}
-use Rattle.office_inputs.specs.Kept.{InForce, in_force, records_of, kept_at, place_of_kept}
+use Rattle.office_inputs.specs.Kept.{InForce, in_force, states_of, kept_at, place_of_kept}
 
-record_step : (k : KeptStation) (found : Option KeptStation) (told : Option StationRecord) (b : Bool)
+record_step : (k : KeptStation) (found : Option KeptStation) (told : Option StationState) (b : Bool)
     → told ≡ option_map (λ (k : KeptStation). k.station) found
     → cond b (Some k.station) told ≡ option_map (λ (k : KeptStation). k.station) (cond b (Some k) found)
 record_step k found told true h = refl
@@ -16,10 +16,10 @@ record_step k found told false h = h
 
 -- the record of a site is that of the station that is kept there
 pub record_at : (kept : List KeptStation) (site : SiteNumber)
-    → station_of (records_of kept) site ≡ option_map (λ (k : KeptStation). k.station) (kept_at kept site)
+    → station_of (states_of kept) site ≡ option_map (λ (k : KeptStation). k.station) (kept_at kept site)
 record_at [] site = refl
 record_at (k ∷ kept) site =
-    record_step k (kept_at kept site) (station_of (records_of kept) site) (int_eq (place_of_kept k) (site_place site)) (record_at kept site)
+    record_step k (kept_at kept site) (station_of (states_of kept) site) (int_eq (place_of_kept k) (site_place site)) (record_at kept site)
 
 -- the same of a station that is lent
 lent_record : (found : Option (Bor KeptStation)) (kept : Option KeptStation) → option_map (λ (s : Bor KeptStation). s.now) found ≡ kept

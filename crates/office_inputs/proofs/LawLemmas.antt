@@ -18,7 +18,7 @@ use Rattle.edits.specs.declared.content.What.TheVariants.{AddStation}
 use Rattle.edits.specs.declared.content.Edit.{Edit}
 use Rattle.office_inputs.specs.Changes.{changed_days, keeps_day}
 use Rattle.office_inputs.specs.Stations.{added, station_of, stations_after, stations_of, inputs_of_day, day_of_station, place_of, with_added, with_changed}
-use Rattle.station_inputs.specs.Stations.{StationRecord, new_station, station_after}
+use Rattle.station_inputs.specs.Stations.{StationState, new_station, station_after}
 use Rattle.office_inputs.specs.Touched.{is_filled}
 use Rattle.station_inputs.specs.Touched.{has_inputs}
 use Rattle.office_inputs.proofs.KeepLemmas.{at_place, put_there, same_place}
@@ -27,50 +27,50 @@ other_place : (a b : SiteNumber) → same_site a b ≡ false → site_place a �
 other_place a b n e = let t = (Decides-int_eq (site_place a) (site_place b)).1 e in absurd (cc)
 
 -- a station that is put leaves the others
-put_leaves : (s : StationRecord) (stations : List StationRecord) (own site : SiteNumber) → place_of s ≡ site_place own → same_site own site ≡ false
+put_leaves : (s : StationState) (stations : List StationState) (own site : SiteNumber) → place_of s ≡ site_place own → same_site own site ≡ false
     → station_of (put place_of s stations) site ≡ station_of stations site
 put_leaves s stations own site p n = at_put_other place_of s (site_place site) stations (λ e. other_place own site n (sym p ∙ e))
 
 -- and so does one that is changed and keeps its place
-change_leaves : (change : StationRecord → StationRecord) (stations : List StationRecord) (own site : SiteNumber) (o : Option StationRecord)
-    → ((s : StationRecord) → place_of (change s) ≡ place_of s) → station_of stations own ≡ o → same_site own site ≡ false
+change_leaves : (change : StationState → StationState) (stations : List StationState) (own site : SiteNumber) (o : Option StationState)
+    → ((s : StationState) → place_of (change s) ≡ place_of s) → station_of stations own ≡ o → same_site own site ≡ false
     → station_of (with_changed change o stations) site ≡ station_of stations site
 change_leaves change stations own site None k e n = refl
 change_leaves change stations own site (Some s) k e n =
     put_leaves (change s) stations own site (k s ∙ at_place place_of (site_place own) stations s e) n
 
 -- a station that is added is that of the edit's site
-added_place : (site : SiteNumber) (what : What) (n : StationRecord) → added site what ≡ Some n → place_of n ≡ site_place site
+added_place : (site : SiteNumber) (what : What) (n : StationState) → added site what ≡ Some n → place_of n ≡ site_place site
 added_place site (AddStation name zone gap stages discharges) n e =
     let f : new_station site name zone gap stages discharges ≡ n = cc in ap place_of (sym f)
 added_place site _ n e = absurd (cc)
 
-left_step : (stations : List StationRecord) (own site : SiteNumber) (what : What) (o : Option StationRecord) → added own what ≡ o → same_site own site ≡ false
+left_step : (stations : List StationState) (own site : SiteNumber) (what : What) (o : Option StationState) → added own what ≡ o → same_site own site ≡ false
     → station_of (with_added own what o stations) site ≡ station_of stations site
 left_step stations own site what None e n = change_leaves (station_after what) stations own site (station_of stations own) (same_place what) refl n
 left_step stations own site what (Some s) e n = put_leaves s stations own site (added_place own what s e) n
 
-pub station_left : (stations : List StationRecord) (edit : Edit) (site : SiteNumber) → same_site edit.site site ≡ false
+pub station_left : (stations : List StationState) (edit : Edit) (site : SiteNumber) → same_site edit.site site ≡ false
     → station_of (stations_after stations edit) site ≡ station_of stations site
 station_left stations edit site n = left_step stations edit.site site edit.what (added edit.site edit.what) refl n
 
-pub inputs_left : (stations : List StationRecord) (edit : Edit) (site : SiteNumber) (day : ℤ) → same_site edit.site site ≡ false
+pub inputs_left : (stations : List StationState) (edit : Edit) (site : SiteNumber) (day : ℤ) → same_site edit.site site ≡ false
     → inputs_of_day (stations_after stations edit) site day ≡ inputs_of_day stations site day
-inputs_left stations edit site day n = ap (λ (o : Option StationRecord). day_of_station o day) (station_left stations edit site n)
+inputs_left stations edit site day n = ap (λ (o : Option StationState). day_of_station o day) (station_left stations edit site n)
 
 -- a station that is kept stays kept
-kept_some : (o : Option StationRecord) → is_some o ≡ true → (s : StationRecord) × (o ≡ Some s)
+kept_some : (o : Option StationState) → is_some o ≡ true → (s : StationState) × (o ≡ Some s)
 kept_some None e = absurd (cc)
 kept_some (Some s) e = (s, refl)
 
-stays_here : (stations : List StationRecord) (site : SiteNumber) (what : What) (s : StationRecord) (o : Option StationRecord) → added site what ≡ o
+stays_here : (stations : List StationState) (site : SiteNumber) (what : What) (s : StationState) (o : Option StationState) → added site what ≡ o
     → station_of stations site ≡ Some s → is_some (station_of (with_added site what o stations) site) ≡ true
 stays_here stations site what s None a e =
-    ap (λ (p : Option StationRecord). is_some (station_of (with_changed (station_after what) p stations) site)) e
+    ap (λ (p : Option StationState). is_some (station_of (with_changed (station_after what) p stations) site)) e
     ∙ ap is_some (put_there stations site (station_after what s) (same_place what s ∙ at_place place_of (site_place site) stations s e))
 stays_here stations site what s (Some n) a e = ap is_some (put_there stations site n (added_place site what n a))
 
-stays_step : (stations : List StationRecord) (edit : Edit) (site : SiteNumber) (b : Bool) → same_site edit.site site ≡ b
+stays_step : (stations : List StationState) (edit : Edit) (site : SiteNumber) (b : Bool) → same_site edit.site site ≡ b
     → is_some (station_of stations site) ≡ true → is_some (station_of (stations_after stations edit) site) ≡ true
 stays_step stations edit site false n k = ap is_some (station_left stations edit site n) ∙ k
 stays_step stations edit site true e k =
@@ -79,7 +79,7 @@ stays_step stations edit site true e k =
     ap (λ (n : ℤ). is_some (at place_of n (stations_after stations edit))) (sym one)
     ∙ stays_here stations edit.site edit.what here.0 (added edit.site edit.what) refl here.1
 
-pub kept_stays : (stations : List StationRecord) (edit : Edit) (site : SiteNumber) → is_some (station_of stations site) ≡ true
+pub kept_stays : (stations : List StationState) (edit : Edit) (site : SiteNumber) → is_some (station_of stations site) ≡ true
     → is_some (station_of (stations_after stations edit) site) ≡ true
 kept_stays stations edit site k = stays_step stations edit site (same_site edit.site site) refl k
 
@@ -117,11 +117,11 @@ filled_differ (Day p) after f t = absurd (cc)
 true_false : (b : Bool) → b ≡ true → b ≡ false → ⊥
 true_false b t f = let k : true ≡ false = sym t ∙ f in absurd (cc)
 
-at_one_place : (stations : List StationRecord) (a b : SiteNumber) (day : ℤ) → same_site a b ≡ true → inputs_of_day stations b day ≡ inputs_of_day stations a day
+at_one_place : (stations : List StationState) (a b : SiteNumber) (day : ℤ) → same_site a b ≡ true → inputs_of_day stations b day ≡ inputs_of_day stations a day
 at_one_place stations a b day e =
     ap (λ (n : ℤ). day_of_station (at place_of n stations) day) (sym ((Decides-int_eq (site_place a) (site_place b)).0 e))
 
-changed_step : (stations : List StationRecord) (edit : Edit) (site : SiteNumber) (day : ℤ) (b : Bool) → same_site edit.site site ≡ b → IsDay day
+changed_step : (stations : List StationState) (edit : Edit) (site : SiteNumber) (day : ℤ) (b : Bool) → same_site edit.site site ≡ b → IsDay day
     → is_filled stations site day ≡ false → is_filled (stations_after stations edit) site day ≡ true
     → (same_site edit.site site ≡ true) × Contains (changed_days stations edit) day
 changed_step stations edit site day false e d f t =
@@ -134,7 +134,7 @@ changed_step stations edit site day true e d f t = (
       calendar_has (λ day. not (keeps_day stations edit day)) day d (ap not differ),
 )
 
-pub filled_changed : (stations : List StationRecord) (edit : Edit) (site : SiteNumber) (day : ℤ) → IsDay day
+pub filled_changed : (stations : List StationState) (edit : Edit) (site : SiteNumber) (day : ℤ) → IsDay day
     → is_filled stations site day ≡ false → is_filled (stations_after stations edit) site day ≡ true
     → (same_site edit.site site ≡ true) × Contains (changed_days stations edit) day
 filled_changed stations edit site day d f t = changed_step stations edit site day (same_site edit.site site) refl d f t

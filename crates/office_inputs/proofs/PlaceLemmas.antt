@@ -11,25 +11,25 @@ use Rattle.rising.proofs.Parting.{IsAfter, lt_yes, lt_no, all_after}
 use Rattle.rising.proofs.Placing.{some_stands, passed_over}
 use Rattle.rising.proofs.Splitting.{none_before, rest_rises, rest_is_later}
 use Rattle.station_inputs.specs.KeptStation.{KeptStation}
-use Rattle.office_inputs.specs.Kept.{records_of, kept_at, place_of_kept}
+use Rattle.office_inputs.specs.Kept.{states_of, kept_at, place_of_kept}
 use Rattle.office_inputs.specs.Places.{Placed, IsPlace, IsPlaceOf, station_in}
 use Rattle.office_inputs.specs.Stations.{station_of, place_of}
-use Rattle.station_inputs.specs.Stations.{StationRecord}
+use Rattle.station_inputs.specs.Stations.{StationState}
 use Rattle.office_inputs.proofs.InputsLemmas.{record_at}
 use Rattle.office_inputs.proofs.KeepLemmas.{at_place}
 use Rattle.office_inputs.proofs.RoomLemmas.{StandsAt}
 
-abbrev record_of : Option KeptStation → Option StationRecord
+abbrev record_of : Option KeptStation → Option StationState
 record_of o = option_map (λ (k : KeptStation). k.station) o
 
-records_get : (kept : List KeptStation) (i : ℕ) → slice_get (records_of kept) i ≡ record_of (slice_get kept i)
+records_get : (kept : List KeptStation) (i : ℕ) → slice_get (states_of kept) i ≡ record_of (slice_get kept i)
 records_get [] i = refl
 records_get (k ∷ kept) zero = refl
 records_get (k ∷ kept) (suc i) = records_get kept i
 
 -- what a search among the stations that are kept finds is the place of the site
 pub found_place : (kept : List KeptStation) (site : SiteNumber) (found : Option ℕ) → IfSome found (λ i. kept_at kept site ≡ slice_get kept i)
-    → IfSome found (λ i. i < length kept) → IfNone found (kept_at kept site ≡ None) → IsPlaceOf (records_of kept) site (record { site = site; index = found })
+    → IfSome found (λ i. i < length kept) → IfNone found (kept_at kept site ≡ None) → IsPlaceOf (states_of kept) site (record { site = site; index = found })
 found_place kept site None f w n = (refl, record { within = tt; found = record_at kept site ∙ ap record_of n })
 found_place kept site (Some i) f w n = (
   refl,
@@ -72,21 +72,21 @@ some_station [] i l = absurd (omega arith)
 some_station (k ∷ kept) zero l = (k, refl, refl)
 some_station (k ∷ kept) (suc i) l = some_station kept i (omega arith)
 
-pub index_within : (kept : List KeptStation) (place : Placed) (i : ℕ) → IsPlace (records_of kept) place → place.index ≡ Some i → i < length kept
+pub index_within : (kept : List KeptStation) (place : Placed) (i : ℕ) → IsPlace (states_of kept) place → place.index ≡ Some i → i < length kept
 index_within kept place i p e =
-    let w : IfSome (Some i) (λ i. i < length (records_of kept)) = subst (λ (o : Option ℕ). IfSome o (λ i. i < length (records_of kept))) e p.within in
+    let w : IfSome (Some i) (λ i. i < length (states_of kept)) = subst (λ (o : Option ℕ). IfSome o (λ i. i < length (states_of kept))) e p.within in
     let l = length-map kept (λ (k : KeptStation). k.station) in
     omega arith
 
 -- the station at the place stands there
-pub stands : (kept : List KeptStation) (place : Placed) (i : ℕ) → lists.IsRising place_of_kept kept → IsPlace (records_of kept) place → place.index ≡ Some i
+pub stands : (kept : List KeptStation) (place : Placed) (i : ℕ) → lists.IsRising place_of_kept kept → IsPlace (states_of kept) place → place.index ≡ Some i
     → StandsAt place.site i kept
 stands kept place i r p e =
     let within = index_within kept place i p e in
     let s = some_station kept i within in
-    let there : station_of (records_of kept) place.site ≡ Some s.0.station =
-    p.found ∙ ap (station_in (records_of kept)) e ∙ records_get kept i ∙ ap record_of s.2 in
-    let n : place_of_kept s.0 ≡ site_place place.site = at_place place_of (site_place place.site) (records_of kept) s.0.station there in
+    let there : station_of (states_of kept) place.site ≡ Some s.0.station =
+    p.found ∙ ap (station_in (states_of kept)) e ∙ records_get kept i ∙ ap record_of s.2 in
+    let n : place_of_kept s.0 ≡ site_place place.site = at_place place_of (site_place place.site) (states_of kept) s.0.station there in
     record {
       within = within;
       found =
@@ -104,12 +104,12 @@ pub no_index : (o : Option ℕ) → ((i : ℕ) → o ≡ Some i → ⊥) → o �
 no_index None n = refl
 no_index (Some i) n = absurd (n i refl)
 
-pub none_stands : (kept : List KeptStation) (place : Placed) → IsPlace (records_of kept) place → place.index ≡ None → station_of (records_of kept) place.site ≡ None
-none_stands kept place p e = p.found ∙ ap (station_in (records_of kept)) e
+pub none_stands : (kept : List KeptStation) (place : Placed) → IsPlace (states_of kept) place → place.index ≡ None → station_of (states_of kept) place.site ≡ None
+none_stands kept place p e = p.found ∙ ap (station_in (states_of kept)) e
 
-pub not_kept : (kept : List KeptStation) (place : Placed) → IsPlace (records_of kept) place → place.index ≡ None → kept_at kept place.site ≡ None
+pub not_kept : (kept : List KeptStation) (place : Placed) → IsPlace (states_of kept) place → place.index ≡ None → kept_at kept place.site ≡ None
 not_kept kept place p e = none_kept (kept_at kept place.site) (sym (record_at kept place.site) ∙ none_stands kept place p e)
 
-pub no_room_asked : (P : KeptStation → Type 0) (kept : List KeptStation) (place : Placed) → IsPlace (records_of kept) place → place.index ≡ None
+pub no_room_asked : (P : KeptStation → Type 0) (kept : List KeptStation) (place : Placed) → IsPlace (states_of kept) place → place.index ≡ None
     → IfSome (kept_at kept place.site) P
 no_room_asked P kept place p e = subst (λ (o : Option KeptStation). IfSome o P) (sym (not_kept kept place p e)) tt

@@ -3,11 +3,11 @@ use Rattle.std.specs.Prelude.{◌≡◌, Bool, true, false, not, ◌&&◌, cond,
 use Rattle.std.proofs.Common.{refl, ap, sym, ◌∙◌}
 use Rattle.edits.specs.declared.content.Edit.{Edit}
 use Rattle.station_inputs.specs.KeptStation.{KeptStation}
-use Rattle.office_inputs.specs.Kept.{records_of, kept_at}
+use Rattle.office_inputs.specs.Kept.{states_of, kept_at}
 use Rattle.office_inputs.specs.Refusals.{refusal_of, adds_station, is_kept, obstacle_of, passed_limit, refusal_by, refusal_for, reading_count}
 use Rattle.station_inputs.specs.Counts.{passes}
 use Rattle.office_inputs.specs.Stations.{station_of, stations_after}
-use Rattle.station_inputs.specs.Stations.{StationRecord}
+use Rattle.station_inputs.specs.Stations.{StationState}
 use Rattle.station_inputs.specs.declared.obstacles.Obstacle.{Obstacle}
 use Rattle.office_inputs.specs.declared.limits.Limits.{Limits}
 use Rattle.office_inputs.specs.declared.refusals.Refusal.{Refusal}
@@ -36,13 +36,13 @@ first_which : (b : Bool) (w : Which) (o : Option Which) → cond b (Some w) o �
 first_which true w o e = absurd (some_none e)
 first_which false w o e = (refl, e)
 
-pub record IsAccepted (limits : Limits) (stations : List StationRecord) (edit : Edit) : Type 0 where
+pub record IsAccepted (limits : Limits) (stations : List StationState) (edit : Edit) : Type 0 where
   pub needed : (not (adds_station edit.what) && not (is_kept stations edit.site)) ≡ false
   pub new : (adds_station edit.what && is_kept stations edit.site) ≡ false
   pub readings : passes limits.readings (reading_count stations) (reading_count (stations_after stations edit)) ≡ false
   pub free : obstacle_of (station_of stations edit.site) edit.what ≡ None
 
-pub accepted : (limits : Limits) (stations : List StationRecord) (edit : Edit) → refusal_of limits stations edit ≡ None → IsAccepted limits stations edit
+pub accepted : (limits : Limits) (stations : List StationState) (edit : Edit) → refusal_of limits stations edit ≡ None → IsAccepted limits stations edit
 accepted limits stations edit e =
     let after = stations_after stations edit in
     let a = first_off (not (adds_station edit.what) && not (is_kept stations edit.site)) NoStation _ e in
@@ -61,8 +61,8 @@ none_kept None e = refl
 none_kept (Some k) e = absurd (cc)
 
 -- an edit that adds a station is accepted where none is kept there
-pub absent : (limits : Limits) (kept : List KeptStation) (edit : Edit) → refusal_of limits (records_of kept) edit ≡ None → adds_station edit.what ≡ true
+pub absent : (limits : Limits) (kept : List KeptStation) (edit : Edit) → refusal_of limits (states_of kept) edit ≡ None → adds_station edit.what ≡ true
     → kept_at kept edit.site ≡ None
 absent limits kept edit e a =
     none_kept (kept_at kept edit.site)
-    (ap is_some (sym (record_at kept edit.site)) ∙ both_off (adds_station edit.what) (is_kept (records_of kept) edit.site) (accepted limits (records_of kept) edit e).new a)
+    (ap is_some (sym (record_at kept edit.site)) ∙ both_off (adds_station edit.what) (is_kept (states_of kept) edit.site) (accepted limits (states_of kept) edit e).new a)

@@ -12,14 +12,14 @@ use Rattle.readings.specs.Readings.{IsRising, put_all}
 use Rattle.station_inputs.specs.Counts.{passed_count, passes, passes_a_day}
 use Rattle.station_inputs.specs.KeptStation.{KeptStation}
 use Rattle.station_inputs.specs.Obstacles.{obstacle}
-use Rattle.station_inputs.specs.Stations.{StationRecord, new_station, station_after, with_readings}
+use Rattle.station_inputs.specs.Stations.{StationState, new_station, station_after, with_readings}
 use Rattle.office_inputs.specs.declared.refusals.Refusal.{Refusal}
 use Rattle.office_inputs.specs.declared.refusals.Refusal.TheVariants.{Limit, NoStation, StationExists}
 use Rattle.office_inputs.specs.declared.refusals.Which.{Which}
 use Rattle.office_inputs.specs.declared.refusals.Which.TheVariants as counts
 use Rattle.station_inputs.proofs.CountLemmas.{same_count}
 use Rattle.station_inputs.proofs.DayCounts.{added, few_step, free_told}
-use Rattle.office_inputs.specs.Kept.{records_of}
+use Rattle.office_inputs.specs.Kept.{states_of}
 use Rattle.office_inputs.specs.Refusals.{adds_station, is_kept, limit_of, obstacle_of, passed_alone, passed_limit, passes_a_day_of, reading_count, refusal_by, refusal_for, refusal_of}
 use Rattle.office_inputs.specs.Stations.{after_what, place_of, station_of, with_changed}
 use Rattle.office_inputs.specs.declared.limits.Limits.{Limits}
@@ -36,7 +36,7 @@ order_same : (adds adds' kept kept' : Bool) (limit limit' : Option Which) (free 
     → in_order adds kept limit free ≡ in_order adds' kept' limit' free'
 order_same adds adds' kept kept' limit limit' free free' d e f g = rw (d, e, f, g) refl
 
-abbrev refusal_parts : Limits → List StationRecord → SiteNumber → What → Option Refusal
+abbrev refusal_parts : Limits → List StationState → SiteNumber → What → Option Refusal
 refusal_parts limits stations site what =
     in_order (adds_station what) (is_kept stations site) (passed_limit limits site stations (after_what site what stations)) (option_map refusal_for (obstacle_of (station_of stations site) what))
 
@@ -53,7 +53,7 @@ one_told : (full : Bool) → refusal_by (cond full (Some counts.Stations) None) 
 one_told true = refl
 one_told false = refl
 
-add_parts : (limits : Limits) (stations : List StationRecord) (site : SiteNumber) (name zone : List ℕ) (gap : ℕ) (stages discharges : List ℕ)
+add_parts : (limits : Limits) (stations : List StationState) (site : SiteNumber) (name zone : List ℕ) (gap : ℕ) (stages discharges : List ℕ)
     → lists.IsRising place_of stations → station_of stations site ≡ None
     → one_more (nat_le limits.stations (length stations)) ≡ refusal_parts limits stations site (AddStation name zone gap stages discharges)
 add_parts limits stations site name zone gap stages discharges h e =
@@ -63,27 +63,27 @@ add_parts limits stations site name zone gap stages discharges h e =
     let limit = added_limit limits site stations n h e refl (count_put_new n stations h e refl) in
     sym (one_told full)
     ∙ sym (order_same true true (is_kept stations site) false (passed_limit limits site stations (lists.put place_of n stations)) (cond full (Some counts.Stations) None)
-    (option_map refusal_for (obstacle_of (station_of stations site) what)) None refl (ap is_some e) limit (ap (λ (o : Option StationRecord). option_map refusal_for (obstacle_of o what)) e))
+    (option_map refusal_for (obstacle_of (station_of stations site) what)) None refl (ap is_some e) limit (ap (λ (o : Option StationState). option_map refusal_for (obstacle_of o what)) e))
 
-pub refused_addition : (limits : Limits) (stations : List StationRecord) (edit : Edit) (name zone : List ℕ) (gap : ℕ) (stages discharges : List ℕ)
+pub refused_addition : (limits : Limits) (stations : List StationState) (edit : Edit) (name zone : List ℕ) (gap : ℕ) (stages discharges : List ℕ)
     → lists.IsRising place_of stations → station_of stations edit.site ≡ None → edit.what ≡ AddStation name zone gap stages discharges
     → one_more (nat_le limits.stations (length stations)) ≡ refusal_of limits stations edit
 refused_addition limits stations edit name zone gap stages discharges h e w =
     add_parts limits stations edit.site name zone gap stages discharges h e ∙ ap (refusal_parts limits stations edit.site) (sym w)
 
 -- an edit of a station that is kept is refused by the limit that it passes, or else by what stands in its way
-by_change : (limits : Limits) (stations : List StationRecord) (site : SiteNumber) (what : What) (s : StationRecord) (limit : Option Which) → adds_station what ≡ false
+by_change : (limits : Limits) (stations : List StationState) (site : SiteNumber) (what : What) (s : StationState) (limit : Option Which) → adds_station what ≡ false
     → station_of stations site ≡ Some s → passed_limit limits site stations (lists.put place_of (station_after what s) stations) ≡ limit
     → refusal_by limit (option_map refusal_for (obstacle s what)) ≡ refusal_parts limits stations site what
 by_change limits stations site what s limit a e f =
     sym (order_same (adds_station what) false (is_kept stations site) true (passed_limit limits site stations (after_what site what stations)) limit
     (option_map refusal_for (obstacle_of (station_of stations site) what)) (option_map refusal_for (obstacle s what)) a (ap is_some e)
     (ap (passed_limit limits site stations) (only_changed site what stations a)
-    ∙ ap (λ (o : Option StationRecord). passed_limit limits site stations (with_changed (station_after what) o stations)) e ∙ f)
-    (ap (λ (o : Option StationRecord). option_map refusal_for (obstacle_of o what)) e))
+    ∙ ap (λ (o : Option StationState). passed_limit limits site stations (with_changed (station_after what) o stations)) e ∙ f)
+    (ap (λ (o : Option StationState). option_map refusal_for (obstacle_of o what)) e))
 
 -- one that puts no readings raises no count but those of the station alone
-pub refused_other : (limits : Limits) (stations : List StationRecord) (edit : Edit) (s : StationRecord) (limit : Option Which) → lists.IsRising place_of stations
+pub refused_other : (limits : Limits) (stations : List StationState) (edit : Edit) (s : StationState) (limit : Option Which) → lists.IsRising place_of stations
     → station_of stations edit.site ≡ Some s → adds_station edit.what ≡ false → ((readings : List Reading) → edit.what ≡ PutReadings readings → ⊥)
     → limit ≡ option_map limit_of (passed_count s (station_after edit.what s))
     → refusal_by limit (option_map refusal_for (obstacle s edit.what)) ≡ refusal_of limits stations edit
@@ -92,22 +92,22 @@ refused_other limits stations edit s limit h e a n l =
     (fewer_limit limits edit.site stations s (station_after edit.what s) h (e, same_place edit.what s) (fewer edit.what s n) ∙ sym l)
 
 -- a station stands at its own site
-pub own_site : (stations : List StationRecord) (site : SiteNumber) (s : StationRecord) → station_of stations site ≡ Some s → station_of stations s.site ≡ Some s
+pub own_site : (stations : List StationState) (site : SiteNumber) (s : StationState) → station_of stations site ≡ Some s → station_of stations s.site ≡ Some s
 own_site stations site s e = ap (λ (n : ℤ). lists.at place_of n stations) (at_place place_of (site_place site) stations s e) ∙ e
 
 -- the limit that is passed hangs on the site's place alone
-abbrev limit_at : Limits → List StationRecord → List StationRecord → ℤ → Option Which
+abbrev limit_at : Limits → List StationState → List StationState → ℤ → Option Which
 limit_at limits before after n =
     cond (passes limits.stations (length before) (length after)) (Some counts.Stations)
     (cond (passes limits.readings (reading_count before) (reading_count after)) (Some counts.Readings)
     (cond (passes_a_day_of limits.day_readings (lists.at place_of n before) (lists.at place_of n after)) (Some counts.DayReadings)
     (passed_alone (lists.at place_of n before) (lists.at place_of n after))))
 
-site_same : (limits : Limits) (site other : SiteNumber) (before after : List StationRecord) → site_place site ≡ site_place other
+site_same : (limits : Limits) (site other : SiteNumber) (before after : List StationState) → site_place site ≡ site_place other
     → passed_limit limits site before after ≡ passed_limit limits other before after
 site_same limits site other before after e = ap (limit_at limits before after) e
 
-put_parts : (limits : Limits) (stations : List StationRecord) (site : SiteNumber) (s : StationRecord) (rs : List Reading) → station_of stations site ≡ Some s
+put_parts : (limits : Limits) (stations : List StationState) (site : SiteNumber) (s : StationState) (rs : List Reading) → station_of stations site ≡ Some s
     → option_map Limit (passed_limit limits s.site stations (lists.put place_of (with_readings (put_all rs) s) stations)) ≡ refusal_parts limits stations site (PutReadings rs)
 put_parts limits stations site s rs e =
     let after = lists.put place_of (with_readings (put_all rs) s) stations in
@@ -115,7 +115,7 @@ put_parts limits stations site s rs e =
     ∙ by_change limits stations site (PutReadings rs) s (passed_limit limits s.site stations after) refl e
     (sym (site_same limits s.site site stations after (at_place place_of (site_place site) stations s e)))
 
-pub refused_readings : (limits : Limits) (stations : List StationRecord) (edit : Edit) (s : StationRecord) (rs : List Reading) → station_of stations edit.site ≡ Some s
+pub refused_readings : (limits : Limits) (stations : List StationState) (edit : Edit) (s : StationState) (rs : List Reading) → station_of stations edit.site ≡ Some s
     → edit.what ≡ PutReadings rs
     → option_map Limit (passed_limit limits s.site stations (lists.put place_of (with_readings (put_all rs) s) stations)) ≡ refusal_of limits stations edit
 refused_readings limits stations edit s rs e w = put_parts limits stations edit.site s rs e ∙ ap (refusal_parts limits stations edit.site) (sym w)
@@ -129,7 +129,7 @@ readings_step true day = refl
 readings_step false true = refl
 readings_step false false = refl
 
-pub readings_told : (limits : Limits) (stations : List StationRecord) (s : StationRecord) (rs : List Reading) (all day : Bool) → lists.IsRising place_of stations
+pub readings_told : (limits : Limits) (stations : List StationState) (s : StationState) (rs : List Reading) (all day : Bool) → lists.IsRising place_of stations
     → station_of stations s.site ≡ Some s
     → all ≡ passes limits.readings (reading_count stations) (reading_count (lists.put place_of (with_readings (put_all rs) s) stations))
     → day ≡ passes_a_day limits.day_readings s (with_readings (put_all rs) s)
@@ -145,7 +145,7 @@ sums_swapped : (n m : ℕ) → n + m ≡ m + n
 sums_swapped n m = omega arith
 
 -- whether they pass that of all stations' readings, by those that are new, or by all of them where they are few
-pub new_in_all : (limit free more : ℕ) (stations : List StationRecord) (s : StationRecord) (rs : List Reading) → lists.IsRising place_of stations
+pub new_in_all : (limit free more : ℕ) (stations : List StationState) (s : StationState) (rs : List Reading) → lists.IsRising place_of stations
     → station_of stations s.site ≡ Some s → free ≡ limit - reading_count stations → length (put_all rs s.readings) ≡ length s.readings + more
     → nat_lt free more ≡ passes limit (reading_count stations) (reading_count (lists.put place_of (with_readings (put_all rs) s) stations))
 new_in_all limit free more stations s rs h e f c =
@@ -153,7 +153,7 @@ new_in_all limit free more stations s rs h e f c =
     free_told limit free more (reading_count stations) (reading_count (lists.put place_of t stations)) (length s.readings) (length (put_all rs s.readings)) f
     (count_put_same t s stations h (replaced_at s.site stations s t (e, refl)) ∙ sums_swapped (reading_count stations) (length t.readings)) c
 
-pub few_in_all : (limit free : ℕ) (stations : List StationRecord) (s : StationRecord) (rs : List Reading) → lists.IsRising place_of stations
+pub few_in_all : (limit free : ℕ) (stations : List StationState) (s : StationState) (rs : List Reading) → lists.IsRising place_of stations
     → station_of stations s.site ≡ Some s → IsRising s.readings → free ≡ limit - reading_count stations → length rs ≤ free
     → nat_lt free (length rs) ≡ passes limit (reading_count stations) (reading_count (lists.put place_of (with_readings (put_all rs) s) stations))
 few_in_all limit free stations s rs h e k f l =
@@ -161,5 +161,5 @@ few_in_all limit free stations s rs h e k f l =
     few_step free a.more (length rs) (passes limit (reading_count stations) (reading_count (lists.put place_of (with_readings (put_all rs) s) stations))) a.most l
     (new_in_all limit free a.more stations s rs h e f a.count)
 
-pub records_length : (kept : List KeptStation) → length (records_of kept) ≡ length kept
+pub records_length : (kept : List KeptStation) → length (states_of kept) ≡ length kept
 records_length kept = length-map kept (λ (k : KeptStation). k.station)

@@ -6,20 +6,20 @@ use Rattle.rising.specs.Lists.{at, put}
 use Rattle.rising.proofs.Placing.{at_put}
 use Rattle.rising.proofs.Selecting.{slice_get_at}
 use Rattle.station_inputs.specs.KeptStation.{KeptStation}
-use Rattle.station_inputs.specs.Stations.{StationRecord}
-use Rattle.office_inputs.specs.Kept.{records_of, kept_at, place_of_kept}
+use Rattle.station_inputs.specs.Stations.{StationState}
+use Rattle.office_inputs.specs.Kept.{states_of, kept_at, place_of_kept}
 use Rattle.office_inputs.proofs.KeepLemmas.{at_place}
 
-cons_same : (x y : StationRecord) (xs ys : List StationRecord) → x ≡ y → xs ≡ ys → x ∷ xs ≡ y ∷ ys
+cons_same : (x y : StationState) (xs ys : List StationState) → x ≡ y → xs ≡ ys → x ∷ xs ≡ y ∷ ys
 cons_same x y xs ys e f = cc
 
 -- the records are as before where the one written is
 pub records_same : (kept : List KeptStation) (i : ℕ) (x y : KeptStation) → i < length kept → x ≡ slice_index_or kept i x → y.station ≡ x.station
-    → records_of (slice_set kept i y) ≡ records_of kept
+    → states_of (slice_set kept i y) ≡ states_of kept
 records_same [] i x y l e f = absurd (omega arith)
-records_same (k ∷ kept) zero x y l e f = cons_same y.station k.station (records_of kept) (records_of kept) (f ∙ ap (λ (k : KeptStation). k.station) e) refl
+records_same (k ∷ kept) zero x y l e f = cons_same y.station k.station (states_of kept) (states_of kept) (f ∙ ap (λ (k : KeptStation). k.station) e) refl
 records_same (k ∷ kept) (suc i) x y l e f =
-    cons_same k.station k.station (records_of (slice_set kept i y)) (records_of kept) refl (records_same kept i x y (omega arith) e f)
+    cons_same k.station k.station (states_of (slice_set kept i y)) (states_of kept) refl (records_same kept i x y (omega arith) e f)
 
 -- the station in its place is that of the site
 pub stands_at : (kept : List KeptStation) (site : SiteNumber) (i : ℕ) (x : KeptStation) → i < length kept → x ≡ slice_index_or kept i x

@@ -1,4 +1,4 @@
--- What is kept of all stations, as contracts see it: the records in force with their limits, and room beside them.
+-- What is kept of all stations, as contracts see it: the states of those in force with their limits, and room beside them.
 use Rattle.std.specs.Prelude.{◌≡◌, ℕ, ◌<◌, List, [], map, All, Option, Some, None, IfSome, ℤ}
 use Rattle.fixed_units.specs.Quantities.{SiteNumber, site_place}
 use Rattle.rising.specs.Lists as lists
@@ -10,7 +10,7 @@ use Rattle.office_inputs.specs.declared.staged.StagedEdit.{StagedEdit}
 use Rattle.office_inputs.specs.declared.staged.StagedEdit.TheVariants.{Whole, Part}
 use Rattle.station_inputs.specs.KeptStation.{KeptStation, IsStation}
 use Rattle.station_inputs.specs.Room.{HasStationRoom}
-use Rattle.station_inputs.specs.Stations.{StationRecord}
+use Rattle.station_inputs.specs.Stations.{StationState}
 use Rattle.station_inputs.specs.declared.staged.Staged.{Staged}
 use Rattle.station_inputs.specs.declared.staged.Staged.TheVariants.{Nothing}
 
@@ -18,9 +18,9 @@ use Rattle.station_inputs.specs.declared.staged.Staged.TheVariants.{Nothing}
 abbrev pub place_of_kept : KeptStation → ℤ
 place_of_kept kept = place_of kept.station
 
--- the records of kept stations
-abbrev pub records_of : List KeptStation → List StationRecord
-records_of kept = map (λ k. k.station) kept
+-- the states of kept stations
+abbrev pub states_of : List KeptStation → List StationState
+states_of kept = map (λ k. k.station) kept
 
 -- the inputs in force as they are kept: beside the stations their limits, for how many more stations there is room, and what is
 -- made ready for an edit that carries more than numbers
@@ -31,8 +31,8 @@ pub record InForce : Type 0 where
   pub staged : StagedEdit
 
 -- the stations in force
-abbrev pub in_force : InForce → List StationRecord
-in_force inputs = records_of inputs.kept
+abbrev pub in_force : InForce → List StationState
+in_force inputs = states_of inputs.kept
 
 -- the station of a site with its room
 abbrev pub kept_at : List KeptStation → SiteNumber → Option KeptStation
@@ -44,7 +44,7 @@ pub record AreStations (kept : List KeptStation) : Type 0 where
   pub each : All (λ k. IsStation k.station) kept
 
 -- a staged station
-abbrev pub IsStagedStation : StationRecord → StagedEdit → Type 0
+abbrev pub IsStagedStation : StationState → StagedEdit → Type 0
 IsStagedStation station (Whole kept) = kept.station ≡ station
 IsStagedStation station (Part staged) = ⊥
 
@@ -63,7 +63,7 @@ abbrev pub HasRoomThere : List KeptStation → Staged → SiteNumber → What �
 HasRoomThere kept staged site what = IfSome (kept_at kept site) (λ k. HasStationRoom k staged what)
 
 -- room is made for an edit: the station that it adds is staged and there is room for it, or the station that it changes has room
-abbrev pub HasRoomFor : InForce → SiteNumber → What → Option StationRecord → Type 0
+abbrev pub HasRoomFor : InForce → SiteNumber → What → Option StationState → Type 0
 HasRoomFor inputs site what (Some station) = IsStagedStation station inputs.staged × (0 < inputs.spare)
 HasRoomFor inputs site what None = HasRoomThere inputs.kept (staged_part inputs.staged) site what
 

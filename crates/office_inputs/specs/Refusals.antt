@@ -10,7 +10,7 @@ use Rattle.office_inputs.specs.Stations.{station_of, stations_after}
 use Rattle.office_inputs.specs.declared.limits.Limits.{Limits}
 use Rattle.station_inputs.specs.Counts.{passed_count, passes, passes_a_day}
 use Rattle.station_inputs.specs.Obstacles.{obstacle}
-use Rattle.station_inputs.specs.Stations.{StationRecord}
+use Rattle.station_inputs.specs.Stations.{StationState}
 use Rattle.station_inputs.specs.declared.counts.Counted.{Counted}
 use Rattle.station_inputs.specs.declared.counts.Counted.TheVariants as counted
 use Rattle.station_inputs.specs.declared.obstacles.Obstacle.{Obstacle}
@@ -25,15 +25,15 @@ abbrev pub adds_station : What → Bool
 adds_station (AddStation name zone gap stage_array discharge_array) = true
 adds_station _ = false
 
-abbrev pub is_kept : List StationRecord → SiteNumber → Bool
+abbrev pub is_kept : List StationState → SiteNumber → Bool
 is_kept stations site = is_some (station_of stations site)
 
 -- the readings of all stations, erroneous ones among them
-abbrev pub reading_count : List StationRecord → ℕ
-reading_count stations = sum_by (λ (s : StationRecord). length s.readings) stations
+abbrev pub reading_count : List StationState → ℕ
+reading_count stations = sum_by (λ (s : StationState). length s.readings) stations
 
 -- the station of a site before an edit and after it, where it is kept at both: some local day of it has too many readings then
-abbrev pub passes_a_day_of : ℕ → Option StationRecord → Option StationRecord → Bool
+abbrev pub passes_a_day_of : ℕ → Option StationState → Option StationState → Bool
 passes_a_day_of limit None after = false
 passes_a_day_of limit (Some s) None = false
 passes_a_day_of limit (Some s) (Some t) = passes_a_day limit s t
@@ -46,13 +46,13 @@ limit_of counted.Periods = counts.Periods
 limit_of counted.Measurements = counts.Measurements
 
 -- the first of a station's other counts that passes its limit
-abbrev pub passed_alone : Option StationRecord → Option StationRecord → Option Which
+abbrev pub passed_alone : Option StationState → Option StationState → Option Which
 passed_alone None after = None
 passed_alone (Some s) None = None
 passed_alone (Some s) (Some t) = option_map limit_of (passed_count s t)
 
 -- the first count that the edit would raise past its limit
-abbrev pub passed_limit : Limits → SiteNumber → List StationRecord → List StationRecord → Option Which
+abbrev pub passed_limit : Limits → SiteNumber → List StationState → List StationState → Option Which
 passed_limit limits site before after =
     if passes limits.stations (length before) (length after) then Some counts.Stations
     else (if passes limits.readings (reading_count before) (reading_count after) then Some counts.Readings
@@ -74,7 +74,7 @@ refusal_for_objection (objections.NotApproved day) = NotApproved day
 refusal_for_objection (objections.AlreadyApproved day) = AlreadyApproved day
 
 -- what of the station stands in the way, where there is one
-abbrev pub obstacle_of : Option StationRecord → What → Option Obstacle
+abbrev pub obstacle_of : Option StationState → What → Option Obstacle
 obstacle_of None what = None
 obstacle_of (Some s) what = obstacle s what
 
@@ -84,7 +84,7 @@ refusal_by None obstacle = obstacle
 refusal_by (Some which) obstacle = Some (Limit which)
 
 -- the refusal of an edit by the inputs in force
-abbrev pub refusal_of : Limits → List StationRecord → Edit → Option Refusal
+abbrev pub refusal_of : Limits → List StationState → Edit → Option Refusal
 refusal_of limits stations edit =
     if not (adds_station edit.what) && not (is_kept stations edit.site) then Some NoStation
     else (if adds_station edit.what && is_kept stations edit.site then Some StationExists

@@ -2,13 +2,13 @@
 
 ghost use Rattle.std.specs.Prelude.{◌≡◌, ◌+◌, ◌<◌, ◌≤◌, false, None, [], vec_len, vec_capacity};
 ghost use Rattle.edits.specs.Lawful.{IsLawful};
-ghost use Rattle.office_inputs.specs.Kept.{AreStations, HasRoom, HasRoomThere, IsStagedNew, IsStagedStation, in_force, kept_at, records_of, staged_part};
+ghost use Rattle.office_inputs.specs.Kept.{AreStations, HasRoom, HasRoomThere, IsStagedNew, IsStagedStation, in_force, kept_at, states_of, staged_part};
 ghost use Rattle.office_inputs.specs.Places.{IsPlace, IsPlaceOf};
 ghost use Rattle.office_inputs.specs.Refusals.{obstacle_of, reading_count, refusal_of};
 ghost use Rattle.office_inputs.specs.Stations.{changed_at, place_of, station_of, stations_after};
 ghost use Rattle.rising.specs.Lists.{put};
 ghost use Rattle.station_inputs.specs.Counts.{passes};
-ghost use Rattle.station_inputs.specs.Stations.{StationRecord, station_after};
+ghost use Rattle.station_inputs.specs.Stations.{StationState, station_after};
 
 use crate::inputs::Inputs;
 use crate::places::Place;
@@ -50,7 +50,7 @@ impl Inputs {
         requires staged { IsStagedNew site self.old.staged }
         requires room { 0 < self.old.spare }
         requires absent { kept_at self.old.kept site ≡ None }
-        ensures stations { (station : StationRecord) → IsStagedStation station self.old.staged → in_force self.new ≡ put place_of station (in_force self.old) }
+        ensures stations { (station : StationState) → IsStagedStation station self.old.staged → in_force self.new ≡ put place_of station (in_force self.old) }
         ensures limits { self.new.limits ≡ self.old.limits }
     {
         if let StagedEdit::Whole(station) = self.take_staged() {
@@ -100,8 +100,8 @@ fn add_in(stations: &mut Vec<Station>, station: Station)
     requires room { vec_len stations.old < vec_capacity stations.old }
     requires absent { kept_at stations.old.items station.station.site ≡ None }
     requires empty { station.station.readings ≡ [] }
-    ensures records { records_of stations.new.items ≡ put place_of station.station (records_of stations.old.items) }
-    ensures count { reading_count (records_of stations.new.items) ≡ reading_count (records_of stations.old.items) }
+    ensures records { states_of stations.new.items ≡ put place_of station.station (states_of stations.old.items) }
+    ensures count { reading_count (states_of stations.new.items) ≡ reading_count (states_of stations.old.items) }
     ensures kept { AreStations stations.new.items }
 {
     let _site = station.site();
@@ -116,13 +116,13 @@ fn change_in(
     staged: Staged,
 ) -> (usize, usize)
     requires kept { AreStations stations.old.items }
-    requires place { IsPlace (records_of stations.old.items) place }
+    requires place { IsPlace (states_of stations.old.items) place }
     requires lawful { IsLawful what.now }
-    requires free { obstacle_of (station_of (records_of stations.old.items) place.site) what.now ≡ None }
+    requires free { obstacle_of (station_of (states_of stations.old.items) place.site) what.now ≡ None }
     requires room { HasRoomThere stations.old.items staged place.site what.now }
-    ensures records { records_of stations.new.items ≡ changed_at place.site (station_after what.now) (records_of stations.old.items) }
-    ensures count { reading_count (records_of stations.new.items) + result.0 ≡ reading_count (records_of stations.old.items) + result.1 }
-    ensures within { result.0 ≤ reading_count (records_of stations.old.items) }
+    ensures records { states_of stations.new.items ≡ changed_at place.site (station_after what.now) (states_of stations.old.items) }
+    ensures count { reading_count (states_of stations.new.items) + result.0 ≡ reading_count (states_of stations.old.items) + result.1 }
+    ensures within { result.0 ≤ reading_count (states_of stations.old.items) }
     ensures kept { AreStations stations.new.items }
 {
     match place.index() {

@@ -36,14 +36,14 @@ pub struct Inputs {
 
 impl Model for Inputs {
     ghost use Rattle.std.specs.Prelude.{◌≡◌, ◌-◌, vec_len, vec_capacity};
-    ghost use Rattle.office_inputs.specs.Kept.{InForce, AreStations, records_of};
+    ghost use Rattle.office_inputs.specs.Kept.{InForce, AreStations, states_of};
     ghost use Rattle.office_inputs.specs.Refusals.{reading_count};
 
     ghost Value = { InForce };
 
     ghost view = { λ i. record { limits = i.limits; kept = i.stations.items; spare = vec_capacity i.stations - vec_len i.stations; staged = i.staged } };
 
-    ghost invariant = { λ i. AreStations i.stations.items × (i.readings ≡ reading_count (records_of i.stations.items)) };
+    ghost invariant = { λ i. AreStations i.stations.items × (i.readings ≡ reading_count (states_of i.stations.items)) };
 }
 
 impl Inputs {

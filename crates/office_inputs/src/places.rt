@@ -3,7 +3,7 @@
 
 ghost use Rattle.std.specs.Prelude.{◌≡◌, option_map};
 ghost use Rattle.rising.specs.Lists.{IsRising};
-ghost use Rattle.office_inputs.specs.Kept.{kept_at, place_of_kept, records_of};
+ghost use Rattle.office_inputs.specs.Kept.{kept_at, place_of_kept, states_of};
 ghost use Rattle.office_inputs.specs.Places.{IsPlace, IsPlaceOf};
 
 use fixed_units::Site;
@@ -47,7 +47,7 @@ impl Place {
 /// Where the station of a site stands, by a binary search.
 pub(crate) fn find_place(stations: &[Station], site: Site) -> Place
     requires { IsRising place_of_kept stations.now }
-    ensures { IsPlaceOf (records_of stations.now) site result }
+    ensures { IsPlaceOf (states_of stations.now) site result }
 {
     Place {
         site,
@@ -58,7 +58,7 @@ pub(crate) fn find_place(stations: &[Station], site: Site) -> Place
 /// The station at a place.
 pub(crate) fn station_there(stations: &[Station], place: Place) -> Option<&Station>
     requires rising { IsRising place_of_kept stations.now }
-    requires place { IsPlace (records_of stations.now) place }
+    requires place { IsPlace (states_of stations.now) place }
     ensures { option_map (λ s. s.now) result ≡ kept_at stations.now place.site }
 {
     match place.index() {

@@ -2,9 +2,9 @@
 
 ghost use Rattle.std.specs.Prelude.{◌≡◌, ◌≤◌, ◌<◌, IfOk, OnOk, vec_len, vec_capacity};
 ghost use Rattle.civil_days.specs.Starts.{IsZone};
-ghost use Rattle.day_inputs.specs.DayInputs.{most_gap};
+ghost use Rattle.fixed_units.specs.Quantities.{most_gap};
 ghost use Rattle.edits.specs.Lawful.{IsLawful};
-ghost use Rattle.office_inputs.specs.Kept.{AreStations, HasRoom, HasRoomThere, IsStagedStation, in_force, records_of, staged_part};
+ghost use Rattle.office_inputs.specs.Kept.{AreStations, HasRoom, HasRoomThere, IsStagedStation, in_force, states_of, staged_part};
 ghost use Rattle.office_inputs.specs.Places.{IsPlace, IsPlaceOf};
 ghost use Rattle.station_inputs.specs.Stations.{new_station};
 
@@ -101,9 +101,9 @@ fn prepare_in(
     what: &What,
 ) -> Result<Staged, NoMemory>
     requires stations { AreStations stations.old.items }
-    requires place { IsPlace (records_of stations.old.items) place }
+    requires place { IsPlace (states_of stations.old.items) place }
     requires lawful { IsLawful what.now }
-    ensures records { records_of stations.new.items ≡ records_of stations.old.items }
+    ensures records { states_of stations.new.items ≡ states_of stations.old.items }
     ensures kept { AreStations stations.new.items }
     ensures len { vec_len stations.new ≡ vec_len stations.old }
     ensures capacity { vec_capacity stations.new ≡ vec_capacity stations.old }

@@ -1,7 +1,7 @@
 -- What `find` gives where all or none of a list passes, and `filter` across reversals.
 use Rattle.rising.proofs.Selecting.{none_found, All-reverse}
-use Rattle.std.specs.Prelude.{◌≡◌, Bool, true, false, cond, ◌&&◌, List, [], ◌∷◌, ◌++◌, filter, find, reverse, Option, Some, None, All, MatchOption}
-use Rattle.std.proofs.Common.{refl, ap, sym, ◌∙◌}
+use Rattle.std.specs.Prelude.{◌≡◌, ℕ, suc, ◌≤◌, Bool, true, false, cond, ◌&&◌, List, [], ◌∷◌, ◌++◌, filter, length, find, reverse, Option, Some, None, All, MatchOption}
+use Rattle.std.proofs.Common.{refl, ap, sym, ◌∙◌, arith}
 use Rattle.std.proofs.lemmas.Grind.{reverse_onto}
 use Rattle.std.proofs.lemmas.List.{append-nil, reverse-reverse}
 use Rattle.std.proofs.lemmas.List.Elements.{All-head, All-tail, All-cons, All-nil, filter-append}
@@ -75,3 +75,23 @@ none_back p xs e = find_none p (reverse xs) (All-reverse (λ x. p x ≡ false) x
 
 pub none_front : {X : Type 0} (p : X → Bool) (xs : List X) → find p (reverse xs) ≡ None → find p xs ≡ None
 none_front p xs e = ap (find p) (sym (reverse-reverse xs)) ∙ none_back p (reverse xs) e
+
+fewer_step : {X : Type 0} (b : Bool) (x : X) (ys zs : List X) → length ys ≤ length zs → length (cond b (x ∷ ys) ys) ≤ suc (length zs)
+fewer_step true x ys zs h = omega (arith, h)
+fewer_step false x ys zs h = omega (arith, h)
+
+fewer : {X : Type 0} (p : X → Bool) (xs : List X) → length (filter p xs) ≤ length xs
+fewer p [] = omega arith
+fewer p (x ∷ xs) = fewer_step (p x) x (filter p xs) xs (fewer p xs)
+
+whole_step : {X : Type 0} (b : Bool) (x : X) (ys zs : List X) → length ys ≤ length zs → (length ys ≡ length zs → ys ≡ zs)
+    → length (cond b (x ∷ ys) ys) ≡ suc (length zs) → cond b (x ∷ ys) ys ≡ x ∷ zs
+whole_step true x ys zs few same h =
+    let more : length (x ∷ ys) ≡ suc (length ys) = refl in
+    ap (λ l. x ∷ l) (same (omega (arith, more, h)))
+whole_step false x ys zs few same h = absurd (omega (arith, few, h))
+
+-- where as many pass as there are, all do
+pub filter-whole : {X : Type 0} (p : X → Bool) (xs : List X) → length (filter p xs) ≡ length xs → filter p xs ≡ xs
+filter-whole p [] h = refl
+filter-whole p (x ∷ xs) h = whole_step (p x) x (filter p xs) xs (fewer p xs) (filter-whole p xs) h

@@ -1,6 +1,6 @@
 //! The window of a day: lent without a copy, and as a list.
 
-ghost use Rattle.std.specs.Prelude.{◌≡◌, pos, ◌*◌, ◌++◌, filter, option_to_list, OnOk, IfOk};
+ghost use Rattle.std.specs.Prelude.{◌≡◌, pos, ◌*◌, ◌++◌, filter, length, option_to_list, OnOk, IfOk};
 ghost use Rattle.readings.specs.Halves.{joined};
 ghost use Rattle.readings.specs.Readings.{is_used};
 ghost use Rattle.readings.specs.Window.{window, of_day, window_before, window_after};
@@ -34,14 +34,6 @@ impl<'a> Window<'a> {
             left: self.left,
             right: self.right,
         }
-    }
-
-    /// How many readings the window has.
-    fn count(&self) -> usize {
-        let ends = usize::from(self.before.is_some()) + usize::from(self.after.is_some());
-        count_used(self.left)
-            .saturating_add(count_used(self.right))
-            .saturating_add(ends)
     }
 }
 
@@ -82,19 +74,28 @@ impl Readings {
         ensures { IfOk result (λ v. v.items ≡ window a b (pos (60 * gap)) self.now.list) }
     {
         let window = self.window(a, b, gap);
-        let mut list = Vec::with_capacity(alloc, window.count())?;
+        let left = count_used(window.left);
+        let right = count_used(window.right);
+        let ends = usize::from(window.before.is_some()) + usize::from(window.after.is_some());
+        let room = left.saturating_add(right).saturating_add(ends);
+        let mut list = Vec::with_capacity(alloc, room)?;
         push_some(&mut list, window.before)?;
-        push_used(&mut list, window.left)?;
-        push_used(&mut list, window.right)?;
+        push_used(&mut list, window.left, left)?;
+        push_used(&mut list, window.right, right)?;
         push_some(&mut list, window.after)?;
         Ok(list)
     }
 }
 
-/// Adds the readings of a slice that are used.
-fn push_used(list: &mut Vec<Reading>, readings: &[Reading]) -> Result<(), NoMemory>
+/// Adds the readings of a slice that are used, which are so many. Most days use all of theirs, which are copied as they stand.
+fn push_used(list: &mut Vec<Reading>, readings: &[Reading], used: usize) -> Result<(), NoMemory>
+    requires { used ≡ length (filter is_used readings.now) }
     ensures { OnOk result (list.new.items ≡ list.old.items ++ filter is_used readings.now) }
 {
+    if used == readings.len() {
+        list.extend_from_slice(readings)?;
+        return Ok(());
+    }
     list.extend(readings.iter().copied().filter(|r| is_usable(r)))?;
     Ok(())
 }

@@ -8,7 +8,7 @@ use Rattle.day_inputs.specs.declared.day_inputs.DayInputs.{DayInputs}
 use Rattle.day_inputs.specs.Equality.{same_inputs}
 use Rattle.day_inputs.proofs.EqualityLemmas.{Decides-same_inputs}
 use Rattle.office_inputs.specs.Stations.{inputs_of_day}
-use Rattle.station_inputs.specs.Stations.{StationRecord}
+use Rattle.station_inputs.specs.Stations.{StationState}
 use Rattle.day_cells.specs.KeptDays.{KeptDays}
 use Rattle.recompute.specs.Cells.{awaited_in}
 use Rattle.recompute.specs.Jobs.{DayJob, outcome_by, outcome_of}
@@ -42,7 +42,7 @@ outcome_where_awaited None awaits same h = ((λ k. (cc), λ k. (cc)), λ k. (cc)
 outcome_where_awaited (Some edit) awaits same h = other_edit edit awaits same (edit == awaits) refl h
 
 -- a job whose inputs are those in force as long as its day awaits its edit
-pub published_where_awaited : (cells : List KeptDays) (stations : List StationRecord) (job : DayJob)
+pub published_where_awaited : (cells : List KeptDays) (stations : List StationState) (job : DayJob)
     → (awaited_in cells job.site job.day ≡ Some job.awaits → job.inputs ≡ inputs_of_day stations job.site job.day)
     → (outcome_of cells stations job ≡ Published ↔ awaited_in cells job.site job.day ≡ Some job.awaits) × (outcome_of cells stations job ≢ Foreign)
 published_where_awaited cells stations job h =

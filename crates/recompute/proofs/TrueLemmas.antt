@@ -17,7 +17,7 @@ use Rattle.fixed_units.proofs.CalendarLemmas.{calendar_any}
 use Rattle.office_inputs.specs.Changes.{keeps_day, changed_days}
 use Rattle.office_inputs.proofs.LawLemmas.{station_left}
 use Rattle.office_inputs.specs.Stations.{place_of, station_of, stations_after, day_of_station, inputs_of_day}
-use Rattle.station_inputs.specs.Stations.{StationRecord}
+use Rattle.station_inputs.specs.Stations.{StationState}
 use Rattle.rising.specs.Lists.{at}
 use Rattle.recompute.specs.Cells.{SaysTheSame, Marks, TakesOut, Publishes, awaited_in, is_day_of}
 use Rattle.recompute.specs.Jobs.{DayJob, IsTrueJob}
@@ -25,7 +25,7 @@ use Rattle.recompute.proofs.FoundLemmas.{any_both}
 use Rattle.recompute.proofs.StationLemmas.{site_yes, site_no}
 
 -- the same day of two sites that are one
-same_day : (stations : List StationRecord) (a b : SiteNumber) (day : ℤ) → site_place a ≡ site_place b → inputs_of_day stations a day ≡ inputs_of_day stations b day
+same_day : (stations : List StationState) (a b : SiteNumber) (day : ℤ) → site_place a ≡ site_place b → inputs_of_day stations a day ≡ inputs_of_day stations b day
 same_day stations a b day e = ap (λ n. day_of_station (at place_of n stations) day) e
 
 -- a test finds a day of the calendar that passes another
@@ -46,7 +46,7 @@ not_listed : (p : ℤ → Bool) (day : ℤ) (b : Bool) → IsDay day → contain
 not_listed p day true i e f = sym (is_listed p day i f) ∙ e
 not_listed p day false i e f = refl
 
-module _ (stations : List StationRecord) (edit : Edit) (site : SiteNumber) (day : ℤ) (inside : IsDay day) where
+module _ (stations : List StationState) (edit : Edit) (site : SiteNumber) (day : ℤ) (inside : IsDay day) where
   -- a day of the calendar that is not marked keeps its inputs
   unmarked : (b : Bool) → same_site edit.site site ≡ b → (b && contains_day (changed_days stations edit) day) ≡ false
       → inputs_of_day (stations_after stations edit) site day ≡ inputs_of_day stations site day
@@ -57,7 +57,7 @@ module _ (stations : List StationRecord) (edit : Edit) (site : SiteNumber) (day 
       sym (same_day (stations_after stations edit) edit.site site day p) ∙ sym same ∙ same_day stations edit.site site day p
   unmarked false e h = ap (λ o. day_of_station o day) (station_left stations edit site e)
 
-module _ (old new : List KeptDays) (stations : List StationRecord) (job : DayJob) where
+module _ (old new : List KeptDays) (stations : List StationState) (job : DayJob) where
   marked_step : (edit : Edit) (number : ℕ) (b : Bool) → IsDay job.day → job.awaits ≢ number
       → (same_site edit.site job.site && contains_day (changed_days stations edit) job.day) ≡ b
       → cond b (Some number) (awaited_in old job.site job.day) ≡ Some job.awaits → IsTrueJob old stations job

@@ -80,6 +80,6 @@ pub enum DecodeFault {
     #[error("the bytes are not the payload of a record")]
     NotARecord,
     /// There was no memory for the record.
-    #[error("there was no memory for the record")]
+    #[error("there is no memory for the record")]
     NoMemory,
 }

@@ -101,5 +101,5 @@ fn row_from(row: &[u8; 16]) -> (Micro, Micro)
     ensures { result ≡ row_in row.now }
 {
     let (stage, discharge) = quantities(row);
-    (Micro::new(stage).unwrap(), Micro::new(discharge).unwrap())
+    (Micro::of_millionths(stage), Micro::of_millionths(discharge))
 }

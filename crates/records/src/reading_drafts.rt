@@ -81,8 +81,8 @@ fn reading_from(piece: &[u8; 17]) -> Reading
 {
     let (at, raw) = numbers(piece);
     Reading {
-        at: Second::new(at).unwrap(),
-        raw: Micro::new(raw).unwrap(),
+        at: Second::of_seconds(at),
+        raw: Micro::of_millionths(raw),
         flag: flag_in(piece),
     }
 }

@@ -60,6 +60,7 @@ fn kind_of(what: &What) -> u8
 }
 
 /// Adds a byte of length and the bytes of a text.
+#[inline(always)]
 fn put_short_text(out: &mut Vec<u8>, text: &[u8]) -> Result<(), NoMemory>
     requires short { length text.now < 256 }
     ensures { OnOk result (out.new.items ≡ out.old.items ++ short_text text.now) }

@@ -15,7 +15,7 @@ use Rattle.history.proofs.EventLemmas.{accepted_all, accepted_accepted, accepted
 use Rattle.history.proofs.PendingLemmas.{pending_more}
 use Rattle.office_inputs.specs.Changes.{changed_days}
 use Rattle.office_inputs.specs.Stations.{stations_of}
-use Rattle.station_inputs.specs.Stations.{StationRecord}
+use Rattle.station_inputs.specs.Stations.{StationState}
 use Rattle.records.specs.Sheets.{Record}
 use Rattle.register.specs.Keeping.{KeepsToTheLimit}
 use Rattle.register.proofs.CourseLemmas.{ArePublished}
@@ -56,7 +56,7 @@ again_back (Accepted piece ∷ back) site day h =
     let older = again (reverse back) in
     ap (λ (l : List Event). is_pending l site day) (ap again (reverse-append (Accepted piece ∷ []) back) ∙ again_accepted (reverse back) piece)
     ∙ ap (λ (o : Option ℕ). is_some o) (awaited_accepted older piece site day)
-    ∙ ap (λ (s : List StationRecord). is_some (cond (changes s piece.edit site day) (Some (length (accepted older) + 1)) (awaited older site day))) (stations_again (reverse back))
+    ∙ ap (λ (s : List StationState). is_some (cond (changes s piece.edit site day) (Some (length (accepted older) + 1)) (awaited older site day))) (stations_again (reverse back))
     ∙ some_step (changes (stations_at (reverse back)) piece.edit site day) (length (accepted back) + 1) (length (accepted older) + 1) (awaited_back back site day)
     (awaited older site day) h (again_back back site day)
 again_back (Published own its ∷ back) site day h =
@@ -99,7 +99,7 @@ no_longer_accepted events piece k =
     let site = piece.edit.site in
     let now = pending_more events piece (stations_rise events) in
     let then = pending_more (again events) piece (stations_rise (again events)) in
-    let days = ap (λ (s : List StationRecord). count_by (λ (d : ℤ). is_none (awaited (again events) site d)) (changed_days s piece.edit)) (stations_again events) in
+    let days = ap (λ (s : List StationState). count_by (λ (d : ℤ). is_none (awaited (again events) site d)) (changed_days s piece.edit)) (stations_again events) in
     let fewer =
     no_more (λ (d : ℤ). is_none (awaited (again events) site d)) (λ (d : ℤ). is_none (awaited events site d)) (changed_days (stations_at events) piece.edit)
     (λ d. none_by (awaited events site d) (awaited (again events) site d) (pending_again events site d)) in

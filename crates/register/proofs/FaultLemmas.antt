@@ -18,7 +18,7 @@ use Rattle.history.proofs.PendingLemmas.{pending_at, pending_sum, pending_more}
 use Rattle.history.proofs.VerdictLemmas.{accepted_parts}
 use Rattle.office_inputs.specs.Kept.{InForce, AreStations}
 use Rattle.office_inputs.specs.Stations.{place_of, stations_of}
-use Rattle.station_inputs.specs.Stations.{StationRecord}
+use Rattle.station_inputs.specs.Stations.{StationState}
 use Rattle.records.specs.Sheets.{Record}
 use Rattle.office_inputs.specs.declared.limits.Limits.{Limits}
 use Rattle.register.specs.Keeping.{Keeps, KeepsToTheLimit}
@@ -41,8 +41,8 @@ module _ (events : List Event) (doubt : Option Record) where
   pub pending_faulted : length (pending_days more) ≡ length (pending_days events)
   pending_faulted =
       pending_sum more
-      ∙ ap (λ (pieces : List Record). sum_by (λ (s : StationRecord). pending_at more s.site) (stations_of (map edit_of pieces))) (accepted_faulted events doubt)
-      ∙ sums_same (λ (s : StationRecord). pending_at events s.site) (λ (s : StationRecord). pending_at more s.site) (stations_at events)
+      ∙ ap (λ (pieces : List Record). sum_by (λ (s : StationState). pending_at more s.site) (stations_of (map edit_of pieces))) (accepted_faulted events doubt)
+      ∙ sums_same (λ (s : StationState). pending_at events s.site) (λ (s : StationState). pending_at more s.site) (stations_at events)
       (λ k d l. pending_there (get_or (stations_at events) k d).site)
       ∙ sym (pending_sum events)
 

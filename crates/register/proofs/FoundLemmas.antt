@@ -17,7 +17,7 @@ use Rattle.history.specs.Events.{Event}
 use Rattle.history.proofs.PendingLemmas.{calendar_days}
 use Rattle.office_inputs.specs.Kept.{AreStations, in_force}
 use Rattle.office_inputs.specs.Stations.{place_of, inputs_of_day}
-use Rattle.station_inputs.specs.Stations.{StationRecord}
+use Rattle.station_inputs.specs.Stations.{StationState}
 use Rattle.recompute.specs.Cells.{waiting, is_behind}
 use Rattle.recompute.specs.Jobs.{DayJob, job_of}
 use Rattle.records.specs.Sheets.{Record}
@@ -47,29 +47,29 @@ pub record InRange (d : SiteDay) : Type 0 where
   pub site : IsSite d.site
   pub day : IsDay d.day
 
-days_in_range : (events : List Event) (stations : List StationRecord) → All (λ (s : StationRecord). IsSite s.site) stations
+days_in_range : (events : List Event) (stations : List StationState) → All (λ (s : StationState). IsSite s.site) stations
     → All InRange (flat_map (pending_of events) stations)
 days_in_range events [] h = All-nil InRange
 days_in_range events (s ∷ stations) h =
-    let here = All-head (λ (s : StationRecord). IsSite s.site) s stations h in
+    let here = All-head (λ (s : StationState). IsSite s.site) s stations h in
     All-append InRange (pending_of events s) (flat_map (pending_of events) stations)
     (All-map InRange (λ day. record { site = s.site; day = day }) (filter (is_pending events s.site) calendar)
     (All-filter (is_pending events s.site) (λ day. InRange (record { site = s.site; day = day })) calendar
     (All-weaker IsDay (λ day. InRange (record { site = s.site; day = day })) (λ day k. record { site = here; day = k }) calendar calendar_days)))
-    (days_in_range events stations (All-tail (λ (s : StationRecord). IsSite s.site) s stations h))
+    (days_in_range events stations (All-tail (λ (s : StationState). IsSite s.site) s stations h))
 
 -- each pending day is one of the calendar, of a site in range
-pub pending_in_range : (events : List Event) → All (λ (s : StationRecord). IsSite s.site) (stations_at events) → All InRange (pending_days events)
+pub pending_in_range : (events : List Event) → All (λ (s : StationState). IsSite s.site) (stations_at events) → All InRange (pending_days events)
 pending_in_range events h = days_in_range events (stations_at events) h
 
 same_site_number : (a b : SiteNumber) → IsSite a → IsSite b → site_place a ≡ site_place b → a ≡ b
 same_site_number a b h k e = (Decides-same_site a b h k).0 ((Decides-int_eq (site_place a) (site_place b)).1 e)
 
-same_job : (a b : SiteNumber) (x y : ℤ) (m n : ℕ) (s t : List StationRecord) → a ≡ b → x ≡ y → m ≡ n → s ≡ t
+same_job : (a b : SiteNumber) (x y : ℤ) (m n : ℕ) (s t : List StationState) → a ≡ b → x ≡ y → m ≡ n → s ≡ t
     → ◌≡◌ {A = DayJob} (record { site = a; day = x; awaits = m; inputs = inputs_of_day s a x }) (record { site = b; day = y; awaits = n; inputs = inputs_of_day t b y })
 same_job a b x y m n s t e f g h = rw (e, f, g, h) refl
 
-module _ (events : List Event) (cells : List KeptDays) (told : Tells events cells) (stations : List StationRecord) (same : stations ≡ stations_at events) where
+module _ (events : List Event) (cells : List KeptDays) (told : Tells events cells) (stations : List StationState) (same : stations ≡ stations_at events) where
   told_job : (w : Waiting) (d : SiteDay) → of_waiting w ≡ of_day events cells d → IsSite w.site → IsSite d.site → job_of stations w ≡ job_at events d
   told_job w d e h k =
       same_job w.site d.site w.day d.day w.awaits (unwrap_or (awaited events d.site d.day) 0) stations (stations_at events)
@@ -85,7 +85,7 @@ module _ (events : List Event) (cells : List KeptDays) (told : Tells events cell
       let t : of_waiting w ≡ of_day events cells d = cc in
       ap (λ (j : DayJob). Some j) (told_job w d t h k.site)
 
-  found_job : IsRising station_rank cells → IsRising place_of (stations_at events) → All (λ (s : StationRecord). IsSite s.site) (stations_at events)
+  found_job : IsRising station_rank cells → IsRising place_of (stations_at events) → All (λ (s : StationState). IsSite s.site) (stations_at events)
       → (q : Told → Bool) (job : Option DayJob) → job ≡ option_map (job_of stations) (find (λ w. q (of_waiting w)) (waiting cells))
       → IfSome job (λ (j : DayJob). IsSite j.site) → job ≡ option_map (job_at events) (find (λ d. q (of_day events cells d)) (pending_days events))
   found_job rising stations_rise sites q job e h =

@@ -21,7 +21,7 @@ use Rattle.history.proofs.NamedLemmas.{named_kept, named_new}
 use Rattle.office_inputs.specs.Changes.{changed_days}
 use Rattle.office_inputs.specs.Kept.{InForce, in_force}
 use Rattle.office_inputs.specs.Stations.{stations_of, stations_after}
-use Rattle.station_inputs.specs.Stations.{StationRecord}
+use Rattle.station_inputs.specs.Stations.{StationState}
 use Rattle.office_inputs.specs.declared.limits.Limits.{Limits}
 use Rattle.recompute.specs.Cells.{SaysTheSame, Marks, TakesOut, Publishes}
 use Rattle.records.specs.Payloads.{payload}
@@ -139,7 +139,7 @@ module _ (opened : ℕ) (inputs : InForce) (cells : List KeptDays) (places : Lis
       → Keeps (registered opened_with new more places standings room (events ++ Accepted piece ∷ [])) (pieces ++ piece ∷ []) counted size
   keeps_accepted opened_with piece new more standings room number counted size legal s l n m st p c z f w = record {
     legal = subst (λ (x : Limits). IsLegal (record { opened = opened_with; limits = x; events = events ++ Accepted piece ∷ [] })) (sym l) legal;
-    stations = s ∙ ap (λ (x : List StationRecord). stations_after x piece.edit) kept.stations ∙ sym (stations_accepted events piece);
+    stations = s ∙ ap (λ (x : List StationState). stations_after x piece.edit) kept.stations ∙ sym (stations_accepted events piece);
     pieces_are = ap (λ (ps : List Record). ps ++ piece ∷ []) kept.pieces_are ∙ sym (accepted_accepted events piece);
     events_are = c ∙ ap (λ k. k + 1) kept.events_are ∙ sym (length-append events (Accepted piece ∷ []));
     journal_is =

@@ -23,7 +23,7 @@ use Rattle.history.proofs.PendingLemmas.{calendar_days, own_site, pending_at, pe
 use Rattle.history.proofs.StationLemmas.{found_place, places_equal}
 use Rattle.history.proofs.VerdictLemmas.{accepted_parts}
 use Rattle.office_inputs.specs.Stations.{place_of, station_of, stations_of, stations_after}
-use Rattle.station_inputs.specs.Stations.{StationRecord}
+use Rattle.station_inputs.specs.Stations.{StationState}
 use Rattle.records.specs.Sheets.{Record}
 use Rattle.register.specs.Keeping.{KeepsToTheLimit}
 use Rattle.register.proofs.FaultLemmas.{fault_keeps_to}
@@ -32,7 +32,7 @@ use Rattle.register.proofs.TurnLemmas.{IsPending, all_pending}
 use Rattle.rising.specs.Lists.{IsRising}
 
 -- the stations in force rise by their sites
-rise_after_all : (stations : List StationRecord) (edits : List Edit) → IsRising place_of stations → IsRising place_of (fold stations_after stations edits)
+rise_after_all : (stations : List StationState) (edits : List Edit) → IsRising place_of stations → IsRising place_of (fold stations_after stations edits)
 rise_after_all stations [] h = h
 rise_after_all stations (edit ∷ edits) h = rise_after_all (stations_after stations edit) edits (stations_rise_after stations edit h)
 
@@ -95,20 +95,20 @@ module _ (events : List Event) (own : SiteNumber) (its : ℤ) (day : IsDay its) 
       ap (λ (days : List ℤ). length days) (filter_agree (is_pending more site) (is_pending events site)
       (λ d. still_pending events own its site d ∙ and_true (is_pending events site d) (is_day_of own its site d) (ap (λ b. b && int_eq its d) h)) calendar)
 
-  elsewhere : (s : StationRecord) → (place_of s ≡ site_place own → ⊥) → pending_at more s.site ≡ pending_at events s.site
+  elsewhere : (s : StationState) → (place_of s ≡ site_place own → ⊥) → pending_at more s.site ≡ pending_at events s.site
   elsewhere s apart = other_same s.site (false_from_ne_true (same_site own s.site) (λ t. apart (sym (places_equal own s.site t))))
 
-  fewer_at : (found : Option StationRecord) → station_of (stations_at events) own ≡ found → is_some found ≡ true
+  fewer_at : (found : Option StationState) → station_of (stations_at events) own ≡ found → is_some found ≡ true
       → length (pending_days more) + 1 ≡ length (pending_days events)
   fewer_at None e h = absurd (false≢true h)
   fewer_at (Some s) e h =
       let place = found_place (stations_at events) own s e in
       let swapped =
-      sums_swapped place_of (λ (s : StationRecord). pending_at events s.site) (λ (s : StationRecord). pending_at more s.site) (site_place own) elsewhere
+      sums_swapped place_of (λ (s : StationState). pending_at events s.site) (λ (s : StationState). pending_at more s.site) (site_place own) elsewhere
       (stations_at events) s (stations_rise events) e in
-      let whole : length (pending_days more) ≡ sum_by (λ (s : StationRecord). pending_at more s.site) (stations_at events) =
+      let whole : length (pending_days more) ≡ sum_by (λ (s : StationState). pending_at more s.site) (stations_at events) =
       pending_sum more
-      ∙ ap (λ (ps : List Record). sum_by (λ (s : StationRecord). pending_at more s.site) (stations_of (map edit_of ps))) (accepted_published events own its) in
+      ∙ ap (λ (ps : List Record). sum_by (λ (s : StationState). pending_at more s.site) (stations_of (map edit_of ps))) (accepted_published events own its) in
       let before = pending_sum events in
       let a = pending_by events s.site own place in
       let b = pending_by more s.site own place in
@@ -119,7 +119,7 @@ module _ (events : List Event) (own : SiteNumber) (its : ℤ) (day : IsDay its) 
   one_fewer = fewer_at (station_of (stations_at events) own) refl (pending_has_station events own its pending)
 
 -- each pending day is one of the calendar
-pub days_are : (events : List Event) (stations : List StationRecord) → All (λ (d : SiteDay). IsDay d.day) (flat_map (pending_of events) stations)
+pub days_are : (events : List Event) (stations : List StationState) → All (λ (d : SiteDay). IsDay d.day) (flat_map (pending_of events) stations)
 days_are events [] = All-nil (λ (d : SiteDay). IsDay d.day)
 days_are events (s ∷ stations) =
     All-append (λ (d : SiteDay). IsDay d.day) (pending_of events s) (flat_map (pending_of events) stations)

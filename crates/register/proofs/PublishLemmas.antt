@@ -13,7 +13,7 @@ use Rattle.history.specs.Events.{Event, Published}
 use Rattle.history.proofs.EventLemmas.{accepted_published}
 use Rattle.office_inputs.specs.Kept.{InForce, AreStations, in_force}
 use Rattle.office_inputs.specs.Stations.{place_of, stations_of, inputs_of_day}
-use Rattle.station_inputs.specs.Stations.{StationRecord}
+use Rattle.station_inputs.specs.Stations.{StationState}
 use Rattle.recompute.specs.Cells.{Publishes, waiting}
 use Rattle.recompute.specs.Jobs.{DayJob, outcome_by, outcome_of}
 use Rattle.recompute.specs.declared.jobs.Publish.TheVariants as publish
@@ -46,7 +46,7 @@ module _ (opened : ℕ) (inputs : InForce) (cells : List KeptDays) (places : Lis
       ∙ published_awaits _ _ _ told
 
   is_value : value ≡ value_at events job.site job.day
-  is_value = computed ∙ ap (λ (s : List StationRecord). day_value (inputs_of_day s job.site job.day)) kept.stations
+  is_value = computed ∙ ap (λ (s : List StationState). day_value (inputs_of_day s job.site job.day)) kept.stations
 
   now_told : Tells more new
   now_told = tells_published events cells new kept.cells_tell job.site job.day value is_value publishes

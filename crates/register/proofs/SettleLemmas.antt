@@ -16,7 +16,7 @@ use Rattle.history.specs.Awaited.{SiteDay, awaited, is_day_of, is_pending, pendi
 use Rattle.history.specs.Events.{Event, Published, History}
 use Rattle.history.proofs.EventLemmas.{accepted_published, awaited_published}
 use Rattle.office_inputs.specs.Stations.{stations_of}
-use Rattle.station_inputs.specs.Stations.{StationRecord}
+use Rattle.station_inputs.specs.Stations.{StationState}
 use Rattle.records.specs.Sheets.{Record}
 use Rattle.register.specs.Registered.{Registered, IsSettledTo, is_out}
 
@@ -55,7 +55,7 @@ module _ (events : List Event) (own : SiteNumber) (its : ℤ) where
       ∙ left_step site day (filter (is_pending more site) days) (filter (is_pending events site) days) (is_pending events site day) (is_day_of own its site day) refl
       (left_of_days site days)
 
-  left_of_stations : (stations : List StationRecord) → flat_map (pending_of more) stations ≡ filter (is_other own its) (flat_map (pending_of events) stations)
+  left_of_stations : (stations : List StationState) → flat_map (pending_of more) stations ≡ filter (is_other own its) (flat_map (pending_of events) stations)
   left_of_stations [] = refl
   left_of_stations (s ∷ stations) =
       ap (λ l. l ++ flat_map (pending_of more) stations) (left_of_days s.site calendar)

@@ -42,10 +42,10 @@ use Rattle.register.proofs.ReviewLemmas.{days_spanned}
 use Rattle.rising.specs.Lists.{at, put}
 use Rattle.rising.proofs.Placing.{at_put, at_put_other}
 use Rattle.sheets.specs.Sheets.{sheet}
-use Rattle.station_inputs.specs.Stations.{StationRecord, station_after}
+use Rattle.station_inputs.specs.Stations.{StationState, station_after}
 
 -- a decision leaves every station as it is
-own_at : (stations : List StationRecord) (s : StationRecord) (n : ℤ) (b : Bool) → int_eq (place_of s) n ≡ b → at place_of (place_of s) stations ≡ Some s
+own_at : (stations : List StationState) (s : StationState) (n : ℤ) (b : Bool) → int_eq (place_of s) n ≡ b → at place_of (place_of s) stations ≡ Some s
     → at place_of n (put place_of s stations) ≡ at place_of n stations
 own_at stations s n true e here =
     let same : place_of s ≡ n = (Decides-int_eq (place_of s) n).0 e in
@@ -53,17 +53,17 @@ own_at stations s n true e here =
 own_at stations s n false e here =
     at_put_other place_of s n stations (λ same. false≢true (sym e ∙ (Decides-int_eq (place_of s) n).1 same))
 
-left_at : (stations : List StationRecord) (own : SiteNumber) (from to : ℤ) (decision : Decision) (found : Option StationRecord) → station_of stations own ≡ found
+left_at : (stations : List StationState) (own : SiteNumber) (from to : ℤ) (decision : Decision) (found : Option StationState) → station_of stations own ≡ found
     → (n : ℤ) → at place_of n (with_changed (station_after (Decide from to decision)) found stations) ≡ at place_of n stations
 left_at stations own from to decision None e n = refl
 left_at stations own from to decision (Some s) e n =
     own_at stations s n (int_eq (place_of s) n) refl (ap (λ (m : ℤ). at place_of m stations) (found_place stations own s e) ∙ e)
 
-decided_inputs : (stations : List StationRecord) (edit : Edit) (site : SiteNumber) (day from to : ℤ) (decision : Decision) → edit.what ≡ Decide from to decision
+decided_inputs : (stations : List StationState) (edit : Edit) (site : SiteNumber) (day from to : ℤ) (decision : Decision) → edit.what ≡ Decide from to decision
     → inputs_of_day (stations_after stations edit) site day ≡ inputs_of_day stations site day
 decided_inputs stations edit site day from to decision e =
     ap (λ (w : What). day_of_station (station_of (in_force.after_what edit.site w stations) site) day) e
-    ∙ ap (λ (o : Option StationRecord). day_of_station o day) (left_at stations edit.site from to decision (station_of stations edit.site) refl (site_place site))
+    ∙ ap (λ (o : Option StationState). day_of_station o day) (left_at stations edit.site from to decision (station_of stations edit.site) refl (site_place site))
 
 -- the sheet of a day among those of its approval
 days_get : (from : ℤ) (n k : ℕ) → k < n → slice_get (days_from from n) k ≡ Some (from +ℤ pos k)
@@ -138,7 +138,7 @@ module _ (limits : Limits) (first : List Record) (site : SiteNumber) (day : ℤ)
       ∙ ap (λ (l : List (List ℕ)). slice_get l (unsigned_abs (day -ℤ a.from))) sheets ∙ day_sheet text a.from a.to day span a.within in
       let value : value_at events piece.edit.site day ≡ value_at more site day =
       ap day_value (same_day (stations_at events) piece.edit.site site day place
-      ∙ sym (ap (λ (l : List StationRecord). inputs_of_day l site day) (stations_accepted events piece)
+      ∙ sym (ap (λ (l : List StationState). inputs_of_day l site day) (stations_accepted events piece)
       ∙ decided_inputs (stations_at events) piece.edit site day a.from a.to Approve a.what_is)) in
       record {
         approval = piece;

@@ -22,7 +22,7 @@ use Rattle.history.proofs.SpanLemmas.{span_more, none_ever_changed}
 use Rattle.history.proofs.StationLemmas.{unchanged_day, same_day, places_equal}
 use Rattle.office_inputs.specs.Changes.{keeps_day, changed_days}
 use Rattle.office_inputs.specs.Stations.{stations_of, inputs_of_day}
-use Rattle.station_inputs.specs.Stations.{StationRecord}
+use Rattle.station_inputs.specs.Stations.{StationState}
 use Rattle.recompute.specs.Cells.{SaysTheSame, Marks, TakesOut, Publishes, awaited_in, value_in}
 use Rattle.records.specs.Sheets.{Record}
 use Rattle.register.specs.Keeping.{Tells}
@@ -85,7 +85,7 @@ module _ (events : List Event) (cells new : List KeptDays) (told : Tells events 
             let none = gives_none (changes stations edit site day) (length (accepted events) + 1) (awaited events site day) (sym (awaited_accepted events piece site day) ∙ k) in
             m.value site day ∙ told.value_told site day h none.rest
             ∙ ap day_value (sym (unchanged_day stations edit site day none.test))
-            ∙ ap (λ (s : List StationRecord). day_value (inputs_of_day s site day)) (sym (stations_accepted events piece));
+            ∙ ap (λ (s : List StationState). day_value (inputs_of_day s site day)) (sym (stations_accepted events piece));
         span_told = λ site.
             m.span site
             ∙ ap (λ o. cond (same_site edit.site site) (with_days o (changed_days stations edit)) o) (told.span_told site)

@@ -16,7 +16,7 @@ use Rattle.history.specs.After.{after_publication, after_publications, after_tur
 use Rattle.history.specs.Awaited.{SiteDay, awaited, is_day_of, is_pending, pending_of, pending_days, inputs_at}
 use Rattle.history.specs.Events.{Event, History}
 use Rattle.history.proofs.StationLemmas.{found_passes, places_equal}
-use Rattle.station_inputs.specs.Stations.{StationRecord}
+use Rattle.station_inputs.specs.Stations.{StationState}
 use Rattle.recompute.specs.Cells.{is_out_in}
 use Rattle.recompute.specs.Jobs.{DayJob}
 use Rattle.recompute.specs.declared.jobs.Publish.{Publish}
@@ -31,7 +31,7 @@ use Rattle.rising.specs.Lists.{at}
 abbrev pub IsPending : List Event → SiteDay → Type 0
 IsPending events d = is_pending events d.site d.day ≡ true
 
-days_pending : (events : List Event) (stations : List StationRecord) → All (IsPending events) (flat_map (pending_of events) stations)
+days_pending : (events : List Event) (stations : List StationState) → All (IsPending events) (flat_map (pending_of events) stations)
 days_pending events [] = All-nil (IsPending events)
 days_pending events (s ∷ stations) =
     All-append (IsPending events) (pending_of events s) (flat_map (pending_of events) stations)

@@ -22,7 +22,7 @@ use Rattle.history.proofs.PendingLemmas.{calendar_days, pending_has_station}
 use Rattle.history.proofs.SpanLemmas.{none_ever_changed}
 use Rattle.history.proofs.StationLemmas.{found_passes}
 use Rattle.office_inputs.specs.Stations.{place_of, station_of}
-use Rattle.station_inputs.specs.Stations.{StationRecord}
+use Rattle.station_inputs.specs.Stations.{StationState}
 use Rattle.recompute.specs.Cells.{awaited_in, is_out_in, span_in, waiting, cell_count}
 use Rattle.recompute.specs.Cells as kept_cells
 use Rattle.register.specs.Keeping.{Tells}
@@ -91,11 +91,11 @@ module _ (events : List Event) (cells : List KeptDays) (told : Tells events cell
   told_cells : KeptDays → List Told
   told_cells s = map of_waiting (waiting_of s)
 
-  told_days : StationRecord → List Told
+  told_days : StationState → List Told
   told_days s = map (of_day events cells) (pending_of events s)
 
   -- the pending days of a station that has cells
-  module _ (a : KeptDays) (b : StationRecord) (place : site_place a.site ≡ site_place b.site) (here : kept_cells.station_of cells b.site ≡ Some a) where
+  module _ (a : KeptDays) (b : StationState) (place : site_place a.site ≡ site_place b.site) (here : kept_cells.station_of cells b.site ≡ Some a) where
     awaited_here : (d : ℤ) → IsDay d → awaited_on a d ≡ awaited events b.site d
     awaited_here d h = sym (ap (λ o. option_and_then (λ (s : KeptDays). awaited_on s d) o) here) ∙ told.awaited_told b.site d h
 
@@ -124,10 +124,10 @@ module _ (events : List Event) (cells : List KeptDays) (told : Tells events cell
   rank_at : (xs : List KeptDays) (s : KeptDays) (n : ℤ) → at station_rank n xs ≡ Some s → station_rank s ≡ n
   rank_at xs s n h = (Decides-int_eq (station_rank s) n).0 (found_passes (λ (t : KeptDays). int_eq (station_rank t) n) xs s h)
 
-  place_at : (xs : List StationRecord) (s : StationRecord) (n : ℤ) → at place_of n xs ≡ Some s → place_of s ≡ n
-  place_at xs s n h = (Decides-int_eq (place_of s) n).0 (found_passes (λ (t : StationRecord). int_eq (place_of t) n) xs s h)
+  place_at : (xs : List StationState) (s : StationState) (n : ℤ) → at place_of n xs ≡ Some s → place_of s ≡ n
+  place_at xs s n h = (Decides-int_eq (place_of s) n).0 (found_passes (λ (t : StationState). int_eq (place_of t) n) xs s h)
 
-  told_at : (n : ℤ) (o : Option KeptDays) (p : Option StationRecord) → at station_rank n cells ≡ o → at place_of n (stations_at events) ≡ p
+  told_at : (n : ℤ) (o : Option KeptDays) (p : Option StationState) → at station_rank n cells ≡ o → at place_of n (stations_at events) ≡ p
       → given [] told_cells o ≡ given [] told_days p
   unfolding told_cells told_days
   told_at n None None e f = refl
@@ -171,8 +171,8 @@ module _ (events : List Event) (cells : List KeptDays) (told : Tells events cell
     found_told q = find_map of_waiting q (waiting cells) ∙ ap (find q) waiting_told ∙ sym (find_map (of_day events cells) q (pending_days events))
 
     -- and there are as many cells
-    cells_at : (n : ℤ) (o : Option KeptDays) (p : Option StationRecord) → at station_rank n cells ≡ o → at place_of n (stations_at events) ≡ p
-        → given 0 (λ (s : KeptDays). days_of s.span) o ≡ given 0 (λ (s : StationRecord). cells_of (edits_of events) s.site) p
+    cells_at : (n : ℤ) (o : Option KeptDays) (p : Option StationState) → at station_rank n cells ≡ o → at place_of n (stations_at events) ≡ p
+        → given 0 (λ (s : KeptDays). days_of s.span) o ≡ given 0 (λ (s : StationState). cells_of (edits_of events) s.site) p
     cells_at n None None e f = refl
     cells_at n (Some a) (Some b) e f =
         let y = place_at (stations_at events) b n f in
@@ -191,5 +191,5 @@ module _ (events : List Event) (cells : List KeptDays) (told : Tells events cell
 
     pub cells_counted : cell_count cells ≡ history.cell_count (edits_of events)
     cells_counted =
-        merged_sums station_rank place_of (λ (s : KeptDays). days_of s.span) (λ (s : StationRecord). cells_of (edits_of events) s.site) cells (stations_at events) rising stations_rise
+        merged_sums station_rank place_of (λ (s : KeptDays). days_of s.span) (λ (s : StationState). cells_of (edits_of events) s.site) cells (stations_at events) rising stations_rise
         (λ n. cells_at n (at station_rank n cells) (at place_of n (stations_at events)) refl refl)

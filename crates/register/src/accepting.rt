@@ -47,6 +47,7 @@ impl Register {
 
     /// Accepts an edit by its record, for which room is made: the days that it changes await it from then on, and their claims are no
     /// longer out. It takes no memory.
+    #[inline(always)]
     pub fn accept(&mut self, piece: Record, place: Place, days: &[Day])
         requires verdict { verdict self.old.history piece.edit ≡ Accepts }
         requires made { piece ≡ record_of self.old.history piece.edit }

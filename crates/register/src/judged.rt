@@ -34,7 +34,7 @@ pub enum NotReadmitted {
     #[error("the edit of a record is refused: {0}")]
     Refused(Refusal),
     /// There was no memory for it.
-    #[error("there was no memory for a record")]
+    #[error("there is no memory for a record")]
     NoMemory,
 }
 

@@ -130,6 +130,7 @@ impl Register {
 
     /// How many events there would be with a record whose edit changes these days and a publication of each day that would be pending,
     /// or `None` where that cannot be counted.
+    #[inline(always)]
     pub(crate) fn events_after(&self, piece: &Record, days: &[Day]) -> Option<u64>
         requires { days.now ≡ changed_days (stations_at self.now.history.events) piece.now.edit }
         ensures counted { IfSome result (λ events. events ≡ length self.now.history.events + 1 + length (pending_days (with_record self.now.history piece.now))) }

@@ -7,10 +7,10 @@ use thiserror::Error;
 #[derive(Clone, Copy, Debug, PartialEq, Eq, Error)]
 pub enum DocumentFault {
     /// It is no document of stations.
-    #[error("not a station document")]
+    #[error("the text is no station document")]
     NoDocument,
     /// There was no memory for the stations of it.
-    #[error("there was no memory for the stations of a document")]
+    #[error("there is no memory for the stations of a document")]
     NoMemory,
 }
 

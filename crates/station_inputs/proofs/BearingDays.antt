@@ -16,7 +16,7 @@ use Rattle.day_inputs.specs.Equality.{same_inputs}
 use Rattle.day_inputs.specs.declared.day_inputs.DayInputs.{DayInputs}
 use Rattle.day_inputs.specs.declared.day_inputs.DayInputs.TheVariants.{Empty, Day}
 use Rattle.station_inputs.specs.Series.{corrections_with, entries_in, shifts_with}
-use Rattle.station_inputs.specs.Stations.{StationRecord, estimated_discharge, series_of, station_day, station_window, day_start, with_series, with_entry, without_entry}
+use Rattle.station_inputs.specs.Stations.{StationState, estimated_discharge, series_of, station_day, station_window, day_start, with_series, with_entry, without_entry}
 use Rattle.station_inputs.specs.declared.series.StationSeries.{StationSeries}
 use Rattle.station_inputs.specs.declared.series.StationSeries.TheVariants.{Correction, Shift}
 use Rattle.station_inputs.proofs.SeriesLemmas.{nothing_taken}
@@ -94,7 +94,7 @@ module _ (gap : ℕ) (stages discharges : List ℕ) (from until : ℤ) (w : List
       (λ e. same_days which change c sh ((lists_decide old new).0 e)) (λ d. (lists_decide old new).1 (same_back which change c sh d))
 
 -- a day keeps its inputs where its bearing entries stay
-series_told : (s : StationRecord) (day : ℤ) (which : StationSeries) (change : List Entry → List Entry) (lo hi : ℤ) → window_ends (station_window s day) ≡ Some (lo, hi)
+series_told : (s : StationState) (day : ℤ) (which : StationSeries) (change : List Entry → List Entry) (lo hi : ℤ) → window_ends (station_window s day) ≡ Some (lo, hi)
     → same_entries (bearing lo hi (series_of which s)) (bearing lo hi (change (series_of which s))) ≡ same_inputs (station_day s day) (station_day (with_series which change s) day)
 series_told s day which change lo hi e =
     let a = day_start s day in
@@ -109,7 +109,7 @@ series_told s day which change lo hi e =
     ∙ ap (λ (x : DayInputs). same_inputs (station_day s day) x) (sym (with_ends s.gap s.stage_array s.discharge_array a b w q lo hi c sh s.ratings e))
 
 -- a day without a window keeps them whatever is changed
-pub empty_told : (s : StationRecord) (day : ℤ) (which : StationSeries) (change : List Entry → List Entry) → window_ends (station_window s day) ≡ None
+pub empty_told : (s : StationState) (day : ℤ) (which : StationSeries) (change : List Entry → List Entry) → window_ends (station_window s day) ≡ None
     → true ≡ same_inputs (station_day s day) (station_day (with_series which change s) day)
 empty_told s day which change e =
     sym (same_of (station_day s day) (station_day (with_series which change s) day)
@@ -117,37 +117,37 @@ empty_told s day which change e =
     s.corrections (corrections_with which change s.corrections) s.shifts (shifts_with which change s.shifts) s.ratings s.ratings e))
 
 -- the window of a day goes from one instant to another, not before it
-pub record IsSpanned (s : StationRecord) (day lo hi : ℤ) : Type 0 where
+pub record IsSpanned (s : StationState) (day lo hi : ℤ) : Type 0 where
   pub ends : window_ends (station_window s day) ≡ Some (lo, hi)
   pub ordered : lo ≤ℤ hi
 
 span_ordered : (span : Option (ℤ × ℤ)) (lo hi : ℤ) → span ≡ Some (lo, hi) → IfSome span (λ x. x.0 ≤ℤ x.1) → lo ≤ℤ hi
 span_ordered span lo hi e h = subst (λ (o : Option (ℤ × ℤ)). IfSome o (λ x. x.0 ≤ℤ x.1)) e h
 
-pub spanned : (s : StationRecord) (day : ℤ) (span : Option (ℤ × ℤ)) (lo hi : ℤ) → span ≡ window_ends (station_window s day) → IfSome span (λ x. x.0 ≤ℤ x.1)
+pub spanned : (s : StationState) (day : ℤ) (span : Option (ℤ × ℤ)) (lo hi : ℤ) → span ≡ window_ends (station_window s day) → IfSome span (λ x. x.0 ≤ℤ x.1)
     → span ≡ Some (lo, hi) → IsSpanned s day lo hi
 spanned s day span lo hi w h e = record { ends = sym w ∙ e; ordered = span_ordered span lo hi e h }
 
 -- a series of the station as it was lent
-pub record IsLent (s : StationRecord) (which : StationSeries) (es : List Entry) : Type 0 where
+pub record IsLent (s : StationState) (which : StationSeries) (es : List Entry) : Type 0 where
   pub entries : es ≡ series_of which s
   pub rising : IsRising es
 
 -- an entry that is put
-pub put_told : (s : StationRecord) (day : ℤ) (which : StationSeries) (entry : Entry) (lo hi : ℤ) (es : List Entry) → IsSpanned s day lo hi → IsLent s which es
+pub put_told : (s : StationState) (day : ℤ) (which : StationSeries) (entry : Entry) (lo hi : ℤ) (es : List Entry) → IsSpanned s day lo hi → IsLent s which es
     → (not (bears_at lo hi entry.at es) || has_entry entry es) ≡ same_inputs (station_day s day) (station_day (with_entry which entry s) day)
 put_told s day which entry lo hi es w l =
     sym (bearing_put lo hi entry es l.rising w.ordered)
     ∙ ap (λ (x : List Entry). same_entries (bearing lo hi x) (bearing lo hi (put entry x))) l.entries ∙ series_told s day which (put entry) lo hi w.ends
 
 -- one that is taken out
-dropped : (s : StationRecord) (day : ℤ) (which : StationSeries) (at lo hi : ℤ) (es : List Entry) (stands : Bool) → IsSpanned s day lo hi → IsLent s which es
+dropped : (s : StationState) (day : ℤ) (which : StationSeries) (at lo hi : ℤ) (es : List Entry) (stands : Bool) → IsSpanned s day lo hi → IsLent s which es
     → stands_at at es ≡ stands → (not stands || not (bears_at lo hi at es)) ≡ same_entries (bearing lo hi es) (bearing lo hi (without at es))
 dropped s day which at lo hi es true w l k = sym (bearing_without lo hi at es l.rising w.ordered k)
 dropped s day which at lo hi es false w l k =
     sym ((lists_decide (bearing lo hi es) (bearing lo hi (without at es))).1 (ap (λ (x : List Entry). bearing lo hi x) (sym (nothing_taken at es l.rising k))))
 
-pub drop_told : (s : StationRecord) (day : ℤ) (which : StationSeries) (at lo hi : ℤ) (es : List Entry) → IsSpanned s day lo hi → IsLent s which es
+pub drop_told : (s : StationState) (day : ℤ) (which : StationSeries) (at lo hi : ℤ) (es : List Entry) → IsSpanned s day lo hi → IsLent s which es
     → (not (stands_at at es) || not (bears_at lo hi at es)) ≡ same_inputs (station_day s day) (station_day (without_entry which at s) day)
 drop_told s day which at lo hi es w l =
     dropped s day which at lo hi es (stands_at at es) w l refl

@@ -21,7 +21,7 @@ use Rattle.ratings.specs.Spans.{Span}
 use Rattle.station_inputs.specs.Counts.{passed_count, passes, passes_a_series, most_ratings, most_entries, most_periods, most_measurements}
 use Rattle.station_inputs.specs.KeptStation.{IsStation}
 use Rattle.station_inputs.specs.Series.{IsOfStation, all_series}
-use Rattle.station_inputs.specs.Stations.{StationRecord, measurement_of, number_of, series_of, station_after, with_entry, with_measurements, with_ratings, with_series, without_entry}
+use Rattle.station_inputs.specs.Stations.{StationState, measurement_of, number_of, series_of, station_after, with_entry, with_measurements, with_ratings, with_series, without_entry}
 use Rattle.station_inputs.specs.declared.counts.Counted.{Counted}
 use Rattle.station_inputs.specs.declared.counts.Counted.TheVariants as counts
 use Rattle.station_inputs.specs.declared.series.StationSeries.{StationSeries}
@@ -81,13 +81,13 @@ or_none true = refl
 or_none false = refl
 
 -- a station with one series changed raises the count of no other
-abbrev raised : StationRecord → StationSeries → (List Entry → List Entry) → StationSeries → Bool
+abbrev raised : StationState → StationSeries → (List Entry → List Entry) → StationSeries → Bool
 raised s own change which = passes most_entries (length (series_of which s)) (length (series_of which (with_series own change s)))
 
 few : (es : List Entry) → passes most_entries (length es) (length es) ≡ false
 few es = as_many most_entries (length es)
 
-one_series : (s : StationRecord) (which : StationSeries) (change : List Entry → List Entry) (b : Bool) → IsOfStation which
+one_series : (s : StationState) (which : StationSeries) (change : List Entry → List Entry) (b : Bool) → IsOfStation which
     → passes most_entries (length (series_of which s)) (length (change (series_of which s))) ≡ b → passes_a_series s (with_series which change s) ≡ b
 one_series s (Correction zero) change b i e = absurd (let l = i.least in omega arith)
 one_series s (Correction (suc zero)) change b i e =
@@ -100,7 +100,7 @@ one_series s (Correction (suc (suc (suc (suc n))))) change b i e = absurd (let g
 one_series s Shift change b i e =
     any_series (raised s Shift change) false false false b (few s.corrections.first) (few s.corrections.second) (few s.corrections.third) e ∙ or_none b
 
-kept_series : (s : StationRecord) → passes_a_series s s ≡ false
+kept_series : (s : StationState) → passes_a_series s s ≡ false
 kept_series s =
     any_series (λ which. passes most_entries (length (series_of which s)) (length (series_of which s))) false false false false
     (few s.corrections.first) (few s.corrections.second) (few s.corrections.third) (few s.shifts)
@@ -112,7 +112,7 @@ in_order a b c d = cond a (Some counts.Ratings) (cond b (Some counts.Entries) (c
 order_same : (a b c d a' b' c' d' : Bool) → a ≡ a' → b ≡ b' → c ≡ c' → d ≡ d' → in_order a b c d ≡ in_order a' b' c' d'
 order_same a b c d a' b' c' d' e f g h = rw (e, f, g, h) refl
 
-by_tests : (s t : StationRecord) (a b c d : Bool) → passes most_ratings (length s.ratings.tables) (length t.ratings.tables) ≡ a → passes_a_series s t ≡ b
+by_tests : (s t : StationState) (a b c d : Bool) → passes most_ratings (length s.ratings.tables) (length t.ratings.tables) ≡ a → passes_a_series s t ≡ b
     → passes most_periods (length s.ratings.periods) (length t.ratings.periods) ≡ c → passes most_measurements (length s.measurements) (length t.measurements) ≡ d
     → passed_count s t ≡ in_order a b c d
 by_tests s t a b c d e f g h =
@@ -120,13 +120,13 @@ by_tests s t a b c d e f g h =
     (passes most_periods (length s.ratings.periods) (length t.ratings.periods)) (passes most_measurements (length s.measurements) (length t.measurements))
     a b c d e f g h
 
-few_ratings : (s : StationRecord) → passes most_ratings (length s.ratings.tables) (length s.ratings.tables) ≡ false
+few_ratings : (s : StationState) → passes most_ratings (length s.ratings.tables) (length s.ratings.tables) ≡ false
 few_ratings s = as_many most_ratings (length s.ratings.tables)
 
-few_periods : (s : StationRecord) → passes most_periods (length s.ratings.periods) (length s.ratings.periods) ≡ false
+few_periods : (s : StationState) → passes most_periods (length s.ratings.periods) (length s.ratings.periods) ≡ false
 few_periods s = as_many most_periods (length s.ratings.periods)
 
-few_measurements : (s : StationRecord) → passes most_measurements (length s.measurements) (length s.measurements) ≡ false
+few_measurements : (s : StationState) → passes most_measurements (length s.measurements) (length s.measurements) ≡ false
 few_measurements s = as_many most_measurements (length s.measurements)
 
 -- the refusal where one more passes, and none where not
@@ -134,14 +134,14 @@ abbrev pub raised_past : Counted → ℕ → Bool → ℕ → Option Counted
 raised_past which limit there count = if one_more limit there count then Some which else None
 
 -- the count of each kind
-pub rating_count : (s : StationRecord) (x : Numbered) → IsStation s
+pub rating_count : (s : StationState) (x : Numbered) → IsStation s
     → passed_count s (with_ratings (with_rating x) s) ≡ raised_past counts.Ratings most_ratings (is_some (rating_of x.number s.ratings.tables)) (length s.ratings.tables)
 rating_count s x k =
     let there = is_some (rating_of x.number s.ratings.tables) in
     by_tests s (with_ratings (with_rating x) s) (one_more most_ratings there (length s.ratings.tables)) false false false
     (table_passes most_ratings x s.ratings.tables (rating_of x.number s.ratings.tables) k.ratings_are.rising refl) (kept_series s) (few_periods s) (few_measurements s)
 
-pub entry_count : (s : StationRecord) (which : StationSeries) (entry : Entry) → IsStation s → IsOfStation which
+pub entry_count : (s : StationState) (which : StationSeries) (entry : Entry) → IsStation s → IsOfStation which
     → passed_count s (with_entry which entry s) ≡ raised_past counts.Entries most_entries (entries.stands_at entry.at (series_of which s)) (length (series_of which s))
 entry_count s which entry k i =
     let es = series_of which s in
@@ -150,14 +150,14 @@ entry_count s which entry k i =
     (one_series s which (entries.put entry) (one_more most_entries there (length es)) i
     (put_passes entries.instant_of most_entries entry es (series_are s which k i).series.rising)) (few_periods s) (few_measurements s)
 
-pub period_count : (s : StationRecord) (p : Span) → IsStation s
+pub period_count : (s : StationState) (p : Span) → IsStation s
     → passed_count s (with_ratings (with_period p) s) ≡ raised_past counts.Periods most_periods (is_some (period_from p.from s.ratings.periods)) (length s.ratings.periods)
 period_count s p k =
     let there = is_some (period_from p.from s.ratings.periods) in
     by_tests s (with_ratings (with_period p) s) false false (one_more most_periods there (length s.ratings.periods)) false (few_ratings s) (kept_series s)
     (put_passes begin most_periods p s.ratings.periods k.ratings_are.apart.rising) (few_measurements s)
 
-pub measurement_count : (s : StationRecord) (m : Measurement) → IsStation s
+pub measurement_count : (s : StationState) (m : Measurement) → IsStation s
     → passed_count s (with_measurements (put number_of m) s) ≡ raised_past counts.Measurements most_measurements (is_some (measurement_of m.number s)) (length s.measurements)
 measurement_count s m k =
     let there = is_some (measurement_of m.number s) in
@@ -165,24 +165,24 @@ measurement_count s m k =
     (few_periods s) (put_passes number_of most_measurements m s.measurements k.measurements_are.rising)
 
 -- what is taken out raises none
-no_entry_count : (s : StationRecord) (which : StationSeries) (at : ℤ) → IsStation s → IsOfStation which → passed_count s (without_entry which at s) ≡ None
+no_entry_count : (s : StationState) (which : StationSeries) (at : ℤ) → IsStation s → IsOfStation which → passed_count s (without_entry which at s) ≡ None
 no_entry_count s which at k i =
     by_tests s (without_entry which at s) false false false false (few_ratings s)
     (one_series s which (entries.without at) false i (without_passes entries.instant_of most_entries at (series_of which s) (series_are s which k i).series.rising))
     (few_periods s) (few_measurements s)
 
-no_period_count : (s : StationRecord) (from : ℤ) → IsStation s → passed_count s (with_ratings (without_period from) s) ≡ None
+no_period_count : (s : StationState) (from : ℤ) → IsStation s → passed_count s (with_ratings (without_period from) s) ≡ None
 no_period_count s from k =
     by_tests s (with_ratings (without_period from) s) false false false false (few_ratings s) (kept_series s)
     (without_passes begin most_periods from s.ratings.periods k.ratings_are.apart.rising) (few_measurements s)
 
-no_measurement_count : (s : StationRecord) (number : ℕ) → IsStation s → passed_count s (with_measurements (without number_of (pos number)) s) ≡ None
+no_measurement_count : (s : StationState) (number : ℕ) → IsStation s → passed_count s (with_measurements (without number_of (pos number)) s) ≡ None
 no_measurement_count s number k =
     by_tests s (with_measurements (without number_of (pos number)) s) false false false false (few_ratings s) (kept_series s) (few_periods s)
     (without_passes number_of most_measurements (pos number) s.measurements k.measurements_are.rising)
 
 -- nor does what keeps all that is counted
-pub same_count : (s : StationRecord) → passed_count s s ≡ None
+pub same_count : (s : StationState) → passed_count s s ≡ None
 same_count s = by_tests s s false false false false (few_ratings s) (kept_series s) (few_periods s) (few_measurements s)
 
 -- the edits that raise no count are these
@@ -202,10 +202,10 @@ RaisesNone what =
     ⊎ (((from : ℤ) × (to : ℤ) × (what ≡ Review from to))
     ⊎ ((from : ℤ) × (to : ℤ) × (decision : Decision) × (what ≡ Decide from to decision)))))))))))))
 
-told_at : (s : StationRecord) (what other : What) → what ≡ other → passed_count s (station_after other s) ≡ None → None ≡ passed_count s (station_after what s)
+told_at : (s : StationState) (what other : What) → what ≡ other → passed_count s (station_after other s) ≡ None → None ≡ passed_count s (station_after what s)
 told_at s what other e h = sym (ap (λ (w : What). passed_count s (station_after w s)) e ∙ h)
 
-pub none_raised : (s : StationRecord) (what : What) → IsStation s → IsLawful what → RaisesNone what → None ≡ passed_count s (station_after what s)
+pub none_raised : (s : StationState) (what : What) → IsStation s → IsLawful what → RaisesNone what → None ≡ passed_count s (station_after what s)
 none_raised s what k l (inl p) = told_at s what (AddStation p.0 p.1 p.2 p.3 p.4) p.5 (same_count s)
 none_raised s what k l (inr (inl p)) = told_at s what (SetStation p.0 p.1 p.2 p.3) p.4 (same_count s)
 none_raised s what k l (inr (inr (inl p))) = told_at s what (PutReadings p.0) p.1 (same_count s)

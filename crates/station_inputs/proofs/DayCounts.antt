@@ -12,7 +12,7 @@ use Rattle.rising.proofs.Splitting.{IsAt, at_is_at, whole}
 use Rattle.readings.specs.Readings.{IsRising, instant_of, put, put_all}
 use Rattle.readings.specs.Window.{is_of_day, of_day}
 use Rattle.station_inputs.specs.Counts.{day_count, passes}
-use Rattle.station_inputs.specs.Stations.{StationRecord, day_start, with_readings}
+use Rattle.station_inputs.specs.Stations.{StationState, day_start, with_readings}
 use Rattle.station_inputs.proofs.LengthLemmas.{length_put_new, length_put_same}
 
 -- two filters, in either order
@@ -128,10 +128,10 @@ pub day_passes : (limit a b : ℕ) → a ≡ b → passes limit a b ≡ false
 day_passes limit a b e = grind (arith, e)
 
 -- whether readings of a day pass its limit, as it is asked: by those that are new, where there are more than may come
-abbrev pub told_by : ℕ → StationRecord → ℤ → List Reading → Bool
+abbrev pub told_by : ℕ → StationState → ℤ → List Reading → Bool
 told_by limit s day rs = passes limit (day_count s day) (day_count (with_readings (put_all rs) s) day)
 
-abbrev pub of_station : StationRecord → ℤ → List Reading → List Reading
+abbrev pub of_station : StationState → ℤ → List Reading → List Reading
 of_station s day rs = of_day (day_start s day) (day_start s (day +ℤ pos 1)) rs
 
 pub free_told : (limit free more a b n m : ℕ) → free ≡ limit - a → b + n ≡ m + a → m ≡ n + more → nat_lt free more ≡ passes limit a b
@@ -139,7 +139,7 @@ free_told limit free more a b n m f d c =
     let e : b ≡ a + more = omega (arith, d, c) in
     rw (f, e) (sym (passes_free limit a more))
 
-pub new_told : (s : StationRecord) (day : ℤ) (limit free more : ℕ) (rs : List Reading) → IsRising s.readings → of_station s day rs ≡ rs
+pub new_told : (s : StationState) (day : ℤ) (limit free more : ℕ) (rs : List Reading) → IsRising s.readings → of_station s day rs ≡ rs
     → free ≡ limit - day_count s day → length (put_all rs s.readings) ≡ length s.readings + more → nat_lt free more ≡ told_by limit s day rs
 new_told s day limit free more rs h w f c =
     free_told limit free more (day_count s day) (day_count (with_readings (put_all rs) s) day) (length s.readings) (length (put_all rs s.readings)) f
@@ -148,14 +148,14 @@ new_told s day limit free more rs h w f c =
 pub few_step : (free more n : ℕ) (b : Bool) → more ≤ n → n ≤ free → nat_lt free more ≡ b → nat_lt free n ≡ b
 few_step free more n b m l e = grind (arith, m, l, e)
 
-pub few_told : (s : StationRecord) (day : ℤ) (limit free : ℕ) (rs : List Reading) → IsRising s.readings → of_station s day rs ≡ rs
+pub few_told : (s : StationState) (day : ℤ) (limit free : ℕ) (rs : List Reading) → IsRising s.readings → of_station s day rs ≡ rs
     → free ≡ limit - day_count s day → length rs ≤ free → nat_lt free (length rs) ≡ told_by limit s day rs
 few_told s day limit free rs h w f l =
     let a = added rs s.readings h in
     few_step free a.more (length rs) (told_by limit s day rs) a.most l (new_told s day limit free a.more rs h w f a.count)
 
 -- how many may come, where the readings of the day are lent in two parts
-pub free_of : (s : StationRecord) (day from until : ℤ) (limit free : ℕ) (list left right : List Reading) → list ≡ s.readings
+pub free_of : (s : StationState) (day from until : ℤ) (limit free : ℕ) (list left right : List Reading) → list ≡ s.readings
     → from ≡ day_start s day → until ≡ day_start s (day +ℤ pos 1) → left ++ right ≡ of_day from until list → free ≡ limit - (length left + length right)
     → free ≡ limit - day_count s day
 free_of s day from until limit free list left right l f u k e =

@@ -19,26 +19,26 @@ use Rattle.rising.proofs.Splitting.{compared}
 use Rattle.readings.specs.Readings.{IsRising, instant_of, put_all}
 use Rattle.readings.specs.Window.{is_of_day, of_day}
 use Rattle.station_inputs.specs.Counts.{day_count, passes, passes_a_day}
-use Rattle.station_inputs.specs.Stations.{StationRecord, day_start, with_readings}
+use Rattle.station_inputs.specs.Stations.{StationState, day_start, with_readings}
 use Rattle.station_inputs.proofs.DayCounts.{day_passes, day_put, day_twice, of_station, told_by}
 
 -- of a day that was walked over: none of its readings is left, and it passes no limit; no reading of any other day was walked over
-abbrev DayTold : StationRecord → ℕ → List Reading → List Reading → List Reading → ℤ → Type 0
+abbrev DayTold : StationState → ℕ → List Reading → List Reading → List Reading → ℤ → Type 0
 DayTold s limit all done rest day = (of_station s day done ≡ []) ⊎ ((of_station s day rest ≡ []) × (told_by limit s day all ≡ false))
 
-pub record AreTold (s : StationRecord) (limit : ℕ) (all rest : List Reading) : Type 0 where
+pub record AreTold (s : StationState) (limit : ℕ) (all rest : List Reading) : Type 0 where
   pub done : List Reading
   pub whole : all ≡ done ++ rest
   pub days : (day : ℤ) → IsDay day → DayTold s limit all done rest day
 
-pub none_done : (s : StationRecord) (limit : ℕ) (all : List Reading) → AreTold s limit all all
+pub none_done : (s : StationState) (limit : ℕ) (all : List Reading) → AreTold s limit all all
 none_done s limit all = record { done = []; whole = refl; days = λ day i. inl refl }
 
 -- an instant is of a day exactly where the test says so
-of_its_day : (s : StationRecord) (day : ℤ) (r : Reading) → IsIn s.zone day r.at → is_of_day (day_start s day) (day_start s (day +ℤ pos 1)) r ≡ true
+of_its_day : (s : StationState) (day : ℤ) (r : Reading) → IsIn s.zone day r.at → is_of_day (day_start s day) (day_start s (day +ℤ pos 1)) r ≡ true
 of_its_day s day r m = let f = m.from in let u = m.until in grind (arith, ints)
 
-is_in : (s : StationRecord) (day : ℤ) (r : Reading) (b : Bool) → is_of_day (day_start s day) (day_start s (day +ℤ pos 1)) r ≡ b → b ≡ true → IsIn s.zone day r.at
+is_in : (s : StationState) (day : ℤ) (r : Reading) (b : Bool) → is_of_day (day_start s day) (day_start s (day +ℤ pos 1)) r ≡ b → b ≡ true → IsIn s.zone day r.at
 is_in s day r b e t = record { from = grind (arith, ints, e, t); until = grind (arith, ints, e, t) }
 
 -- what is left from a reading on is no earlier than it
@@ -58,7 +58,7 @@ day_of_rest a b rest part h e =
     e ∙ sym (ap (λ (l : List Reading). lists.before instant_of b l) all) ∙ filter_both (λ (x : Reading). int_le a x.at) (λ (x : Reading). int_lt x.at b) rest
 
 -- of a day in which readings are left none was walked over
-some_left : (s : StationRecord) (day : ℤ) (r : Reading) (rest : List Reading) → Some r ≡ slice_get rest 0 → IsIn s.zone day r.at → of_station s day rest ≡ [] → ⊥
+some_left : (s : StationState) (day : ℤ) (r : Reading) (rest : List Reading) → Some r ≡ slice_get rest 0 → IsIn s.zone day r.at → of_station s day rest ≡ [] → ⊥
 some_left s day r [] e m n = absurd (cc)
 some_left s day r (x ∷ xs) e m n =
     let same : r ≡ x = cc in
@@ -66,7 +66,7 @@ some_left s day r (x ∷ xs) e m n =
     let k : of_station s day (x ∷ xs) ≡ x ∷ of_station s day xs = rw t refl in
     absurd (let f : x ∷ of_station s day xs ≡ [] = sym k ∙ n in cc)
 
-unwalked : (s : StationRecord) (limit : ℕ) (all done rest : List Reading) (day : ℤ) (r : Reading) → Some r ≡ slice_get rest 0 → IsIn s.zone day r.at
+unwalked : (s : StationState) (limit : ℕ) (all done rest : List Reading) (day : ℤ) (r : Reading) → Some r ≡ slice_get rest 0 → IsIn s.zone day r.at
     → DayTold s limit all done rest day → of_station s day done ≡ []
 unwalked s limit all done rest day r e m (inl h) = h
 unwalked s limit all done rest day r e m (inr h) = absurd (some_left s day r rest e m h.0)
@@ -76,11 +76,11 @@ late_step true c e = e
 late_step false c e = refl
 
 -- what is left rises, and is of readings that may be put
-pub rest_rises : (s : StationRecord) (limit : ℕ) (all rest : List Reading) → AreTold s limit all rest → IsRising all → IsRising rest
+pub rest_rises : (s : StationState) (limit : ℕ) (all rest : List Reading) → AreTold s limit all rest → IsRising all → IsRising rest
 rest_rises s limit all rest t h =
     AllPairs-back (λ (x y : Reading). x.at <ℤ y.at) t.done rest (subst (λ (l : List Reading). IsRising l) t.whole h)
 
-pub rest_each : (s : StationRecord) (limit : ℕ) (all rest : List Reading) → AreTold s limit all rest → All IsPutReading all → All IsPutReading rest
+pub rest_each : (s : StationState) (limit : ℕ) (all rest : List Reading) → AreTold s limit all rest → All IsPutReading all → All IsPutReading rest
 rest_each s limit all rest t h = All-back IsPutReading t.done rest (subst (λ (l : List Reading). All IsPutReading l) t.whole h)
 
 pub first_stamp : (rest : List Reading) (r : Reading) → Some r ≡ slice_get rest 0 → All IsPutReading rest → IsStamp r.at
@@ -90,7 +90,7 @@ first_stamp (x ∷ xs) r e h =
     subst (λ (y : Reading). IsStamp y.at) (sym same) (All-head IsPutReading x xs h).stamp
 
 -- one day of those that are left: where it begins, and the parts before and from its end
-pub record IsStep (s : StationRecord) (limit : ℕ) (all rest : List Reading) (day : ℤ) (r : Reading) (part later : List Reading) : Type 0 where
+pub record IsStep (s : StationState) (limit : ℕ) (all rest : List Reading) (day : ℤ) (r : Reading) (part later : List Reading) : Type 0 where
   pub told : AreTold s limit all rest
   pub zone : IsZone s.zone
   pub rising : IsRising rest
@@ -101,7 +101,7 @@ pub record IsStep (s : StationRecord) (limit : ℕ) (all rest : List Reading) (d
   pub early : part ≡ lists.before instant_of (day_start s (day +ℤ pos 1)) rest
   pub late : later ≡ lists.from instant_of (day_start s (day +ℤ pos 1)) rest
 
-pub a_step : (s : StationRecord) (limit : ℕ) (all rest : List Reading) (day until : ℤ) (k : ℕ) (r : Reading) (part later : List Reading) → AreTold s limit all rest
+pub a_step : (s : StationState) (limit : ℕ) (all rest : List Reading) (day until : ℤ) (k : ℕ) (r : Reading) (part later : List Reading) → AreTold s limit all rest
     → IsZone s.zone → IsRising all → Some r ≡ slice_get rest 0 → IsDay day → IsIn s.zone day r.at → until ≡ day_start s (day +ℤ pos 1)
     → part ≡ take k rest → later ≡ drop k rest → take k rest ≡ lists.before instant_of until rest → drop k rest ≡ lists.from instant_of until rest
     → IsStep s limit all rest day r part later
@@ -117,7 +117,7 @@ a_step s limit all rest day until k r part later t z h f d i u p l front back = 
   late = l ∙ back ∙ ap (λ (n : ℤ). lists.from instant_of n rest) u;
 }
 
-module _ (s : StationRecord) (limit : ℕ) (all rest : List Reading) (day : ℤ) (r : Reading) (part later : List Reading) where
+module _ (s : StationState) (limit : ℕ) (all rest : List Reading) (day : ℤ) (r : Reading) (part later : List Reading) where
   abbrev Step : Type 0
   Step = IsStep s limit all rest day r part later
 
@@ -213,7 +213,7 @@ module _ (s : StationRecord) (limit : ℕ) (all rest : List Reading) (day : ℤ)
   shorter h = shorter_step part h refl
 
 -- at the end every day is told
-end_step : (s : StationRecord) (limit : ℕ) (all done : List Reading) (day : ℤ) → IsRising s.readings → all ≡ done ++ [] → DayTold s limit all done [] day
+end_step : (s : StationState) (limit : ℕ) (all done : List Reading) (day : ℤ) → IsRising s.readings → all ≡ done ++ [] → DayTold s limit all done [] day
     → told_by limit s day all ≡ false
 end_step s limit all done day k w (inl h) =
     let a = day_start s day in
@@ -224,7 +224,7 @@ end_step s limit all done day k w (inl h) =
     day_passes limit (day_count s day) (day_count (with_readings (put_all all) s) day) (sym (ap length same))
 end_step s limit all done day k w (inr h) = h.1
 
-pub all_told : (s : StationRecord) (limit : ℕ) (all rest : List Reading) → IsRising s.readings → None ≡ slice_get rest 0 → AreTold s limit all rest
+pub all_told : (s : StationState) (limit : ℕ) (all rest : List Reading) → IsRising s.readings → None ≡ slice_get rest 0 → AreTold s limit all rest
     → false ≡ passes_a_day limit s (with_readings (put_all all) s)
 all_told s limit all [] k e t =
     sym (calendar_any_none (λ d. told_by limit s d all) (λ d i. end_step s limit all t.done d k t.whole (t.days d i)))

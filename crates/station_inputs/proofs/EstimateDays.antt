@@ -8,11 +8,11 @@ use Rattle.rising.proofs.Placing.{at_put, at_put_other, at_without_same, at_with
 use Rattle.edits.specs.declared.estimates.Estimate.{Estimate}
 use Rattle.day_inputs.specs.Equality.{same_estimate, same_inputs}
 use Rattle.day_inputs.proofs.EqualityLemmas.{estimates_decide}
-use Rattle.station_inputs.specs.Stations.{StationRecord, estimated_day, estimated_discharge, station_day, with_estimates}
+use Rattle.station_inputs.specs.Stations.{StationState, estimated_day, estimated_discharge, station_day, with_estimates}
 use Rattle.station_inputs.proofs.StationLemmas.{estimates_told}
 
 -- what is estimated of a day after a change of the estimate of some day
-abbrev IsEstimated : StationRecord → (List Estimate → List Estimate) → ℤ → Option ℤ → ℤ → Type 0
+abbrev IsEstimated : StationState → (List Estimate → List Estimate) → ℤ → Option ℤ → ℤ → Type 0
 IsEstimated s change own discharge day =
     (own ≡ day → estimated_discharge (with_estimates change s) day ≡ discharge)
     × (own ≢ day → estimated_discharge (with_estimates change s) day ≡ estimated_discharge s day)
@@ -24,7 +24,7 @@ own_step own day old new discharge false e there else =
     let k = else (λ f. absurd (let t = (Decides-int_eq own day).1 f in cc)) in
     sym (ap (same_estimate old) k ∙ (estimates_decide old old).1 refl)
 
-changed_told : (s : StationRecord) (change : List Estimate → List Estimate) (own day : ℤ) (discharge : Option ℤ) → IsEstimated s change own discharge day
+changed_told : (s : StationState) (change : List Estimate → List Estimate) (own day : ℤ) (discharge : Option ℤ) → IsEstimated s change own discharge day
     → (not (int_eq own day) || same_estimate (estimated_discharge s day) discharge) ≡ same_inputs (station_day s day) (station_day (with_estimates change s) day)
 changed_told s change own day discharge h =
     own_step own day (estimated_discharge s day) (estimated_discharge (with_estimates change s) day) discharge (int_eq own day) refl h.0 h.1
@@ -34,7 +34,7 @@ abbrev discharge_of : Option Estimate → Option ℤ
 discharge_of found = option_map (λ (e : Estimate). e.discharge) found
 
 -- an estimate that is put
-pub put_told : (s : StationRecord) (estimate : Estimate) (day : ℤ)
+pub put_told : (s : StationState) (estimate : Estimate) (day : ℤ)
     → (not (int_eq estimate.day day) || same_estimate (estimated_discharge s day) (Some estimate.discharge))
     ≡ same_inputs (station_day s day) (station_day (with_estimates (lists.put estimated_day estimate) s) day)
 put_told s estimate day =
@@ -45,7 +45,7 @@ put_told s estimate day =
     )
 
 -- one that is taken out
-pub drop_told : (s : StationRecord) (own day : ℤ)
+pub drop_told : (s : StationState) (own day : ℤ)
     → (not (int_eq own day) || same_estimate (estimated_discharge s day) None) ≡ same_inputs (station_day s day) (station_day (with_estimates (lists.without estimated_day own) s) day)
 drop_told s own day =
     changed_told s (lists.without estimated_day own) own day None (

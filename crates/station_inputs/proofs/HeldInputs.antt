@@ -12,7 +12,7 @@ use Rattle.day_inputs.specs.declared.day_inputs.DayInputs.TheVariants.{Empty, Da
 use Rattle.day_inputs.specs.declared.day_inputs.DayParts.{DayParts}
 use Rattle.day_inputs.proofs.RulesLemmas.{rules_told, rules_are}
 use Rattle.day_inputs.proofs.WindowEnds.{by_ends, no_inputs, parts_with}
-use Rattle.station_inputs.specs.Stations.{StationRecord, estimated_discharge, station_day, station_window, day_start}
+use Rattle.station_inputs.specs.Stations.{StationState, estimated_discharge, station_day, station_window, day_start}
 use Rattle.station_inputs.specs.Held.{HasBounds, HasContents, HasSettings}
 use Rattle.station_inputs.specs.KeptStation.{KeptStation}
 
@@ -20,7 +20,7 @@ use Rattle.station_inputs.specs.KeptStation.{KeptStation}
 abbrev pub is_some_day : DayParts → Bool
 is_some_day p = not (is_none (window_ends p.window) && is_none p.estimate)
 
-pub record HasParts (s : StationRecord) (day : ℤ) (p : DayParts) : Type 0 where
+pub record HasParts (s : StationState) (day : ℤ) (p : DayParts) : Type 0 where
   pub some : is_some_day p ≡ true
   pub frame : HasSettings s p × HasBounds s day p
   pub contents : HasContents s day p
@@ -29,7 +29,7 @@ not_true : (b : Bool) → not b ≡ true → b ≡ false
 not_true true h = absurd (cc)
 not_true false h = refl
 
-pub parts_are : (s : StationRecord) (day : ℤ) (p : DayParts) → HasParts s day p → Day p ≡ station_day s day
+pub parts_are : (s : StationState) (day : ℤ) (p : DayParts) → HasParts s day p → Day p ≡ station_day s day
 parts_are s day p h =
     let w = station_window s day in
     let q = estimated_discharge s day in
@@ -39,10 +39,10 @@ parts_are s day p h =
     ∙ by_ends s.gap s.stage_array s.discharge_array (day_start s day) (day_start s (day +ℤ pos 1)) s.corrections s.shifts s.ratings q w some
 
 -- and back: a day that has inputs has a window or an estimate
-abbrev is_bare : StationRecord → ℤ → Bool
+abbrev is_bare : StationState → ℤ → Bool
 is_bare s day = is_none (window_ends (station_window s day)) && is_none (estimated_discharge s day)
 
-abbrev parts_of : StationRecord → ℤ → DayParts
+abbrev parts_of : StationState → ℤ → DayParts
 parts_of s day =
     parts_with s.gap s.stage_array s.discharge_array (day_start s day) (day_start s (day +ℤ pos 1)) s.corrections s.shifts s.ratings
     (estimated_discharge s day) (station_window s day) (window_ends (station_window s day))
@@ -58,7 +58,7 @@ day_back q r e = cc
 not_day : (q : DayParts) → Day q ≡ Empty → ⊥
 not_day q e = absurd (cc)
 
-held_step : (s : StationRecord) (day : ℤ) (p : DayParts) (bare : Bool) → is_bare s day ≡ bare → Day p ≡ station_day s day → (p ≡ parts_of s day) × (is_bare s day ≡ false)
+held_step : (s : StationState) (day : ℤ) (p : DayParts) (bare : Bool) → is_bare s day ≡ bare → Day p ≡ station_day s day → (p ≡ parts_of s day) × (is_bare s day ≡ false)
 held_step s day p false n e =
     let k = by_ends s.gap s.stage_array s.discharge_array (day_start s day) (day_start s (day +ℤ pos 1)) s.corrections s.shifts s.ratings (estimated_discharge s day) (station_window s day) n in
     (day_back p (parts_of s day) (e ∙ sym k), n)
@@ -67,7 +67,7 @@ held_step s day p true n e =
     let k = no_inputs s.gap s.stage_array s.discharge_array (day_start s day) (day_start s (day +ℤ pos 1)) s.corrections s.shifts s.ratings (estimated_discharge s day) (station_window s day) both.0 both.1 in
     absurd (not_day p (e ∙ sym k))
 
-pub parts_held : (s : StationRecord) (day : ℤ) (p : DayParts) → Day p ≡ station_day s day → HasParts s day p
+pub parts_held : (s : StationState) (day : ℤ) (p : DayParts) → Day p ≡ station_day s day → HasParts s day p
 parts_held s day p e =
     let both = held_step s day p (is_bare s day) refl e in
     let k = both.0 in
@@ -85,12 +85,12 @@ parts_held s day p e =
     }
 
 -- tests of them one after another tell
-pub told_both : (s : StationRecord) (day : ℤ) (p : DayParts) (contents : Bool) → is_some_day p ≡ true → HasSettings s p × HasBounds s day p
+pub told_both : (s : StationState) (day : ℤ) (p : DayParts) (contents : Bool) → is_some_day p ≡ true → HasSettings s p × HasBounds s day p
     → contents ≡ true ↔ HasContents s day p → contents ≡ true ↔ Day p ≡ station_day s day
 told_both s day p contents some frame h =
     (λ k. parts_are s day p (record { some = some; frame = frame; contents = h.0 k }), λ e. h.1 (parts_held s day p e).contents)
 
-pub told_other : (s : StationRecord) (day : ℤ) (p : DayParts) → (HasParts s day p → ⊥) → false ≡ true ↔ Day p ≡ station_day s day
+pub told_other : (s : StationState) (day : ℤ) (p : DayParts) → (HasParts s day p → ⊥) → false ≡ true ↔ Day p ≡ station_day s day
 told_other s day p n = (λ k. absurd (cc), λ e. absurd (n (parts_held s day p e)))
 
 -- the neighbours that count, about the used ones of a day's readings, are its window
@@ -98,7 +98,7 @@ pub those_that_count : (u : List Reading) (before after : Option Reading) → wi
 those_that_count [] before after = refl
 those_that_count (r ∷ rs) before after = refl
 
-pub lent_window : (s : StationRecord) (day from until : ℤ) (before after : Option Reading) (rs : List Reading)
+pub lent_window : (s : StationState) (day from until : ℤ) (before after : Option Reading) (rs : List Reading)
     → from ≡ day_start s day → until ≡ day_start s (day +ℤ pos 1)
     → before ≡ window_before from until (pos (60 * s.gap)) s.readings → rs ≡ of_day from until s.readings
     → after ≡ window_after from until (pos (60 * s.gap)) s.readings
@@ -118,7 +118,7 @@ WindowTold day from until before after rs list told view kept =
     → told ≡ same_readings (with_neighbours before (filter is_used rs) after) list
     → told ≡ true ↔ list ≡ station_window kept.station day
 
-window_found : (s : StationRecord) (day from until : ℤ) (before after : Option Reading) (rs list : List Reading) (told : Bool)
+window_found : (s : StationState) (day from until : ℤ) (before after : Option Reading) (rs list : List Reading) (told : Bool)
     → from ≡ day_start s day → until ≡ day_start s (day +ℤ pos 1)
     → before ≡ window_before from until (pos (60 * s.gap)) s.readings → rs ≡ of_day from until s.readings
     → after ≡ window_after from until (pos (60 * s.gap)) s.readings

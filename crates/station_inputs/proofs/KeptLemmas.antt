@@ -9,7 +9,7 @@ use Rattle.curves.specs.declared.entries.Entry.{Entry}
 use Rattle.edits.specs.Lawful.{ArePutReadings, IsPutEstimate, IsPutMeasurement, IsPutPeriod, IsPutReading}
 use Rattle.edits.specs.declared.estimates.Estimate.{Estimate}
 use Rattle.edits.specs.declared.measurements.Measurement.{Measurement}
-use Rattle.fixed_units.specs.Quantities.{IsStage, IsStamp}
+use Rattle.fixed_units.specs.Quantities.{IsStage, IsStamp, most_gap}
 use Rattle.fixed_units.specs.declared.readings.Flag.{Flag}
 use Rattle.fixed_units.specs.declared.readings.Reading.{Reading}
 use Rattle.rating_tables.specs.Table.{IsRating}
@@ -22,12 +22,11 @@ use Rattle.readings.specs.Readings.{IsRising, flagged_where, instant_of, is_with
 use Rattle.rising.specs.Lists.{put, without}
 use Rattle.rising.proofs.Placing.{put_keeps, put_rises, without_keeps, without_rises}
 use Rattle.rising.proofs.Selecting.{AllPairs-head, AllPairs-tail}
-use Rattle.day_inputs.specs.DayInputs.{most_gap}
 use Rattle.station_inputs.specs.KeptStation.{AreAtStamps, AreEstimates, AreMeasurements, AreReadings, IsStation}
-use Rattle.station_inputs.specs.Stations.{StationRecord, described, estimated_day, number_of, with_estimates, with_inputs, with_measurements, with_ratings, with_readings}
+use Rattle.station_inputs.specs.Stations.{StationState, described, estimated_day, number_of, with_estimates, with_inputs, with_measurements, with_ratings, with_readings}
 
 -- described anew
-pub described_is : (s : StationRecord) (name : List ℕ) (gap : ℕ) (stages discharges : List ℕ) → IsStation s → 1 ≤ gap → gap ≤ most_gap
+pub described_is : (s : StationState) (name : List ℕ) (gap : ℕ) (stages discharges : List ℕ) → IsStation s → 1 ≤ gap → gap ≤ most_gap
     → IsStation (described name gap stages discharges s)
 described_is s name gap stages discharges k low high = record {
   site_range = k.site_range;
@@ -46,7 +45,7 @@ described_is s name gap stages discharges k low high = record {
 
 -- with other inputs
 pub inputs_are : (sets : Corrections) (shifts : List Entry) (ratings : StationRatings) (measurements : List Measurement) (estimates : List Estimate) (rs : List Reading)
-    (s : StationRecord) → IsStation s → AreCorrections sets → IsSeries shifts → AreAtStamps sets shifts → AreRatings ratings → All IsPutPeriod ratings.periods
+    (s : StationState) → IsStation s → AreCorrections sets → IsSeries shifts → AreAtStamps sets shifts → AreRatings ratings → All IsPutPeriod ratings.periods
     → AreMeasurements measurements → AreEstimates estimates → AreReadings rs → IsStation (with_inputs sets shifts ratings measurements estimates rs s)
 inputs_are sets shifts ratings measurements estimates rs s k c h t r p m e l = record {
   site_range = k.site_range;
@@ -64,10 +63,10 @@ inputs_are sets shifts ratings measurements estimates rs s k c h t r p m e l = r
 }
 
 -- with its readings changed
-abbrev reread : StationRecord → List Reading → StationRecord
+abbrev reread : StationState → List Reading → StationState
 reread s new = with_readings (λ old. new) s
 
-reread_is : (s : StationRecord) (new : List Reading) → IsStation s → AreReadings new → IsStation (reread s new)
+reread_is : (s : StationState) (new : List Reading) → IsStation s → AreReadings new → IsStation (reread s new)
 reread_is s new k h =
     inputs_are s.corrections s.shifts s.ratings s.measurements s.estimates new s k
     k.corrections_are k.shifts_are k.entries_at_stamps k.ratings_are k.periods_are k.measurements_are k.estimates_are h
@@ -82,7 +81,7 @@ put_all_are (r ∷ rs) xs h k =
       stamps = put_keeps instant_of (λ (x : Reading). IsStamp x.at) r xs own.stamp k.stamps;
     })
 
-pub readings_put : (s : StationRecord) (rs new : List Reading) → IsStation s → ArePutReadings rs → new ≡ put_all rs s.readings → IsStation (reread s new)
+pub readings_put : (s : StationState) (rs new : List Reading) → IsStation s → ArePutReadings rs → new ≡ put_all rs s.readings → IsStation (reread s new)
 readings_put s rs new k h e =
     subst (λ (x : List Reading). IsStation (reread s x)) (sym e) (reread_is s (put_all rs s.readings) k (put_all_are rs s.readings h.each k.readings_are))
 
@@ -93,7 +92,7 @@ filtered_are p xs k = record {
   stamps = All-filter p (λ (x : Reading). IsStamp x.at) xs k.stamps;
 }
 
-pub readings_dropped : (s : StationRecord) (from to : ℤ) (new : List Reading) → IsStation s → new ≡ without_span from to s.readings → IsStation (reread s new)
+pub readings_dropped : (s : StationState) (from to : ℤ) (new : List Reading) → IsStation s → new ≡ without_span from to s.readings → IsStation (reread s new)
 readings_dropped s from to new k e =
     subst (λ (x : List Reading). IsStation (reread s x)) (sym e)
     (reread_is s (without_span from to s.readings) k (filtered_are (λ r. not (is_within from to r)) s.readings k.readings_are))
@@ -109,7 +108,7 @@ flagged_rise f same (x ∷ xs) h =
     (All-map (later (f x)) f xs (All-weaker (later x) (λ y. later (f x) (f y)) (λ y l. rw (same x, same y) l) xs (AllPairs-head later x xs h)))
     (flagged_rise f same xs (AllPairs-tail later x xs h))
 
-pub readings_flagged : (s : StationRecord) (from to : ℤ) (flag : Flag) (new : List Reading) → IsStation s → new ≡ with_flag from to flag s.readings
+pub readings_flagged : (s : StationState) (from to : ℤ) (flag : Flag) (new : List Reading) → IsStation s → new ≡ with_flag from to flag s.readings
     → IsStation (reread s new)
 readings_flagged s from to flag new k e =
     let f : Reading → Reading = λ r. flagged_where (is_within from to r) flag r in
@@ -121,10 +120,10 @@ readings_flagged s from to flag new k e =
     }))
 
 -- with its ratings changed
-abbrev rated : StationRecord → StationRatings → StationRecord
+abbrev rated : StationState → StationRatings → StationState
 rated s new = with_ratings (λ old. new) s
 
-rated_is : (s : StationRecord) (new : StationRatings) → IsStation s → AreRatings new → All IsPutPeriod new.periods → IsStation (rated s new)
+rated_is : (s : StationState) (new : StationRatings) → IsStation s → AreRatings new → All IsPutPeriod new.periods → IsStation (rated s new)
 rated_is s new k h p =
     inputs_are s.corrections s.shifts new s.measurements s.estimates s.readings s k
     k.corrections_are k.shifts_are k.entries_at_stamps h p k.measurements_are k.estimates_are k.readings_are
@@ -134,33 +133,33 @@ more_tables : (x : Numbered) (ratings : StationRatings) (o : Option Numbered) �
 more_tables x ratings None e h r = more_ratings_are x ratings h r
 more_tables x ratings (Some kept) e h r = h
 
-pub rating_added : (s : StationRecord) (x : Numbered) (new : StationRatings) → IsStation s → IsRating x.rows → rating_of x.number s.ratings.tables ≡ None
+pub rating_added : (s : StationState) (x : Numbered) (new : StationRatings) → IsStation s → IsRating x.rows → rating_of x.number s.ratings.tables ≡ None
     → new ≡ with_rating x s.ratings → IsStation (rated s new)
 rating_added s x new k r none e =
     subst (λ (n : StationRatings). IsStation (rated s n)) (sym e)
     (rated_is s (with_rating x s.ratings) k (more_tables x s.ratings (rating_of x.number s.ratings.tables) none k.ratings_are r) k.periods_are)
 
-pub period_put : (s : StationRecord) (p : Span) (new : StationRatings) → IsStation s → IsPutPeriod p → IsSome (rating_of p.rating s.ratings.tables)
+pub period_put : (s : StationState) (p : Span) (new : StationRatings) → IsStation s → IsPutPeriod p → IsSome (rating_of p.rating s.ratings.tables)
     → overlap p s.ratings.periods ≡ None → new ≡ with_period p s.ratings → IsStation (rated s new)
 period_put s p new k l known free e =
     subst (λ (n : StationRatings). IsStation (rated s n)) (sym e)
     (rated_is s (with_period p s.ratings) k (with_period_are p s.ratings k.ratings_are l.ordered known free) (put_keeps begin IsPutPeriod p s.ratings.periods l k.periods_are))
 
-pub period_dropped : (s : StationRecord) (from : ℤ) (new : StationRatings) → IsStation s → new ≡ without_period from s.ratings → IsStation (rated s new)
+pub period_dropped : (s : StationState) (from : ℤ) (new : StationRatings) → IsStation s → new ≡ without_period from s.ratings → IsStation (rated s new)
 period_dropped s from new k e =
     subst (λ (n : StationRatings). IsStation (rated s n)) (sym e)
     (rated_is s (without_period from s.ratings) k (without_period_are from s.ratings k.ratings_are) (without_keeps begin IsPutPeriod from s.ratings.periods k.periods_are))
 
 -- with its measurements changed
-abbrev measured : StationRecord → List Measurement → StationRecord
+abbrev measured : StationState → List Measurement → StationState
 measured s new = with_measurements (λ old. new) s
 
-measured_is : (s : StationRecord) (new : List Measurement) → IsStation s → AreMeasurements new → IsStation (measured s new)
+measured_is : (s : StationState) (new : List Measurement) → IsStation s → AreMeasurements new → IsStation (measured s new)
 measured_is s new k h =
     inputs_are s.corrections s.shifts s.ratings new s.estimates s.readings s k
     k.corrections_are k.shifts_are k.entries_at_stamps k.ratings_are k.periods_are h k.estimates_are k.readings_are
 
-pub measurement_put : (s : StationRecord) (m : Measurement) (new : List Measurement) → IsStation s → IsPutMeasurement m → new ≡ put number_of m s.measurements
+pub measurement_put : (s : StationState) (m : Measurement) (new : List Measurement) → IsStation s → IsPutMeasurement m → new ≡ put number_of m s.measurements
     → IsStation (measured s new)
 measurement_put s m new k l e =
     subst (λ (n : List Measurement). IsStation (measured s n)) (sym e)
@@ -169,7 +168,7 @@ measurement_put s m new k l e =
       each = put_keeps number_of IsPutMeasurement m s.measurements l k.measurements_are.each;
     }))
 
-pub measurement_dropped : (s : StationRecord) (number : ℕ) (new : List Measurement) → IsStation s → new ≡ without number_of (pos number) s.measurements
+pub measurement_dropped : (s : StationState) (number : ℕ) (new : List Measurement) → IsStation s → new ≡ without number_of (pos number) s.measurements
     → IsStation (measured s new)
 measurement_dropped s number new k e =
     subst (λ (n : List Measurement). IsStation (measured s n)) (sym e)
@@ -179,15 +178,15 @@ measurement_dropped s number new k e =
     }))
 
 -- with its estimates changed
-abbrev estimated : StationRecord → List Estimate → StationRecord
+abbrev estimated : StationState → List Estimate → StationState
 estimated s new = with_estimates (λ old. new) s
 
-estimated_is : (s : StationRecord) (new : List Estimate) → IsStation s → AreEstimates new → IsStation (estimated s new)
+estimated_is : (s : StationState) (new : List Estimate) → IsStation s → AreEstimates new → IsStation (estimated s new)
 estimated_is s new k h =
     inputs_are s.corrections s.shifts s.ratings s.measurements new s.readings s k
     k.corrections_are k.shifts_are k.entries_at_stamps k.ratings_are k.periods_are k.measurements_are h k.readings_are
 
-pub estimate_put : (s : StationRecord) (e : Estimate) (new : List Estimate) → IsStation s → IsPutEstimate e → new ≡ put estimated_day e s.estimates
+pub estimate_put : (s : StationState) (e : Estimate) (new : List Estimate) → IsStation s → IsPutEstimate e → new ≡ put estimated_day e s.estimates
     → IsStation (estimated s new)
 estimate_put s x new k l e =
     subst (λ (n : List Estimate). IsStation (estimated s n)) (sym e)
@@ -196,7 +195,7 @@ estimate_put s x new k l e =
       each = put_keeps estimated_day IsPutEstimate x s.estimates l k.estimates_are.each;
     }))
 
-pub estimate_dropped : (s : StationRecord) (day : ℤ) (new : List Estimate) → IsStation s → new ≡ without estimated_day day s.estimates
+pub estimate_dropped : (s : StationState) (day : ℤ) (new : List Estimate) → IsStation s → new ≡ without estimated_day day s.estimates
     → IsStation (estimated s new)
 estimate_dropped s day new k e =
     subst (λ (n : List Estimate). IsStation (estimated s n)) (sym e)

@@ -16,12 +16,12 @@ use Rattle.ratings.specs.Numbered.{Numbered, rating_of}
 use Rattle.ratings.specs.Periods.{overlap}
 use Rattle.station_inputs.specs.KeptStation.{IsStation}
 use Rattle.station_inputs.specs.Obstacles.{obstacle, period_obstacle, rating_obstacle}
-use Rattle.station_inputs.specs.Stations.{StationRecord, day_start, station_after, station_day}
+use Rattle.station_inputs.specs.Stations.{StationState, day_start, station_after, station_day}
 use Rattle.station_inputs.specs.declared.series.StationSeries.TheVariants.{Correction, Shift}
 use Rattle.station_inputs.proofs.KeptLemmas.{described_is, readings_put, readings_dropped, readings_flagged, rating_added, period_put, period_dropped, estimate_put, estimate_dropped, measurement_put, measurement_dropped}
 use Rattle.station_inputs.proofs.SeriesLemmas.{put_station, without_station}
 
-pub same_site : (what : What) (s : StationRecord) → (station_after what s).site ≡ s.site
+pub same_site : (what : What) (s : StationState) → (station_after what s).site ≡ s.site
 same_site (AddStation name zone gap stages discharges) s = refl
 same_site (SetStation name gap stages discharges) s = refl
 same_site (PutReadings readings) s = refl
@@ -41,7 +41,7 @@ same_site (DropMeasurement number) s = refl
 same_site (Review from to) s = refl
 same_site (Decide from to decision) s = refl
 
-pub same_days : (what : What) (s : StationRecord) (day : ℤ) → day_start (station_after what s) day ≡ day_start s day
+pub same_days : (what : What) (s : StationState) (day : ℤ) → day_start (station_after what s) day ≡ day_start s day
 same_days (AddStation name zone gap stages discharges) s day = refl
 same_days (SetStation name gap stages discharges) s day = refl
 same_days (PutReadings readings) s day = refl
@@ -71,7 +71,7 @@ is_known None overlapped e = absurd (cc)
 is_known (Some kept) None e = (refl, refl)
 is_known (Some kept) (Some at) e = absurd (cc)
 
-pub still_station : (what : What) (s : StationRecord) → IsStation s → IsLawful what → obstacle s what ≡ None → IsStation (station_after what s)
+pub still_station : (what : What) (s : StationState) → IsStation s → IsLawful what → obstacle s what ≡ None → IsStation (station_after what s)
 still_station (AddStation name zone gap stages discharges) s k l e = k
 still_station (SetStation name gap stages discharges) s k l e = described_is s name gap stages discharges k l.near.low l.near.high
 still_station (PutReadings readings) s k l e = readings_put s readings _ k l refl
@@ -104,13 +104,13 @@ ChangesNone what =
     ⊎ (((from : ℤ) × (to : ℤ) × (what ≡ Review from to))
     ⊎ ((from : ℤ) × (to : ℤ) × (decision : Decision) × (what ≡ Decide from to decision))))))
 
-told_at : (s : StationRecord) (what other : What) (day : ℤ) → what ≡ other → true ≡ keeps_station_day s other day → true ≡ keeps_station_day s what day
+told_at : (s : StationState) (what other : What) (day : ℤ) → what ≡ other → true ≡ keeps_station_day s other day → true ≡ keeps_station_day s what day
 told_at s what other day e h = h ∙ ap (λ (w : What). keeps_station_day s w day) (sym e)
 
-same_day : (s : StationRecord) (day : ℤ) → true ≡ same_inputs (station_day s day) (station_day s day)
+same_day : (s : StationState) (day : ℤ) → true ≡ same_inputs (station_day s day) (station_day s day)
 same_day s day = sym (same_of (station_day s day) (station_day s day) refl)
 
-pub none_changed : (s : StationRecord) (what : What) (day : ℤ) → IsStation s → ChangesNone what → true ≡ keeps_station_day s what day
+pub none_changed : (s : StationState) (what : What) (day : ℤ) → IsStation s → ChangesNone what → true ≡ keeps_station_day s what day
 none_changed s what day k (inl p) = told_at s what (AddStation p.0 p.1 p.2 p.3 p.4) day p.5 (same_day s day)
 none_changed s what day k (inr (inl p)) = told_at s what (AddRating p.0 p.1) day p.2 (rating_told s day (record { number = p.0; rows = p.1 }) k)
 none_changed s what day k (inr (inr (inl p))) = told_at s what (PutMeasurement p.0) day p.1 (same_day s day)

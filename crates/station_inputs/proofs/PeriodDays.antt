@@ -15,7 +15,7 @@ use Rattle.ratings.specs.Parts.{Part, parts}
 use Rattle.ratings.proofs.PartEqualityLemmas.{lists_decide}
 use Rattle.ratings.proofs.PeriodChangeLemmas.{rating_changes_none}
 use Rattle.station_inputs.specs.KeptStation.{IsStation, KeptStation}
-use Rattle.station_inputs.specs.Stations.{StationRecord, day_start, estimated_discharge, station_day, station_window, with_ratings}
+use Rattle.station_inputs.specs.Stations.{StationState, day_start, estimated_discharge, station_day, station_window, with_ratings}
 use Rattle.station_inputs.proofs.StationLemmas.{same_of, told_by}
 use Rattle.station_inputs.proofs.WindowDays.{carrying, with_ends, without_window}
 
@@ -57,7 +57,7 @@ always_same gap stages discharges from until c sh before after (r ∷ rs) estima
     let b = last_at r rs in
     ap (with_parts gap stages discharges from until c sh before after (r ∷ rs) estimate a b) (sym (h a b))
 
-pub no_window_told : (s : StationRecord) (day : ℤ) (change : StationRatings → StationRatings) → window_ends (station_window s day) ≡ None
+pub no_window_told : (s : StationState) (day : ℤ) (change : StationRatings → StationRatings) → window_ends (station_window s day) ≡ None
     → true ≡ same_inputs (station_day s day) (station_day (with_ratings change s) day)
 no_window_told s day change e =
     sym (same_of (station_day s day) (station_day (with_ratings change s) day)
@@ -65,7 +65,7 @@ no_window_told s day change e =
     s.corrections s.corrections s.shifts s.shifts s.ratings (change s.ratings) e))
 
 -- a rating more
-pub rating_told : (s : StationRecord) (day : ℤ) (x : Numbered) → IsStation s
+pub rating_told : (s : StationState) (day : ℤ) (x : Numbered) → IsStation s
     → true ≡ same_inputs (station_day s day) (station_day (with_ratings (with_rating x) s) day)
 rating_told s day x k =
     sym (same_of (station_day s day) (station_day (with_ratings (with_rating x) s) day)
@@ -73,7 +73,7 @@ rating_told s day x k =
     (station_window s day) (estimated_discharge s day) (λ lo hi. rating_changes_none lo hi x s.ratings k.ratings_are)))
 
 -- periods changed
-pub periods_told : (s : StationRecord) (day : ℤ) (change : StationRatings → StationRatings) (lo hi : ℤ) → window_ends (station_window s day) ≡ Some (lo, hi)
+pub periods_told : (s : StationState) (day : ℤ) (change : StationRatings → StationRatings) (lo hi : ℤ) → window_ends (station_window s day) ≡ Some (lo, hi)
     → same_parts (parts lo hi s.ratings.tables s.ratings.periods) (parts lo hi (change s.ratings).tables (change s.ratings).periods)
     ≡ same_inputs (station_day s day) (station_day (with_ratings change s) day)
 periods_told s day change lo hi e =

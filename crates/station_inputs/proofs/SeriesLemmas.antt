@@ -12,7 +12,7 @@ use Rattle.curves.specs.Entries.{IsSeries, IsRising, instant_of, put, without, s
 use Rattle.edits.specs.Lawful.{IsPutCurve, IsPutPoint, IsSetNumber}
 use Rattle.station_inputs.specs.KeptStation.{IsStation, AreAtStamps}
 use Rattle.station_inputs.specs.Series.{IsOfStation, corrections_with, shifts_with}
-use Rattle.station_inputs.specs.Stations.{StationRecord, series_of, with_entry, with_inputs, with_series, without_entry}
+use Rattle.station_inputs.specs.Stations.{StationState, series_of, with_entry, with_inputs, with_series, without_entry}
 use Rattle.station_inputs.proofs.KeptLemmas.{inputs_are}
 use Rattle.station_inputs.specs.declared.series.StationSeries.{StationSeries}
 use Rattle.station_inputs.specs.declared.series.StationSeries.TheVariants.{Correction, Shift}
@@ -22,7 +22,7 @@ pub record AreEntries (entries : List Entry) : Type 0 where
   pub series : IsSeries entries
   pub stamps : All (λ e. IsStamp e.at) entries
 
-pub series_are : (s : StationRecord) (which : StationSeries) → IsStation s → IsOfStation which → AreEntries (series_of which s)
+pub series_are : (s : StationState) (which : StationSeries) → IsStation s → IsOfStation which → AreEntries (series_of which s)
 series_are s (Correction zero) k i = absurd (let l = i.least in omega arith)
 series_are s (Correction (suc zero)) k i = record { series = k.corrections_are.first; stamps = k.entries_at_stamps.first }
 series_are s (Correction (suc (suc zero))) k i = record { series = k.corrections_are.second; stamps = k.entries_at_stamps.second }
@@ -54,7 +54,7 @@ without_are at es k = record {
 abbrev AreAll : Corrections → List Entry → Type 0
 AreAll c sh = AreCorrections c × (IsSeries sh × AreAtStamps c sh)
 
-changed_are : (s : StationRecord) (which : StationSeries) (change : List Entry → List Entry) → IsStation s → IsOfStation which
+changed_are : (s : StationState) (which : StationSeries) (change : List Entry → List Entry) → IsStation s → IsOfStation which
     → AreEntries (change (series_of which s)) → AreAll (corrections_with which change s.corrections) (shifts_with which change s.shifts)
 changed_are s (Correction zero) change k i h = absurd (let l = i.least in omega arith)
 changed_are s (Correction (suc zero)) change k i h =
@@ -74,40 +74,40 @@ changed_are s Shift change k i h =
     let a = k.entries_at_stamps in
     (k.corrections_are, (h.series, record { first = a.first; second = a.second; third = a.third; shifts = h.stamps }))
 
-changed_station : (s : StationRecord) (which : StationSeries) (change : List Entry → List Entry) → IsStation s → IsOfStation which
+changed_station : (s : StationState) (which : StationSeries) (change : List Entry → List Entry) → IsStation s → IsOfStation which
     → AreEntries (change (series_of which s)) → IsStation (with_series which change s)
 changed_station s which change k i h =
     let all = changed_are s which change k i h in
     inputs_are (corrections_with which change s.corrections) (shifts_with which change s.shifts) s.ratings s.measurements s.estimates s.readings s k
     all.0 all.1.0 all.1.1 k.ratings_are k.periods_are k.measurements_are k.estimates_are k.readings_are
 
-pub put_station : (s : StationRecord) (which : StationSeries) (e : Entry) → IsStation s → IsOfStation which → IsPutCurve e.curve → IsStamp e.at
+pub put_station : (s : StationState) (which : StationSeries) (e : Entry) → IsStation s → IsOfStation which → IsPutCurve e.curve → IsStamp e.at
     → IsStation (with_entry which e s)
 put_station s which e k i c t = changed_station s which (put e) k i (put_are e (series_of which s) c t (series_are s which k i))
 
-pub without_station : (s : StationRecord) (which : StationSeries) (at : ℤ) → IsStation s → IsOfStation which → IsStation (without_entry which at s)
+pub without_station : (s : StationState) (which : StationSeries) (at : ℤ) → IsStation s → IsOfStation which → IsStation (without_entry which at s)
 without_station s which at k i = changed_station s which (without at) k i (without_are at (series_of which s) (series_are s which k i))
 
 -- the same with the entries that its sets, or its shifts, end with
-abbrev with_sets : StationRecord → Corrections → StationRecord
+abbrev with_sets : StationState → Corrections → StationState
 with_sets s sets = with_inputs sets s.shifts s.ratings s.measurements s.estimates s.readings s
 
-abbrev with_shifts : StationRecord → List Entry → StationRecord
+abbrev with_shifts : StationState → List Entry → StationState
 with_shifts s shifts = with_inputs s.corrections shifts s.ratings s.measurements s.estimates s.readings s
 
-pub set_put : (s : StationRecord) (set : ℕ) (e : Entry) (new : Corrections) → IsStation s → IsSetNumber set → IsPutCurve e.curve → IsStamp e.at
+pub set_put : (s : StationState) (set : ℕ) (e : Entry) (new : Corrections) → IsStation s → IsSetNumber set → IsPutCurve e.curve → IsStamp e.at
     → new ≡ with_set_changed set (put e) s.corrections → IsStation (with_sets s new)
 set_put s set e new k i c t n = subst (λ (sets : Corrections). IsStation (with_sets s sets)) (sym n) (put_station s (Correction set) e k i c t)
 
-pub set_dropped : (s : StationRecord) (set : ℕ) (at : ℤ) (new : Corrections) → IsStation s → IsSetNumber set
+pub set_dropped : (s : StationState) (set : ℕ) (at : ℤ) (new : Corrections) → IsStation s → IsSetNumber set
     → new ≡ with_set_changed set (without at) s.corrections → IsStation (with_sets s new)
 set_dropped s set at new k i n = subst (λ (sets : Corrections). IsStation (with_sets s sets)) (sym n) (without_station s (Correction set) at k i)
 
-pub shift_put : (s : StationRecord) (e : Entry) (new : List Entry) → IsStation s → IsPutCurve e.curve → IsStamp e.at
+pub shift_put : (s : StationState) (e : Entry) (new : List Entry) → IsStation s → IsPutCurve e.curve → IsStamp e.at
     → new ≡ put e s.shifts → IsStation (with_shifts s new)
 shift_put s e new k c t n = subst (λ (shifts : List Entry). IsStation (with_shifts s shifts)) (sym n) (put_station s Shift e k tt c t)
 
-pub shift_dropped : (s : StationRecord) (at : ℤ) (new : List Entry) → IsStation s → new ≡ without at s.shifts → IsStation (with_shifts s new)
+pub shift_dropped : (s : StationState) (at : ℤ) (new : List Entry) → IsStation s → new ≡ without at s.shifts → IsStation (with_shifts s new)
 shift_dropped s at new k n = subst (λ (shifts : List Entry). IsStation (with_shifts s shifts)) (sym n) (without_station s Shift at k tt)
 
 -- taking out where nothing stands changes nothing, and takes one away at most

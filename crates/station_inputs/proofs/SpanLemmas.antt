@@ -20,15 +20,15 @@ use Rattle.civil_days.specs.Starts.{IsIn}
 use Rattle.civil_days.proofs.RiseLemmas.{zone_steps, rise}
 use Rattle.edits.specs.declared.estimates.Estimate.{Estimate}
 use Rattle.station_inputs.specs.KeptStation.{IsStation, AreReadings, KeptStation}
-use Rattle.station_inputs.specs.Stations.{StationRecord, estimated_day, estimated_discharge, station_day, day_start}
+use Rattle.station_inputs.specs.Stations.{StationState, estimated_day, estimated_discharge, station_day, day_start}
 use Rattle.station_inputs.specs.Touched.{has_inputs, has_used_reading, IsSpanOf, joined_spans}
 use Rattle.station_inputs.proofs.StationLemmas.{is_any, no_any, read_any, filled_told, found_any, found_holds}
 
-abbrev day_inner : StationRecord → ℤ → List Reading
+abbrev day_inner : StationState → ℤ → List Reading
 day_inner s day = inner (day_start s day) (day_start s (day +ℤ pos 1)) s.readings
 
 -- a day without a used reading of its own
-none_filled : (s : StationRecord) (day : ℤ) → day_inner s day ≡ [] → has_used_reading s day ≡ false
+none_filled : (s : StationState) (day : ℤ) → day_inner s day ≡ [] → has_used_reading s day ≡ false
 none_filled s day e = read_any s day ∙ ap is_any e ∙ no_any Reading
 
 not_none : (o : Option Reading) (b : Bool) → is_some o ≡ b → (o ≡ None → ⊥) → b ≡ true
@@ -36,7 +36,7 @@ not_none None b e n = absurd (n refl)
 not_none (Some r) b e n = sym e
 
 -- the day of a used reading has one
-used_filled : (s : StationRecord) (day : ℤ) (r : Reading) (rs : List Reading) → find is_used rs ≡ Some r → is_of_day (day_start s day) (day_start s (day +ℤ pos 1)) r ≡ true
+used_filled : (s : StationState) (day : ℤ) (r : Reading) (rs : List Reading) → find is_used rs ≡ Some r → is_of_day (day_start s day) (day_start s (day +ℤ pos 1)) r ≡ true
     → ((P : Reading → Type 0) → All P s.readings → All P rs) → is_used r ≡ true → has_used_reading s day ≡ true
 used_filled s day r rs f i all u =
     let test : Reading → Bool = λ x. is_used x && is_of_day (day_start s day) (day_start s (day +ℤ pos 1)) x in
@@ -45,7 +45,7 @@ used_filled s day r rs f i all u =
     ∙ not_none (find test s.readings) (is_any (day_inner s day)) (found_any test s.readings)
     (λ n. not_all_fail test rs r f passes (all (λ x. test x ≡ false) (none_found test s.readings n)))
 
-start_step : (s : StationRecord) (a b : ℤ) → IsStation s → IsDay a → IsDay b → a <ℤ b → day_start s (a +ℤ pos 1) ≤ℤ day_start s b
+start_step : (s : StationState) (a b : ℤ) → IsStation s → IsDay a → IsDay b → a <ℤ b → day_start s (a +ℤ pos 1) ≤ℤ day_start s b
 start_step s a b k h i l =
     let low = h.low in
     let high = i.high in
@@ -54,7 +54,7 @@ start_step s a b k h i l =
     (λ m. let e : a +ℤ pos 1 ≡ b = omega (arith, ints) in let f = ap (day_start s) e in omega (arith, ints))
 
 -- a day before that of the first used reading has none
-first_bounds : (s : StationRecord) (own day : ℤ) (r : Reading) → IsStation s → find is_used s.readings ≡ Some r → IsDay own → IsIn s.zone own r.at
+first_bounds : (s : StationState) (own day : ℤ) (r : Reading) → IsStation s → find is_used s.readings ≡ Some r → IsDay own → IsIn s.zone own r.at
     → IsDay day → has_used_reading s day ≡ true → own ≤ℤ day
 first_bounds s own day r k f o i d h =
     by_lt_z day own
@@ -66,7 +66,7 @@ first_bounds s own day r k f o i d h =
     (λ l. l)
 
 -- nor has a day behind that of the last
-last_bounds : (s : StationRecord) (own day : ℤ) (r : Reading) → IsStation s → find is_used (reverse s.readings) ≡ Some r → IsDay own → IsIn s.zone own r.at
+last_bounds : (s : StationState) (own day : ℤ) (r : Reading) → IsStation s → find is_used (reverse s.readings) ≡ Some r → IsDay own → IsIn s.zone own r.at
     → IsDay day → has_used_reading s day ≡ true → day ≤ℤ own
 last_bounds s own day r k f o i d h =
     by_lt_z own day
@@ -77,14 +77,14 @@ last_bounds s own day r k f o i d h =
     let e = none_filled s day none in absurd (cc))
     (λ l. l)
 
-of_day : (s : StationRecord) (day : ℤ) (r : Reading) → IsIn s.zone day r.at → is_of_day (day_start s day) (day_start s (day +ℤ pos 1)) r ≡ true
+of_day : (s : StationState) (day : ℤ) (r : Reading) → IsIn s.zone day r.at → is_of_day (day_start s day) (day_start s (day +ℤ pos 1)) r ≡ true
 of_day s day r i = let from = i.from in let until = i.until in grind (arith, ints)
 
-pub no_span : (s : StationRecord) → find is_used s.readings ≡ None → IsSpanOf (has_used_reading s) None
+pub no_span : (s : StationState) → find is_used s.readings ≡ None → IsSpanOf (has_used_reading s) None
 no_span s e day d =
     none_filled s day (unused_inner (day_start s day) (day_start s (day +ℤ pos 1)) s.readings (none_found is_used s.readings e))
 
-pub span : (s : StationRecord) (first last : ℤ) (r t : Reading) → IsStation s → find is_used s.readings ≡ Some r → find is_used (reverse s.readings) ≡ Some t
+pub span : (s : StationState) (first last : ℤ) (r t : Reading) → IsStation s → find is_used s.readings ≡ Some r → find is_used (reverse s.readings) ≡ Some t
     → is_used r ≡ true → is_used t ≡ true → IsDay first → IsIn s.zone first r.at → IsDay last → IsIn s.zone last t.at → IsSpanOf (has_used_reading s) (Some (first, last))
 span s first last r t k f g u v d i e j = (
   used_filled s first r s.readings f (of_day s first r i) (λ P h. h) u,
@@ -175,20 +175,20 @@ some_discharge : (found : Option Estimate) → is_some (option_map (λ (e : Esti
 some_discharge None = refl
 some_discharge (Some x) = refl
 
-abbrev pub is_estimated : StationRecord → ℤ → Bool
+abbrev pub is_estimated : StationState → ℤ → Bool
 is_estimated s day = is_some (estimated_discharge s day)
 
-abbrev found_at : StationRecord → ℤ → Option Estimate
+abbrev found_at : StationState → ℤ → Option Estimate
 found_at s day = lists.at estimated_day day s.estimates
 
-pub estimated_span : (s : StationRecord) (f l : Estimate) → IsStation s → first s.estimates ≡ Some f → last s.estimates ≡ Some l → IsSpanOf (is_estimated s) (Some (f.day, l.day))
+pub estimated_span : (s : StationState) (f l : Estimate) → IsStation s → first s.estimates ≡ Some f → last s.estimates ≡ Some l → IsSpanOf (is_estimated s) (Some (f.day, l.day))
 estimated_span s f l k e g = (
   some_discharge (found_at s f.day) ∙ first_found estimated_day s.estimates f e,
   some_discharge (found_at s l.day) ∙ last_there estimated_day s.estimates l g,
   λ day d h. between_ends estimated_day day s.estimates f l k.estimates_are.rising e g (sym (some_discharge (found_at s day)) ∙ h),
 )
 
-pub no_estimates : (s : StationRecord) (estimates : List Estimate) → s.estimates ≡ estimates → first estimates ≡ None → IsSpanOf (is_estimated s) None
+pub no_estimates : (s : StationState) (estimates : List Estimate) → s.estimates ≡ estimates → first estimates ≡ None → IsSpanOf (is_estimated s) None
 no_estimates s [] e f day d = rw e refl
 no_estimates s (x ∷ xs) e f day d = absurd (cc)
 
@@ -257,14 +257,14 @@ spans_joined f g (Some p) (Some q) h k = (
         (min_second p.0 q.0 day (int_lt q.0 p.0) refl b.0, max_second p.1 q.1 day (int_lt q.1 p.1) refl b.1)
 
 -- the days that have inputs are those of both
-abbrev filled_on : StationRecord → ℤ → Bool
+abbrev filled_on : StationState → ℤ → Bool
 filled_on s day = has_inputs (station_day s day)
 
 span_as : (f g : ℤ → Bool) (span : Option (ℤ × ℤ)) → ((day : ℤ) → f day ≡ g day) → IsSpanOf f span → IsSpanOf g span
 span_as f g None e h = λ day d. sym (e day) ∙ h day d
 span_as f g (Some p) e h = (sym (e p.0) ∙ h.0, sym (e p.1) ∙ h.1, λ day d k. h.2 day d (e day ∙ k))
 
-pub used_span : (s : StationRecord) (one two : Option (ℤ × ℤ)) → IsSpanOf (has_used_reading s) one → IsSpanOf (is_estimated s) two → IsSpanOf (filled_on s) (joined_spans one two)
+pub used_span : (s : StationState) (one two : Option (ℤ × ℤ)) → IsSpanOf (has_used_reading s) one → IsSpanOf (is_estimated s) two → IsSpanOf (filled_on s) (joined_spans one two)
 used_span s one two h k =
     span_as (either (has_used_reading s) (is_estimated s)) (filled_on s) (joined_spans one two) (λ day. filled_told s day)
     (spans_joined (has_used_reading s) (is_estimated s) one two h k)

@@ -3,7 +3,7 @@ use Rattle.std.specs.Prelude.{◌≡◌, ◌≢◌, ◌≤◌, ◌*◌, ◌||◌
 use Rattle.std.specs.Ordering.{int_eq}
 use Rattle.std.proofs.Common.{refl, ap, sym, subst, ◌∙◌}
 use Rattle.std.proofs.lemmas.List.Elements.{All-head, All-tail}
-use Rattle.fixed_units.specs.Quantities.{IsDischarge, IsStage, IsStamp}
+use Rattle.fixed_units.specs.Quantities.{IsDischarge, IsStage, IsStamp, most_gap}
 use Rattle.fixed_units.specs.declared.readings.Reading.{Reading}
 use Rattle.readings.specs.Readings.{IsRising, is_used}
 use Rattle.readings.specs.Window.{inner, of_day, window, with_neighbours, neighbour_before, neighbour_after}
@@ -16,7 +16,7 @@ use Rattle.curves.specs.declared.entries.Entry.{Entry}
 use Rattle.curves.specs.Entries.{IsSeries}
 use Rattle.curves.specs.Corrections.{Corrections, AreCorrections}
 use Rattle.fixed_units.specs.declared.texts.NoMemory.{NoMemory}
-use Rattle.day_inputs.specs.DayInputs.{AreInputs, with_window, most_gap}
+use Rattle.day_inputs.specs.DayInputs.{AreInputs, with_window}
 use Rattle.ratings.specs.Numbered.{StationRatings, AreRatings}
 use Rattle.day_inputs.proofs.WindowEnds.{inputs_kept}
 use Rattle.day_inputs.specs.Equality.{same_estimate, same_inputs}
@@ -26,7 +26,7 @@ use Rattle.day_inputs.specs.declared.day_inputs.DayInputs.TheVariants.{Empty, Da
 use Rattle.edits.specs.Lawful.{IsPutEstimate}
 use Rattle.edits.specs.declared.estimates.Estimate.{Estimate}
 use Rattle.rising.specs.Lists as lists
-use Rattle.station_inputs.specs.Stations.{StationRecord, estimated_day, estimated_discharge, station_day, station_window, day_start, described, with_estimates, with_readings}
+use Rattle.station_inputs.specs.Stations.{StationState, estimated_day, estimated_discharge, station_day, station_window, day_start, described, with_estimates, with_readings}
 use Rattle.station_inputs.specs.KeptStation.{AreReadings, IsStation, KeptStation}
 use Rattle.station_inputs.specs.Touched.{has_inputs, has_used_reading}
 
@@ -47,7 +47,7 @@ estimate_step : (day : ℤ) (estimates : List Estimate) (found : Option Estimate
 estimate_step day estimates None h e = tt
 estimate_step day estimates (Some x) h e = (found_holds IsPutEstimate (λ (y : Estimate). int_eq y.day day) estimates x h e).0.discharge
 
-pub estimate_kept : (s : StationRecord) (day : ℤ) → IsStation s → IfSome (estimated_discharge s day) IsDischarge
+pub estimate_kept : (s : StationState) (day : ℤ) → IsStation s → IfSome (estimated_discharge s day) IsDischarge
 estimate_kept s day k = estimate_step day s.estimates (lists.at estimated_day day s.estimates) k.estimates_are.each refl
 
 abbrev IsEstimateKept : ℤ → Option ℤ → KeptStation → Type 0
@@ -154,7 +154,7 @@ module _ (gap : ℕ) (stages discharges : List ℕ) (from until : ℤ) (sets : C
   settings_told (r ∷ rs) estimate h = (refl, (refl, refl))
 
 -- a day has inputs where its window has a used reading of its own, or where its discharge is estimated
-day_any : (s : StationRecord) (day : ℤ) → has_inputs (station_day s day) ≡ (is_any (inner (day_start s day) (day_start s (day +ℤ pos 1)) s.readings) || is_some (estimated_discharge s day))
+day_any : (s : StationState) (day : ℤ) → has_inputs (station_day s day) ≡ (is_any (inner (day_start s day) (day_start s (day +ℤ pos 1)) s.readings) || is_some (estimated_discharge s day))
 day_any s day =
     let a = day_start s day in
     let b = day_start s (day +ℤ pos 1) in
@@ -162,13 +162,13 @@ day_any s day =
     ∙ ap (λ (x : Bool). x || is_some (estimated_discharge s day))
     (neighbours_any (neighbour_before a (pos (60 * s.gap)) s.readings) (inner a b s.readings) (neighbour_after b (pos (60 * s.gap)) s.readings))
 
-pub read_any : (s : StationRecord) (day : ℤ) → has_used_reading s day ≡ is_any (inner (day_start s day) (day_start s (day +ℤ pos 1)) s.readings)
+pub read_any : (s : StationState) (day : ℤ) → has_used_reading s day ≡ is_any (inner (day_start s day) (day_start s (day +ℤ pos 1)) s.readings)
 read_any s day =
     let a = day_start s day in
     let b = day_start s (day +ℤ pos 1) in
     found_any is_used (of_day a b s.readings) ∙ ap is_any (inner_found a b s.readings)
 
-pub filled_told : (s : StationRecord) (day : ℤ) → (has_used_reading s day || is_some (estimated_discharge s day)) ≡ has_inputs (station_day s day)
+pub filled_told : (s : StationState) (day : ℤ) → (has_used_reading s day || is_some (estimated_discharge s day)) ≡ has_inputs (station_day s day)
 filled_told s day = ap (λ (x : Bool). x || is_some (estimated_discharge s day)) (read_any s day) ∙ sym (day_any s day)
 
 -- the same as it is asked at the instants of a day, of a station that is kept with room
@@ -209,7 +209,7 @@ window_same gap stages discharges from until sets shifts ratings estimate old ne
     (λ f. (lists_decide old new).1
     (sym (window_told gap stages discharges from until sets shifts ratings old estimate) ∙ ap window_of f ∙ window_told gap stages discharges from until sets shifts ratings new estimate))
 
-pub readings_told : (s : StationRecord) (day : ℤ) (change : List Reading → List Reading)
+pub readings_told : (s : StationState) (day : ℤ) (change : List Reading → List Reading)
     → same_readings (station_window s day) (station_window (with_readings change s) day) ≡ same_inputs (station_day s day) (station_day (with_readings change s) day)
 readings_told s day change =
     window_same s.gap s.stage_array s.discharge_array (day_start s day) (day_start s (day +ℤ pos 1)) s.corrections s.shifts s.ratings (estimated_discharge s day)
@@ -226,7 +226,7 @@ AlteredDay day change from until altered view kept =
     → altered ≡ not (same_readings (window from until (pos (60 * view.station.gap)) view.station.readings) (window from until (pos (60 * view.station.gap)) (change view.station.readings)))
     → not altered ≡ same_inputs (station_day kept.station day) (station_day (with_readings change kept.station) day)
 
-altered_here : (s : StationRecord) (day : ℤ) (change : List Reading → List Reading) (from until : ℤ) (altered : Bool) → from ≡ day_start s day → until ≡ day_start s (day +ℤ pos 1)
+altered_here : (s : StationState) (day : ℤ) (change : List Reading → List Reading) (from until : ℤ) (altered : Bool) → from ≡ day_start s day → until ≡ day_start s (day +ℤ pos 1)
     → altered ≡ not (same_readings (window from until (pos (60 * s.gap)) s.readings) (window from until (pos (60 * s.gap)) (change s.readings)))
     → not altered ≡ same_inputs (station_day s day) (station_day (with_readings change s) day)
 altered_here s day change from until altered e f t =
@@ -247,14 +247,14 @@ estimate_same gap stages discharges from until sets shifts ratings w old new =
     (λ f. (estimates_decide old new).1
     (sym (estimate_told gap stages discharges from until sets shifts ratings w old) ∙ ap estimate_in f ∙ estimate_told gap stages discharges from until sets shifts ratings w new))
 
-pub estimates_told : (s : StationRecord) (day : ℤ) (change : List Estimate → List Estimate)
+pub estimates_told : (s : StationState) (day : ℤ) (change : List Estimate → List Estimate)
     → same_estimate (estimated_discharge s day) (estimated_discharge (with_estimates change s) day) ≡ same_inputs (station_day s day) (station_day (with_estimates change s) day)
 estimates_told s day change =
     estimate_same s.gap s.stage_array s.discharge_array (day_start s day) (day_start s (day +ℤ pos 1)) s.corrections s.shifts s.ratings (station_window s day)
     (estimated_discharge s day) (estimated_discharge (with_estimates change s) day)
 
 -- a station described as it is keeps each day
-pub described_same : (s : StationRecord) (day : ℤ) (name : List ℕ) (gap : ℕ) (stages discharges : List ℕ)
+pub described_same : (s : StationState) (day : ℤ) (name : List ℕ) (gap : ℕ) (stages discharges : List ℕ)
     → s.gap ≡ gap → s.stage_array ≡ stages → s.discharge_array ≡ discharges
     → true ≡ same_inputs (station_day s day) (station_day (described name gap stages discharges s) day)
 described_same s day name gap stages discharges e f g =
@@ -289,7 +289,7 @@ described_step g g' s s' d d' a b sets shifts ratings w w' estimate filled same 
         sym (other_of (inputs g s d a b sets shifts ratings w estimate) (inputs g' s' d' a b sets shifts ratings w' estimate) (λ q.
         n (sym one.0 ∙ ap gap_of q ∙ two.0) (sym one.1.0 ∙ ap stages_of q ∙ two.1.0) (sym one.1.1 ∙ ap discharges_of q ∙ two.1.1)))
 
-pub described_other : (s : StationRecord) (day : ℤ) (name : List ℕ) (gap : ℕ) (stages discharges : List ℕ)
+pub described_other : (s : StationState) (day : ℤ) (name : List ℕ) (gap : ℕ) (stages discharges : List ℕ)
     → Differs s.gap s.stage_array s.discharge_array gap stages discharges
     → not (has_inputs (station_day s day)) ≡ same_inputs (station_day s day) (station_day (described name gap stages discharges s) day)
 described_other s day name gap stages discharges n =

@@ -16,7 +16,7 @@ use Rattle.readings.proofs.WindowLemmas.{window_rises}
 use Rattle.day_inputs.specs.DayInputs.{ends_of, last_at, window_ends}
 use Rattle.day_inputs.proofs.WindowEnds.{ends_are}
 use Rattle.station_inputs.specs.KeptStation.{IsStation, KeptStation}
-use Rattle.station_inputs.specs.Stations.{StationRecord, day_start, station_window}
+use Rattle.station_inputs.specs.Stations.{StationState, day_start, station_window}
 use Rattle.station_inputs.proofs.HeldInputs.{lent_window}
 
 -- the first that is found is the first of those that pass, and the last is the last of them
@@ -93,7 +93,7 @@ ends_ordered : (w : List Reading) → IsRising w → AreOrdered (window_ends w)
 ends_ordered [] h = tt
 ends_ordered (r ∷ rs) h = last_later r rs h
 
-span_ordered : (s : StationRecord) (day : ℤ) (span : Option (ℤ × ℤ)) → IsStation s → span ≡ window_ends (station_window s day) → AreOrdered span
+span_ordered : (s : StationState) (day : ℤ) (span : Option (ℤ × ℤ)) → IsStation s → span ≡ window_ends (station_window s day) → AreOrdered span
 span_ordered s day span k e =
     subst AreOrdered (sym e)
     (ends_ordered (station_window s day) (window_rises (day_start s day) (day_start s (day +ℤ pos 1)) (pos (60 * s.gap)) s.readings k.readings_are.rising))

@@ -4,7 +4,7 @@ use Rattle.std.specs.Prelude.{ℕ, Bool, ◌&&◌, nat_lt, length, Option, Some,
 use Rattle.fixed_units.specs.Calendar.{calendar}
 use Rattle.readings.specs.Window.{of_day}
 use Rattle.station_inputs.specs.Series.{all_series}
-use Rattle.station_inputs.specs.Stations.{StationRecord, day_start, series_of}
+use Rattle.station_inputs.specs.Stations.{StationState, day_start, series_of}
 use Rattle.station_inputs.specs.declared.counts.Counted.{Counted}
 use Rattle.station_inputs.specs.declared.counts.Counted.TheVariants.{Ratings, Entries, Periods, Measurements}
 
@@ -13,11 +13,11 @@ abbrev pub passes : ℕ → ℕ → ℕ → Bool
 passes limit before after = nat_lt before after && nat_lt limit after
 
 -- the readings of a local day of a station, erroneous ones among them
-abbrev pub day_count : StationRecord → ℤ → ℕ
+abbrev pub day_count : StationState → ℤ → ℕ
 day_count s day = length (of_day (day_start s day) (day_start s (day +ℤ pos 1)) s.readings)
 
 -- some local day of the station has too many
-abbrev pub passes_a_day : ℕ → StationRecord → StationRecord → Bool
+abbrev pub passes_a_day : ℕ → StationState → StationState → Bool
 passes_a_day limit before after = list_any (λ day. passes limit (day_count before day) (day_count after day)) calendar
 
 -- how many ratings a station has at most, entries in one series, periods, and measurements
@@ -34,11 +34,11 @@ abbrev pub most_measurements : ℕ
 most_measurements = 10_000
 
 -- some series of the station has too many entries
-abbrev pub passes_a_series : StationRecord → StationRecord → Bool
+abbrev pub passes_a_series : StationState → StationState → Bool
 passes_a_series before after = list_any (λ which. passes most_entries (length (series_of which before)) (length (series_of which after))) all_series
 
 -- the first of these counts that a change of the station raises past its limit
-abbrev pub passed_count : StationRecord → StationRecord → Option Counted
+abbrev pub passed_count : StationState → StationState → Option Counted
 passed_count before after =
     if passes most_ratings (length before.ratings.tables) (length after.ratings.tables) then Some Ratings
     else (if passes_a_series before after then Some Entries

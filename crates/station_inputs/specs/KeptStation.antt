@@ -1,6 +1,6 @@
--- What is kept of one station, as contracts see it: its record, and room beside it.
+-- What is kept of one station, as contracts see it: its state, and room beside it.
 use Rattle.std.specs.Prelude.{ℕ, ◌≤◌, List, All}
-use Rattle.fixed_units.specs.Quantities.{IsSite, IsStage, IsStamp}
+use Rattle.fixed_units.specs.Quantities.{IsSite, IsStage, IsStamp, most_gap}
 use Rattle.fixed_units.specs.declared.readings.Reading.{Reading}
 use Rattle.readings.specs.Readings.{IsRising}
 use Rattle.curves.specs.declared.entries.Entry.{Entry}
@@ -12,9 +12,8 @@ use Rattle.edits.specs.declared.estimates.Estimate.{Estimate}
 use Rattle.edits.specs.declared.measurements.Measurement.{Measurement}
 use Rattle.ratings.specs.Numbered.{AreRatings}
 use Rattle.rising.specs.Lists as lists
-use Rattle.day_inputs.specs.DayInputs.{most_gap}
 use Rattle.station_inputs.specs.Series.{SeriesRoom}
-use Rattle.station_inputs.specs.Stations.{StationRecord, estimated_day, number_of}
+use Rattle.station_inputs.specs.Stations.{StationState, estimated_day, number_of}
 
 -- readings in force: stages at stamps, rising by instant
 pub record AreReadings (readings : List Reading) : Type 0 where
@@ -40,7 +39,7 @@ pub record AreEstimates (estimates : List Estimate) : Type 0 where
   pub each : All IsPutEstimate estimates
 
 -- what each station keeps to
-pub record IsStation (station : StationRecord) : Type 0 where
+pub record IsStation (station : StationState) : Type 0 where
   pub site_range : IsSite station.site
   pub zone_is : IsZone station.zone
   pub gap_low : 1 ≤ station.gap
@@ -57,7 +56,7 @@ pub record IsStation (station : StationRecord) : Type 0 where
 -- a station that is kept, and for how many more readings, entries of each series, ratings, periods, measurements and estimates it has
 -- room
 pub record KeptStation : Type 0 where
-  pub station : StationRecord
+  pub station : StationState
   pub spare : ℕ
   pub entry_room : SeriesRoom
   pub rating_room : ℕ

@@ -7,7 +7,7 @@ use Rattle.ratings.specs.Numbered.{period_from, rating_of}
 use Rattle.ratings.specs.Periods.{overlap}
 use Rattle.readings.specs.Readings.{in_span}
 use Rattle.rising.specs.Ends.{first}
-use Rattle.station_inputs.specs.Stations.{StationRecord, estimate_of, measurement_of, series_of}
+use Rattle.station_inputs.specs.Stations.{StationState, estimate_of, measurement_of, series_of}
 use Rattle.station_inputs.specs.declared.obstacles.Obstacle.{Obstacle}
 use Rattle.station_inputs.specs.declared.obstacles.Obstacle.TheVariants.{NoEntry, NoRating, PeriodOverlap, RatingExists}
 use Rattle.station_inputs.specs.declared.series.StationSeries.TheVariants.{Correction, Shift}
@@ -26,7 +26,7 @@ period_obstacle rated overlapped = if rated then option_map PeriodOverlap overla
 
 -- what stands in the way of an edit of each kind: of a drop or a flagging that nothing stands where it would act, of a rating that
 -- one has its number, and of a period that its rating is not there, or else the first period of another start that shares an instant
-abbrev pub obstacle : StationRecord → What → Option Obstacle
+abbrev pub obstacle : StationState → What → Option Obstacle
 obstacle s (AddStation name zone gap stage_array discharge_array) = None
 obstacle s (SetStation name gap stage_array discharge_array) = None
 obstacle s (PutReadings readings) = None

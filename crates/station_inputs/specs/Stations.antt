@@ -22,7 +22,7 @@ use Rattle.station_inputs.specs.declared.series.StationSeries.{StationSeries}
 use Rattle.station_inputs.specs.declared.series.StationSeries.TheVariants.{Correction, Shift}
 
 -- what is in force at a station
-pub record StationRecord : Type 0 where
+pub record StationState : Type 0 where
   pub site : SiteNumber
   pub name : List ℕ
   pub zone : List ℕ
@@ -37,7 +37,7 @@ pub record StationRecord : Type 0 where
   pub readings : List Reading
 
 -- a station as it is added: without corrections, shifts, ratings, measurements, estimates and readings
-abbrev pub new_station : SiteNumber → List ℕ → List ℕ → ℕ → List ℕ → List ℕ → StationRecord
+abbrev pub new_station : SiteNumber → List ℕ → List ℕ → ℕ → List ℕ → List ℕ → StationState
 new_station site name zone gap stage_array discharge_array = record {
   site = site;
   name = name;
@@ -54,7 +54,7 @@ new_station site name zone gap stage_array discharge_array = record {
 }
 
 -- a station described anew: all else of it stays
-abbrev pub described : List ℕ → ℕ → List ℕ → List ℕ → StationRecord → StationRecord
+abbrev pub described : List ℕ → ℕ → List ℕ → List ℕ → StationState → StationState
 described name gap stage_array discharge_array s = record {
   site = s.site;
   name = name;
@@ -71,7 +71,7 @@ described name gap stage_array discharge_array s = record {
 }
 
 -- a station with these inputs: its description stays
-abbrev pub with_inputs : Corrections → List Entry → StationRatings → List Measurement → List Estimate → List Reading → StationRecord → StationRecord
+abbrev pub with_inputs : Corrections → List Entry → StationRatings → List Measurement → List Estimate → List Reading → StationState → StationState
 with_inputs corrections shifts ratings measurements estimates readings s = record {
   site = s.site;
   name = s.name;
@@ -88,56 +88,56 @@ with_inputs corrections shifts ratings measurements estimates readings s = recor
 }
 
 -- a station with its readings changed: all else of it stays
-abbrev pub with_readings : (List Reading → List Reading) → StationRecord → StationRecord
+abbrev pub with_readings : (List Reading → List Reading) → StationState → StationState
 with_readings change s = with_inputs s.corrections s.shifts s.ratings s.measurements s.estimates (change s.readings) s
 
 -- the entries of a series of a station
-abbrev pub series_of : StationSeries → StationRecord → List Entry
+abbrev pub series_of : StationSeries → StationState → List Entry
 series_of which s = entries_in which s.corrections s.shifts
 
 -- a station with one of its series changed: all else of it stays
-abbrev pub with_series : StationSeries → (List Entry → List Entry) → StationRecord → StationRecord
+abbrev pub with_series : StationSeries → (List Entry → List Entry) → StationState → StationState
 with_series which change s =
     with_inputs (corrections_with which change s.corrections) (shifts_with which change s.shifts) s.ratings s.measurements s.estimates s.readings s
 
 -- a station with an entry put into a series, in place of the one at its instant, and with the one at an instant taken out
-abbrev pub with_entry : StationSeries → Entry → StationRecord → StationRecord
+abbrev pub with_entry : StationSeries → Entry → StationState → StationState
 with_entry which entry s = with_series which (series.put entry) s
 
-abbrev pub without_entry : StationSeries → ℤ → StationRecord → StationRecord
+abbrev pub without_entry : StationSeries → ℤ → StationState → StationState
 without_entry which at s = with_series which (series.without at) s
 
 -- a station with its ratings changed: all else of it stays
-abbrev pub with_ratings : (StationRatings → StationRatings) → StationRecord → StationRecord
+abbrev pub with_ratings : (StationRatings → StationRatings) → StationState → StationState
 with_ratings change s = with_inputs s.corrections s.shifts (change s.ratings) s.measurements s.estimates s.readings s
 
 -- the number that a measurement stands at, and the measurement of a number
 abbrev pub number_of : Measurement → ℤ
 number_of measurement = pos measurement.number
 
-abbrev pub measurement_of : ℕ → StationRecord → Option Measurement
+abbrev pub measurement_of : ℕ → StationState → Option Measurement
 measurement_of number s = lists.at number_of (pos number) s.measurements
 
 -- a station with its measurements changed: all else of it stays
-abbrev pub with_measurements : (List Measurement → List Measurement) → StationRecord → StationRecord
+abbrev pub with_measurements : (List Measurement → List Measurement) → StationState → StationState
 with_measurements change s = with_inputs s.corrections s.shifts s.ratings (change s.measurements) s.estimates s.readings s
 
 -- the day that an estimate stands at, the estimate of a day, and what it says
 abbrev pub estimated_day : Estimate → ℤ
 estimated_day estimate = estimate.day
 
-abbrev pub estimate_of : ℤ → StationRecord → Option Estimate
+abbrev pub estimate_of : ℤ → StationState → Option Estimate
 estimate_of day s = lists.at estimated_day day s.estimates
 
-abbrev pub estimated_discharge : StationRecord → ℤ → Option ℤ
+abbrev pub estimated_discharge : StationState → ℤ → Option ℤ
 estimated_discharge s day = option_map (λ (e : Estimate). e.discharge) (estimate_of day s)
 
 -- a station with its estimates changed: all else of it stays
-abbrev pub with_estimates : (List Estimate → List Estimate) → StationRecord → StationRecord
+abbrev pub with_estimates : (List Estimate → List Estimate) → StationState → StationState
 with_estimates change s = with_inputs s.corrections s.shifts s.ratings s.measurements (change s.estimates) s.readings s
 
 -- a station after an edit of it, which keeps its site and its zone; an addition is none of it
-abbrev pub station_after : What → StationRecord → StationRecord
+abbrev pub station_after : What → StationState → StationState
 station_after (AddStation name zone gap stage_array discharge_array) s = s
 station_after (SetStation name gap stage_array discharge_array) s = described name gap stage_array discharge_array s
 station_after (PutReadings readings) s = with_readings (put_all readings) s
@@ -158,13 +158,13 @@ station_after (Review from to) s = s
 station_after (Decide from to decision) s = s
 
 -- when a station's day begins
-abbrev pub day_start : StationRecord → ℤ → ℤ
+abbrev pub day_start : StationState → ℤ → ℤ
 day_start station day = day_start_of station.zone day
 
 -- the window of a day of a station
-abbrev pub station_window : StationRecord → ℤ → List Reading
+abbrev pub station_window : StationState → ℤ → List Reading
 station_window s day = window (day_start s day) (day_start s (day +ℤ pos 1)) (pos (60 * s.gap)) s.readings
 
 -- the inputs of a day of a station
-abbrev pub station_day : StationRecord → ℤ → DayInputs
+abbrev pub station_day : StationState → ℤ → DayInputs
 station_day s day = day_inputs s.gap s.stage_array s.discharge_array (day_start s day) (day_start s (day +ℤ pos 1)) s.corrections s.shifts s.ratings s.readings (estimated_discharge s day)

@@ -14,7 +14,7 @@ use Rattle.ratings.specs.Numbered.{period_from}
 use Rattle.readings.specs.Readings.{in_span, is_used}
 use Rattle.readings.specs.Window.{of_day}
 use Rattle.ratings.specs.Spans.{Span}
-use Rattle.station_inputs.specs.Stations.{StationRecord, day_start, series_of}
+use Rattle.station_inputs.specs.Stations.{StationState, day_start, series_of}
 use Rattle.station_inputs.specs.declared.series.StationSeries.TheVariants.{Correction, Shift}
 use Rattle.station_inputs.specs.declared.touched.Touched.{Touched}
 use Rattle.station_inputs.specs.declared.touched.Touched.TheVariants.{Nothing, One, Between, Cells}
@@ -31,7 +31,7 @@ IsSpanOf filled (Some span) =
     (filled span.0 ≡ true) × (filled span.1 ≡ true) × ((day : ℤ) → IsDay day → filled day ≡ true → (span.0 ≤ℤ day) × (day ≤ℤ span.1))
 
 -- a reading of the day is used
-abbrev pub has_used_reading : StationRecord → ℤ → Bool
+abbrev pub has_used_reading : StationState → ℤ → Bool
 has_used_reading s day = is_some (find is_used (of_day (day_start s day) (day_start s (day +ℤ pos 1)) s.readings))
 
 -- the first and the last day of two spans
@@ -86,7 +86,7 @@ about_dropped_period None = Nothing
 about_dropped_period (Some kept) = about_period kept.from (period_end kept)
 
 -- what an edit touches of the station as it was before
-abbrev pub touched_at : StationRecord → What → Touched
+abbrev pub touched_at : StationState → What → Touched
 touched_at s (AddStation name zone gap stage_array discharge_array) = Nothing
 touched_at s (SetStation name gap stage_array discharge_array) = Cells
 touched_at s (PutReadings readings) = between_readings (first readings) (last readings)

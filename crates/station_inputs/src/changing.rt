@@ -16,7 +16,7 @@ use fixed_units::NoMemory;
 use std::alloc::Global;
 
 impl Station {
-    /// Makes room for an edit of the station, and gives what is staged for it. The record is as before, also after `NoMemory`.
+    /// Makes room for an edit of the station, and gives what is staged for it. The station is as before, also after `NoMemory`.
     pub fn prepare(&mut self, alloc: Global, what: &What) -> Result<Staged, NoMemory>
         requires { IsLawful what.now }
         ensures station { self.new.station ≡ self.old.station }

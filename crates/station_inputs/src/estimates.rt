@@ -19,7 +19,7 @@ impl Station {
         self.estimates.get(day).map(|estimate| estimate.discharge)
     }
 
-    /// Makes room for one estimate more. The record is as before, also after `NoMemory`.
+    /// Makes room for one estimate more. The station is as before, also after `NoMemory`.
     pub(crate) fn reserve_estimate(&mut self) -> Result<(), NoMemory>
         ensures station { self.new.station ≡ self.old.station }
         ensures room { OnOk result (0 < self.new.estimate_room) }

@@ -39,7 +39,7 @@ impl Station {
 }
 
 impl Station {
-    /// Makes room for one rating more. The record is as before, also after `NoMemory`.
+    /// Makes room for one rating more. The station is as before, also after `NoMemory`.
     pub(crate) fn reserve_rating(&mut self) -> Result<(), NoMemory>
         ensures station { self.new.station ≡ self.old.station }
         ensures room { OnOk result (0 < self.new.rating_room) }
@@ -48,7 +48,7 @@ impl Station {
         self.ratings.reserve_rating()
     }
 
-    /// Makes room for one period more. The record is as before, also after `NoMemory`.
+    /// Makes room for one period more. The station is as before, also after `NoMemory`.
     pub(crate) fn reserve_period(&mut self) -> Result<(), NoMemory>
         ensures station { self.new.station ≡ self.old.station }
         ensures room { OnOk result (0 < self.new.period_room) }
@@ -57,7 +57,7 @@ impl Station {
         self.ratings.reserve_period()
     }
 
-    /// Makes room for one measurement more. The record is as before, also after `NoMemory`.
+    /// Makes room for one measurement more. The station is as before, also after `NoMemory`.
     pub(crate) fn reserve_measurement(&mut self) -> Result<(), NoMemory>
         ensures station { self.new.station ≡ self.old.station }
         ensures room { OnOk result (0 < self.new.measurement_room) }

@@ -52,7 +52,7 @@ impl Station {
         self.series(which).stands_at(at)
     }
 
-    /// Makes room for one entry more in a series. The record is as before, also after `NoMemory`.
+    /// Makes room for one entry more in a series. The station is as before, also after `NoMemory`.
     pub(crate) fn reserve_entry(&mut self, which: StationSeries) -> Result<(), NoMemory>
         requires { IsOfStation which }
         ensures station { self.new.station ≡ self.old.station }

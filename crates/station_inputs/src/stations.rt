@@ -5,7 +5,7 @@ ghost use Rattle.std.specs.Prelude.{◌≡◌, ◌≤◌, ◌+◌, length, IfOk,
 ghost use Rattle.std.specs.Arc.{arc_value};
 ghost use Rattle.civil_days.specs.Starts.{IsZone};
 ghost use Rattle.readings.specs.Readings.{put_all, with_flag, without_span, IsRising};
-ghost use Rattle.day_inputs.specs.DayInputs.{most_gap};
+ghost use Rattle.fixed_units.specs.Quantities.{most_gap};
 ghost use Rattle.edits.specs.Lawful.{ArePutReadings};
 ghost use Rattle.station_inputs.specs.Stations.{new_station, described, with_readings};
 ghost use Rattle.station_inputs.specs.KeptStation.{IsStation};
@@ -21,7 +21,7 @@ use std::alloc::Global;
 use std::marker::Model;
 use std::sync::Arc;
 
-/// A station in force. Contracts see its record, and for how many more readings, entries of each series, ratings, periods,
+/// A station in force. Contracts see its state, and for how many more readings, entries of each series, ratings, periods,
 /// measurements and estimates there is room beside it.
 #[derive(Debug, Drop)]
 pub struct Station {
@@ -189,7 +189,7 @@ impl Station {
         self.readings.count_new(readings)
     }
 
-    /// Makes room for so many readings more. The record is as before, also after `NoMemory`.
+    /// Makes room for so many readings more. The station is as before, also after `NoMemory`.
     pub(crate) fn reserve(&mut self, count: usize) -> Result<(), NoMemory>
         ensures station { self.new.station ≡ self.old.station }
         ensures room { OnOk result (count ≤ self.new.spare) }

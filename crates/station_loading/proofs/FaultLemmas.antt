@@ -2,10 +2,10 @@
 use Rattle.std.specs.Prelude.{◌≡◌, ℕ, ◌+◌, Bool, true, false, List, [], ◌∷◌, ◌++◌, count_by, Result, Ok, Err}
 use Rattle.std.proofs.Common.{refl, ap, sym, subst, ◌∙◌}
 use Rattle.desk.proofs.FaultLemmas.{Tells, edit_adds_none, more_told, none_told, tells_none, tells_one}
-use Rattle.desk.specs.Passing.{fault_count}
 use Rattle.edits.specs.declared.content.Edit.{Edit}
 use Rattle.fixed_units.specs.Quantities.{SiteNumber}
 use Rattle.history.specs.Events.{History}
+use Rattle.office.specs.Counting.{fault_count}
 use Rattle.office.specs.Edits.{Edits, IsRefusedBy, IsTaken}
 use Rattle.office.specs.declared.offices.Accepted.{Accepted}
 use Rattle.office_inputs.specs.declared.refusals.Refusal.{Refusal}

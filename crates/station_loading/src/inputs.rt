@@ -4,14 +4,13 @@ ghost use Rattle.std.specs.Prelude.{◌≡◌, ◌≢◌, ◌≤◌, ◌+◌, �
 ghost use Rattle.devices.specs.Faults.{Rose};
 ghost use Rattle.station_documents.specs.Documents.{most_bytes};
 ghost use Rattle.station_loading.specs.Inputs.{Grows, IsTakenWithin, IsWhole};
+ghost use Rattle.wire.specs.declared.limits.TheConstants.{BLOCK_BYTES};
 
 use devices::{Source, Took};
 use fixed_units::{NoMemory, Text};
 use station_documents::MOST_BYTES;
 use std::alloc::Global;
-
-/// How many bytes are asked of a source at once.
-const BLOCK_BYTES: usize = 65_536;
+use wire::limits::BLOCK_BYTES;
 
 /// Why an input was not read whole.
 #[derive(Clone, Copy, Debug, PartialEq, Eq)]
@@ -56,7 +55,7 @@ pub(crate) fn read_input<S: Source>(alloc: Global, source: &mut S) -> Result<Tex
 
 /// A block for what a source gives.
 fn zeros(alloc: Global) -> Result<Vec<u8>, NoMemory>
-    ensures { IfOk result (λ block. length block.items ≡ 65_536) }
+    ensures { IfOk result (λ block. length block.items ≡ BLOCK_BYTES) }
 {
     Ok(vec![in alloc; 0; BLOCK_BYTES]?)
 }

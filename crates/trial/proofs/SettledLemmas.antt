@@ -15,16 +15,16 @@ use Rattle.history.proofs.PendingLemmas.{pending_at, pending_by, pending_has_sta
 use Rattle.history.proofs.StationLemmas.{found_place}
 use Rattle.office_inputs.specs.Stations.{day_of_station, place_of, station_of}
 use Rattle.rising.specs.Lists.{at}
-use Rattle.station_inputs.specs.Stations.{StationRecord}
+use Rattle.station_inputs.specs.Stations.{StationState}
 use Rattle.trial.specs.Figures.{mean_of_value, mean_on}
 
 -- a station that is found is among those that are summed
-found_step : (f : StationRecord → ℕ) (x s : StationRecord) (xs : List StationRecord) (n : ℤ) (b : Bool) → cond b (Some x) (at place_of n xs) ≡ Some s
+found_step : (f : StationState → ℕ) (x s : StationState) (xs : List StationState) (n : ℤ) (b : Bool) → cond b (Some x) (at place_of n xs) ≡ Some s
     → (at place_of n xs ≡ Some s → f s ≤ sum_by f xs) → f s ≤ sum_by f (x ∷ xs)
 found_step f x s xs n true h rest = let same : f x ≡ f s = ap f (cc) in omega (arith, same, sum_by-cons f x xs)
 found_step f x s xs n false h rest = omega (arith, rest h, sum_by-cons f x xs)
 
-found_summed : (f : StationRecord → ℕ) (stations : List StationRecord) (n : ℤ) (s : StationRecord) → at place_of n stations ≡ Some s → f s ≤ sum_by f stations
+found_summed : (f : StationState → ℕ) (stations : List StationState) (n : ℤ) (s : StationState) → at place_of n stations ≡ Some s → f s ≤ sum_by f stations
 found_summed f [] n s h = absurd (cc)
 found_summed f (x ∷ xs) n s h = found_step f x s xs n (int_eq (place_of x) n) h (found_summed f xs n s)
 
@@ -43,7 +43,7 @@ mean_told NoStation = 0
 mean_told (Pending edit) = 0
 mean_told (Computed value) = mean_of_value value
 
-answered : (day : ℤ) (answer : DayAnswer) (found : Option StationRecord) (awaits : Option ℕ) → (is_some awaits ≡ true → ⊥)
+answered : (day : ℤ) (answer : DayAnswer) (found : Option StationState) (awaits : Option ℕ) → (is_some awaits ≡ true → ⊥)
     → answer ≡ (if is_some found then answer_by awaits (day_value (day_of_station found day)) else NoStation)
     → mean_told answer ≡ mean_of_value (day_value (day_of_station found day))
 answered day answer None awaits none is = ap mean_told is
@@ -51,10 +51,10 @@ answered day answer (Some s) None none is = ap mean_told is
 answered day answer (Some s) (Some edit) none is = absurd (none refl)
 
 module _ (events : List Event) (settled : pending_days events ≡ []) where
-  found_none : (site : SiteNumber) (found : Option StationRecord) → station_of (stations_at events) site ≡ found → is_some found ≡ true → pending_at events site ≡ 0
+  found_none : (site : SiteNumber) (found : Option StationState) → station_of (stations_at events) site ≡ found → is_some found ≡ true → pending_at events site ≡ 0
   found_none site None e h = absurd (cc)
   found_none site (Some s) e h =
-      let few = found_summed (λ (t : StationRecord). pending_at events t.site) (stations_at events) (site_place site) s e in
+      let few = found_summed (λ (t : StationState). pending_at events t.site) (stations_at events) (site_place site) s e in
       let all = pending_sum events in
       let none = ap length settled in
       let same = pending_by events s.site site (found_place (stations_at events) site s e) in

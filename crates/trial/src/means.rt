@@ -1,7 +1,7 @@
 //! The mean discharge of a day, exact.
 
 ghost use Rattle.std.specs.Prelude.{◌≡◌, ◌≤◌, ◌<◌, ◌*◌, ℤ, pos, ◌≤ℤ◌, unsigned_abs};
-ghost use Rattle.day_inputs.specs.DayInputs.{longest_day};
+ghost use Rattle.fixed_units.specs.Calendar.{longest_day};
 ghost use Rattle.fixed_units.specs.Quantities.{most_discharge};
 ghost use Rattle.fixed_units.specs.Rounding.{round};
 ghost use Rattle.trial.specs.Figures as means;

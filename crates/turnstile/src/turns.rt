@@ -18,7 +18,7 @@ use thiserror::Error;
 
 /// There was no memory for a turnstile.
 #[derive(Clone, Copy, Debug, PartialEq, Eq, Error)]
-#[error("no memory for a lock")]
+#[error("there is no memory for a lock")]
 pub struct NoMemory;
 
 impl<T: Kept> Turnstile<T> {

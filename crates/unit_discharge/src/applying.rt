@@ -118,7 +118,7 @@ fn quantity(millionths: i64) -> Micro
     requires { IsMicro millionths }
     ensures { result ≡ millionths }
 {
-    Micro::new(millionths).unwrap()
+    Micro::of_millionths(millionths)
 }
 
 /// A quantity and an amount in millionths more, where that is in range.

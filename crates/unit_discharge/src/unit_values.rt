@@ -1,17 +1,22 @@
 //! Unit values: what a reading gives.
 
 use fixed_units::{Micro, Second};
+use thiserror::Error;
 
 /// Why a reading has no discharge; of several reasons the first one of these counts.
-#[derive(Clone, Copy, Debug, PartialEq, Eq)]
+#[derive(Clone, Copy, Debug, PartialEq, Eq, Error)]
 pub enum Missing {
     /// The reading is flagged: the rating does not hold for it (backwater, ice).
+    #[error("the rating does not hold for the reading")]
     Affected,
     /// No rating is in force.
+    #[error("no rating is in force")]
     NoRating,
     /// The stage with its shift is below the first one of the rating.
+    #[error("the stage is below the rating")]
     Below,
     /// The stage with its shift is above the last one of the rating.
+    #[error("the stage is above the rating")]
     Above,
 }
 

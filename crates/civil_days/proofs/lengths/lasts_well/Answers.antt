@@ -6,9 +6,10 @@ use Rattle.jiff_tz.specs.PosixText.{tz_view}
 use Rattle.civil_days.proofs.RunLemmas.{no_truth}
 use Rattle.civil_days.proofs.StretchLemmas.{next_bits, next_low, past_next, all_last, last_lasts}
 use Rattle.civil_days.specs.Seasons.{IsStretch}
+use Rattle.fixed_units.specs.Calendar.{longest_day, shortest_day}
 use Rattle.civil_days.specs.Starts.{calendar_end}
 use Rattle.civil_days.proofs.lengths.lasts_well.Goals as goal
-use Rattle.civil_days.proofs.lengths.lasts_well.Goals.{then-length-lt72000-via-then-length-lt72000, then-length-lt72000-via-else-length-lt72000+then-length-gt100800}
+use Rattle.civil_days.proofs.lengths.lasts_well.Goals.{then-length-lt-SHORTEST_DAY-via-then-length-lt-SHORTEST_DAY, then-length-lt-SHORTEST_DAY-via-else-length-lt-SHORTEST_DAY+then-length-gt-LONGEST_DAY}
 
 -- the length of a stretch's last day, without its bits
 length_bits : (a b : ℤ) → IsOffsetSeconds a → IsOffsetSeconds b
@@ -30,16 +31,16 @@ loop-stretch-preserved c =
     let low = c.loop-stretch.invariant.low in
     let first : n.first ≡ s.next = rw (next_bits rule s is low) at c.stretch_from-next.ensures.first in
     let bits = length_bits s.offset n.offset is.offset_in next.offset_in in
-    let short : pos 72_000 ≤ℤ (pos 86_400 +ℤ s.offset -ℤ n.offset) = omega (arith, signed_arith, rw bits at c.if-length-lt72000.false) in
-    let long : (pos 86_400 +ℤ s.offset -ℤ n.offset) ≤ℤ pos 100_800 = omega (arith, signed_arith, rw bits at c.if-length-gt100800.false) in
+    let short : pos shortest_day ≤ℤ (pos 86_400 +ℤ s.offset -ℤ n.offset) = omega (arith, signed_arith, rw bits at c.if-length-lt-SHORTEST_DAY.false) in
+    let long : (pos 86_400 +ℤ s.offset -ℤ n.offset) ≤ℤ pos longest_day = omega (arith, signed_arith, rw bits at c.if-length-gt-LONGEST_DAY.false) in
     record {
       low = next_low rule s n.first is low first;
       stretch = next;
       past = past_next rule s n is next first c.loop-stretch.invariant.past short long;
     }
 
-pub returns-then-length-lt72000 : goal.returns-then-length-lt72000
-returns-then-length-lt72000 c =
+pub returns-then-length-lt-SHORTEST_DAY : goal.returns-then-length-lt-SHORTEST_DAY
+returns-then-length-lt-SHORTEST_DAY c =
     let s = c.loop-stretch.stretch in
     let n = c.stretch_from-next.result in
     let rule = tz_view c.args.rule.now in
@@ -55,10 +56,10 @@ returns-then-length-lt72000 c =
           let lasts = last_lasts rule s n is next first low high all in
           let short = lasts.0 in
           let long = lasts.1 in
-          elim c.then-length-lt72000.branch [
-            | then-length-lt72000-via-then-length-lt72000 w ↦ absurd (omega (arith, signed_arith, rw bits at w.if-length-lt72000.true))
-            | then-length-lt72000-via-else-length-lt72000+then-length-gt100800 w ↦
-                absurd (omega (arith, signed_arith, rw bits at w.if-length-gt100800.true))
+          elim c.then-length-lt-SHORTEST_DAY.branch [
+            | then-length-lt-SHORTEST_DAY-via-then-length-lt-SHORTEST_DAY w ↦ absurd (omega (arith, signed_arith, rw bits at w.if-length-lt-SHORTEST_DAY.true))
+            | then-length-lt-SHORTEST_DAY-via-else-length-lt-SHORTEST_DAY+then-length-gt-LONGEST_DAY w ↦
+                absurd (omega (arith, signed_arith, rw bits at w.if-length-gt-LONGEST_DAY.true))
           ],
     )
 

@@ -46,23 +46,23 @@ unit_of-right-requires-clause-stage c =
     next-stage c.args.parts.now c.requires.parts c.args.first c.args.rest.now c.loop-reading.reading-index c.reading-item.result
     c.requires.window c.loop-reading-test.true c.reading-item.is
 
-pub add_pair-stage-requires-clause-rising : goal.add_pair-stage-requires-clause-rising
-add_pair-stage-requires-clause-rising c =
+pub add_pair-requires-clause-rising : goal.add_pair-requires-clause-rising
+add_pair-requires-clause-rising c =
     next-rises stage_point (λ u. refl) c.args.parts.now c.requires.parts c.args.rest.now c.loop-reading.reading-index c.reading-item.result c.loop-reading.left c.unit_of-right.result _ _
     c.loop-reading-test.true c.reading-item.is c.unit_of-right.ensures.unit c.stage_point.ensures c.stage_point-in-loop-reading.ensures c.loop-reading.invariant.rising
 
-pub add_pair-stage-requires-clause-room : goal.add_pair-stage-requires-clause-room
-add_pair-stage-requires-clause-room c =
+pub add_pair-requires-clause-room : goal.add_pair-requires-clause-room
+add_pair-requires-clause-room c =
     next-room stage_point (λ u. refl) c.args.parts.now c.requires.parts c.args.rest.now c.loop-reading.reading-index c.reading-item.result c.loop-reading.left c.unit_of-right.result _ _ c.loop-reading.stage
     c.loop-reading-test.true c.reading-item.is c.unit_of-right.ensures.unit c.stage_point.ensures c.stage_point-in-loop-reading.ensures c.loop-reading.invariant.stages
 
-pub add_pair-discharge-requires-clause-rising : goal.add_pair-discharge-requires-clause-rising
-add_pair-discharge-requires-clause-rising c =
+pub add_pair-requires-in-loop-reading-clause-rising : goal.add_pair-requires-in-loop-reading-clause-rising
+add_pair-requires-in-loop-reading-clause-rising c =
     next-rises discharge_point (λ u. refl) c.args.parts.now c.requires.parts c.args.rest.now c.loop-reading.reading-index c.reading-item.result c.loop-reading.left c.unit_of-right.result _ _
     c.loop-reading-test.true c.reading-item.is c.unit_of-right.ensures.unit c.discharge_point.ensures c.discharge_point-in-loop-reading.ensures c.loop-reading.invariant.rising
 
-pub add_pair-discharge-requires-clause-room : goal.add_pair-discharge-requires-clause-room
-add_pair-discharge-requires-clause-room c =
+pub add_pair-requires-in-loop-reading-clause-room : goal.add_pair-requires-in-loop-reading-clause-room
+add_pair-requires-in-loop-reading-clause-room c =
     next-room discharge_point (λ u. refl) c.args.parts.now c.requires.parts c.args.rest.now c.loop-reading.reading-index c.reading-item.result c.loop-reading.left c.unit_of-right.result _ _ c.loop-reading.discharge
     c.loop-reading-test.true c.reading-item.is c.unit_of-right.ensures.unit c.discharge_point.ensures c.discharge_point-in-loop-reading.ensures c.loop-reading.invariant.discharges
 
@@ -115,21 +115,21 @@ loop-reading-preserved c =
       rising = rising-tail (λ (u : Unit). u.at) left (right ∷ behind) rising;
       left_stage = c.unit_of-right.ensures.range;
       left_discharge = c.unit_of-right.ensures.discharge;
-      stages = sum-step day (stage_point left, stage_point right) (neighbours (map stage_point (right ∷ behind))) stages c.loop-reading.stage c.add_pair-stage.result stage
-          (c.add_pair-stage.ensures.twice ∙ ap (λ p. c.loop-reading.stage.twice +ℤ pair_area day p) stage_pair)
-          (c.add_pair-stage.ensures.covered ∙ ap (λ p. c.loop-reading.stage.covered + pair_seconds day p) stage_pair);
-      discharges = sum-step day (discharge_point left, discharge_point right) (neighbours (map discharge_point (right ∷ behind))) discharges c.loop-reading.discharge c.add_pair-discharge.result discharge
-          (c.add_pair-discharge.ensures.twice ∙ ap (λ p. c.loop-reading.discharge.twice +ℤ pair_area day p) discharge_pair)
-          (c.add_pair-discharge.ensures.covered ∙ ap (λ p. c.loop-reading.discharge.covered + pair_seconds day p) discharge_pair);
+      stages = sum-step day (stage_point left, stage_point right) (neighbours (map stage_point (right ∷ behind))) stages c.loop-reading.stage c.add_pair.new.sum stage
+          (c.add_pair.ensures.twice ∙ ap (λ p. c.loop-reading.stage.twice +ℤ pair_area day p) stage_pair)
+          (c.add_pair.ensures.covered ∙ ap (λ p. c.loop-reading.stage.covered + pair_seconds day p) stage_pair);
+      discharges = sum-step day (discharge_point left, discharge_point right) (neighbours (map discharge_point (right ∷ behind))) discharges c.loop-reading.discharge c.add_pair-in-loop-reading.new.sum discharge
+          (c.add_pair-in-loop-reading.ensures.twice ∙ ap (λ p. c.loop-reading.discharge.twice +ℤ pair_area day p) discharge_pair)
+          (c.add_pair-in-loop-reading.ensures.covered ∙ ap (λ p. c.loop-reading.discharge.covered + pair_seconds day p) discharge_pair);
       counted = counts-step day right behind (units_of day) c.loop-reading.counts c.add_unit-counts-in-loop-reading.result counted
           (record { readings = one.readings; affected = one.affected; no_rating = one.no_rating; below = one.below; above = one.above });
       extremes = extremes-step day right behind (units_of day) c.loop-reading.extremes c.add_extremes-in-loop-reading.new.extremes kept c.add_extremes-in-loop-reading.ensures;
-      stage_fits = c.add_pair-stage.ensures.fits;
-      discharge_fits = c.add_pair-discharge.ensures.fits;
-      stage_within = c.add_pair-stage.ensures.within most_corrected most_corrected
+      stage_fits = c.add_pair.ensures.fits;
+      discharge_fits = c.add_pair-in-loop-reading.ensures.fits;
+      stage_within = c.add_pair.ensures.within most_corrected most_corrected
           (subst IsStagePoint (sym c.stage_point.ensures) c.loop-reading.invariant.left_stage)
           (subst IsStagePoint (sym c.stage_point-in-loop-reading.ensures) c.unit_of-right.ensures.range) c.loop-reading.invariant.stage_within;
-      discharge_within = c.add_pair-discharge.ensures.within 0 most_discharge
+      discharge_within = c.add_pair-in-loop-reading.ensures.within 0 most_discharge
           (subst IsDischargePoint (sym c.discharge_point.ensures) (discharge-IfSome (λ q. IsDischarge q) left.discharge c.loop-reading.invariant.left_discharge))
           (subst IsDischargePoint (sym c.discharge_point-in-loop-reading.ensures) (discharge-IfSome (λ q. IsDischarge q) right.discharge c.unit_of-right.ensures.discharge)) c.loop-reading.invariant.discharge_within;
     }

@@ -5,12 +5,12 @@ use Rattle.std.proofs.lemmas.Int.{ints}
 use Rattle.edits.specs.declared.content.What.{What}
 use Rattle.fixed_units.specs.Quantities.{first_day}
 use Rattle.station_inputs.specs.Changes.{keeps_station_day}
-use Rattle.station_inputs.specs.Stations.{StationRecord}
+use Rattle.station_inputs.specs.Stations.{StationState}
 use Rattle.depend.proofs.DayNumbers.{behind_the_way, on_the_way}
 use Rattle.depend.proofs.ReachLemmas.{found_after, found_last, counted_after, steps_left}
 use Rattle.depend.proofs.reaching.changed_between.Goals as goal
 
-abbrev changed : StationRecord → What → ℤ → Bool
+abbrev changed : StationState → What → ℤ → Bool
 changed s what day = not (keeps_station_day s what day)
 
 pub returns-in_err-add_changed-clause-steps : goal.returns-in_err-add_changed-clause-steps

@@ -1,12 +1,16 @@
-use Rattle.std.proofs.Common.{◌≡◌, Bool, true, false, refl, arith, tests}
+use Rattle.std.proofs.Common.{◌≡◌, ◌==◌, ◌&&◌, Bool, true, false, not, refl, arith, tests}
 use Rattle.std.proofs.lemmas.Bool.{leb-true}
 use Rattle.std.specs.Bool.{OnTrue}
 use Rattle.json.proofs.Printed.Strings.{escape_byte_plain}
 use Rattle.edit_bodies.proofs.compact_form.is_plain.Goals as goal
 
-on_true : (b : Bool) {P : Type 0} → (b ≡ true → P) → OnTrue b P
-on_true true h = h refl
-on_true false h = tt
+on_all : (a b c : Bool) {P : Type 0} → (a ≡ true → b ≡ true → c ≡ true → P) → OnTrue ((a && b) && c) P
+on_all true true true h = h refl refl refl
+on_all true true false h = tt
+on_all true false c h = tt
+on_all false b c h = tt
 
 pub returns : goal.returns
-returns c = on_true _ (λ e. escape_byte_plain c.args.byte (λ q. grind (arith, tests)) (λ q. grind (arith, tests)) (leb-true _ _ e))
+returns c =
+    let byte = c.args.byte in
+    on_all (not (byte == 34)) (not (byte == 92)) _ (λ quote slash control. escape_byte_plain byte (λ q. grind (arith, tests, quote, q)) (λ q. grind (arith, tests, slash, q)) (leb-true _ _ control))

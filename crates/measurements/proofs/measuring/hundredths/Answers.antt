@@ -1,8 +1,9 @@
 -- The quotient that is rounded is that of the discharges, and fits.
 use Rattle.std.proofs.Common.{◌≡◌, ◌∙◌, sym, subst, ℤ, pos, neg_ℤ, ◌≤ℤ◌, ◌-ℤ◌, ◌*ℤ◌, to_z, of_z, arith}
-use Rattle.std.specs.Prelude.{◌^◌}
+use Rattle.std.specs.Prelude.{◌*◌}
 use Rattle.std.specs.Int.{w64, w128}
 use Rattle.std.proofs.lemmas.Int.{ints}
+use Rattle.fixed_units.specs.Quantities.{most_discharge}
 use Rattle.fixed_units.specs.Rounding.{round}
 use Rattle.measurements.proofs.RangeLemmas.{percent-bound}
 use Rattle.measurements.proofs.measuring.hundredths.Goals as goal
@@ -17,11 +18,11 @@ quotient c =
 
 pub narrow-requires-clause-low : goal.narrow-requires-clause-low
 narrow-requires-clause-low c =
-    subst (λ (q : ℤ). neg_ℤ (pos (10 ^ 17)) ≤ℤ q) (sym (quotient c)) ((percent-bound c.args.measured c.args.rated c.requires.measured c.requires.rated c.requires.some).0)
+    subst (λ (q : ℤ). neg_ℤ (pos (10_000 * most_discharge)) ≤ℤ q) (sym (quotient c)) ((percent-bound c.args.measured c.args.rated c.requires.measured c.requires.rated c.requires.some).0)
 
 pub narrow-requires-clause-high : goal.narrow-requires-clause-high
 narrow-requires-clause-high c =
-    subst (λ (q : ℤ). q ≤ℤ pos (10 ^ 17)) (sym (quotient c)) ((percent-bound c.args.measured c.args.rated c.requires.measured c.requires.rated c.requires.some).1)
+    subst (λ (q : ℤ). q ≤ℤ pos (10_000 * most_discharge)) (sym (quotient c)) ((percent-bound c.args.measured c.args.rated c.requires.measured c.requires.rated c.requires.some).1)
 
 pub returns : goal.returns
 returns c =

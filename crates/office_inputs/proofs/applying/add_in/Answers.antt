@@ -1,12 +1,12 @@
 -- The station is put where none stands.
 use Rattle.std.proofs.Common.{ap, sym, subst, ◌∙◌}
-use Rattle.office_inputs.specs.Kept.{records_of, AreStations}
+use Rattle.office_inputs.specs.Kept.{states_of, AreStations}
 use Rattle.office_inputs.specs.Refusals.{reading_count}
 use Rattle.office_inputs.proofs.ApplyLemmas.{records_put, count_put_kept, stations_put}
 use Rattle.office_inputs.proofs.applying.add_in.Goals as goal
 
 pub returns-clause-records : goal.returns-clause-records
-returns-clause-records c = ap records_of c.put_in.ensures.items ∙ records_put c.args.station c.args.stations.now.items
+returns-clause-records c = ap states_of c.put_in.ensures.items ∙ records_put c.args.station c.args.stations.now.items
 
 pub returns-clause-count : goal.returns-clause-count
 returns-clause-count c =

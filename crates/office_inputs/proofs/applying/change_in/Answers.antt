@@ -1,6 +1,6 @@
 -- The station is written over as the edit makes it.
 use Rattle.std.proofs.Common.{arith, sym, ◌∙◌}
-use Rattle.office_inputs.specs.Kept.{records_of}
+use Rattle.office_inputs.specs.Kept.{states_of}
 use Rattle.station_inputs.specs.Room.{HasStationRoom}
 use Rattle.station_inputs.specs.Stations.{station_after}
 use Rattle.office_inputs.proofs.ApplyLemmas.{count_set, count_within, free_here, records_none, records_set, stations_set}
@@ -52,5 +52,5 @@ returns-in-Some-clause-kept c =
 
 pub returns-in-None-clause-records : goal.returns-in-None-clause-records
 returns-in-None-clause-records c =
-    records_none (records_of c.args.stations.now.items) c.args.place.site (station_after c.args.what.now)
+    records_none (states_of c.args.stations.now.items) c.args.place.site (station_after c.args.what.now)
     (none_stands c.args.stations.now.items c.args.place c.requires.place (sym c.index.ensures ∙ c.in-None.is))

@@ -3,7 +3,7 @@ use Rattle.std.proofs.Common.{arith, ap, sym, ◌∙◌}
 use Rattle.std.proofs.lemmas.Result.{IfOk-weaker}
 use Rattle.fixed_units.specs.Quantities.{site_place}
 use Rattle.station_inputs.specs.Room.{HasStationRoom}
-use Rattle.station_inputs.specs.Stations.{StationRecord}
+use Rattle.station_inputs.specs.Stations.{StationState}
 use Rattle.station_inputs.specs.declared.staged.Staged.TheVariants.{Nothing}
 use Rattle.office_inputs.proofs.ApplyLemmas.{stations_set}
 use Rattle.office_inputs.proofs.PlaceLemmas.{index_within, no_room_asked, stands}
@@ -22,13 +22,13 @@ pub returns-in-Some-clause-kept : goal.returns-in-Some-clause-kept
 returns-in-Some-clause-kept c =
     let h = stands c.args.stations.now.items c.args.place c.in-Some.index c.requires.stations.rising c.requires.place (sym c.index.ensures ∙ c.in-Some.is) in
     stations_set c.args.stations.now.items c.args.place.site c.in-Some.index c.index_mut.result.now c.prepare.new.self c.requires.stations h c.index_mut.ensures.value
-    (ap (λ (s : StationRecord). site_place s.site) c.prepare.ensures.station) c.prepare.ensures.kept
+    (ap (λ (s : StationState). site_place s.site) c.prepare.ensures.station) c.prepare.ensures.kept
 
 pub returns-in-Some-clause-room : goal.returns-in-Some-clause-room
 returns-in-Some-clause-room c =
     let h = stands c.args.stations.now.items c.args.place c.in-Some.index c.requires.stations.rising c.requires.place (sym c.index.ensures ∙ c.in-Some.is) in
     let found = written_found c.args.stations.now.items c.args.place.site c.in-Some.index c.index_mut.result.now c.prepare.new.self h c.index_mut.ensures.value
-    (ap (λ (s : StationRecord). site_place s.site) c.prepare.ensures.station) in
+    (ap (λ (s : StationState). site_place s.site) c.prepare.ensures.station) in
     IfOk-weaker c.prepare.result (λ staged. HasStationRoom c.prepare.new.self staged c.args.what.now) _
     (λ staged room. room_there (λ k. HasStationRoom k staged c.args.what.now) _ c.args.place.site c.prepare.new.self found room)
     c.prepare.ensures.room

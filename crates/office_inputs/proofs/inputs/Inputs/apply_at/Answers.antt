@@ -7,7 +7,7 @@ use Rattle.office_inputs.specs.Kept.{HasRoomFor, HasRoomThere, in_force, staged_
 use Rattle.office_inputs.specs.Refusals.{adds_station, obstacle_of, reading_count}
 use Rattle.office_inputs.specs.Stations.{added, after_what, changed_at, station_of}
 use Rattle.station_inputs.specs.Counts.{passes}
-use Rattle.station_inputs.specs.Stations.{StationRecord, new_station, station_after}
+use Rattle.station_inputs.specs.Stations.{StationState, new_station, station_after}
 use Rattle.office_inputs.proofs.KeepLemmas.{added_none, adds_not, only_changed}
 use Rattle.office_inputs.proofs.RefusalLemmas.{absent, accepted}
 use Rattle.office_inputs.proofs.inputs.Inputs.apply_at.Goals as goal
@@ -33,7 +33,7 @@ change-requires c =
           (subst (HasRoomFor c.args.self.now site what) (added_none site what none) c.requires.room);
       counted =
           subst (λ (x : SiteNumber). passes c.args.self.now.limits.readings (reading_count stations) (reading_count (changed_at x (station_after what) stations)) ≡ false) own
-          (ap (λ (after : List StationRecord). passes c.args.self.now.limits.readings (reading_count stations) (reading_count after)) (sym (only_changed site what stations none))
+          (ap (λ (after : List StationState). passes c.args.self.now.limits.readings (reading_count stations) (reading_count after)) (sym (only_changed site what stations none))
           ∙ a.readings);
     }
 

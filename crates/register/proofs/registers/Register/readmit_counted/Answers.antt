@@ -8,7 +8,7 @@ use Rattle.history.specs.Verdicts.{refused_by_stations}
 use Rattle.office_inputs.specs.Kept.{in_force}
 use Rattle.office_inputs.specs.Refusals as refusals
 use Rattle.office_inputs.specs.declared.refusals.Refusal.{Refusal}
-use Rattle.station_inputs.specs.Stations.{StationRecord}
+use Rattle.station_inputs.specs.Stations.{StationState}
 use Rattle.register.specs.Asked.{IsNotReadmitted, refused_at_once}
 use Rattle.register.specs.Registered.{Registered}
 use Rattle.register.specs.declared.judged.NotReadmitted.{NotReadmitted}
@@ -33,7 +33,7 @@ unrefused : (view seen : Registered) → view ≡ seen → in_force view.inputs 
     → refusal ≡ refusals.refusal_of view.history.limits (in_force view.inputs) own → refusal ≡ None → refused_by_stations seen.history edit ≡ None
 unrefused view seen is stations own edit same refusal told none =
     ap (λ (r : Registered). refused_by_stations r.history edit) (sym is)
-    ∙ ap (λ (s : List StationRecord). refusals.refusal_of view.history.limits s edit) (sym stations)
+    ∙ ap (λ (s : List StationState). refusals.refusal_of view.history.limits s edit) (sym stations)
     ∙ sym (told ∙ ap (λ (e : Edit). refusals.refusal_of view.history.limits (in_force view.inputs) e) same)
     ∙ none
 

@@ -6,7 +6,7 @@ use Rattle.std.proofs.lemmas.Bool.{cases_lt, cases_eq, false≢true}
 use Rattle.std.proofs.lemmas.List.{length-map, length-set, get_or_past, get_or-set_same, get_or-set_other}
 use Rattle.std.proofs.lemmas.List.Sums.{sum_by-set}
 use Rattle.fixed_units.specs.Quantities.{first_day}
-use Rattle.fixed_units.specs.Calendar.{days_from, calendar}
+use Rattle.fixed_units.specs.Calendar.{days_from, calendar, days_of_calendar}
 use Rattle.day_cells.specs.Days.{on_day}
 use Rattle.day_cells.specs.KeptDays.{KeptDays, AreColumns, TakesOut, Publishes, Marks, HasCell, NonePendingWithin, NoneUnclaimedBefore, is_edit, is_pending_on, waiting_of, waiting_on}
 use Rattle.day_cells.specs.Spans.{IsSpan}
@@ -24,8 +24,8 @@ unfolding calendar
 waiting_count cells h =
     let low = h.low in
     let high = h.high in
-    length-map (filter (is_pending_on cells) (days_from first_day 73_049)) (waiting_on cells)
-    ∙ count_of_column first_day 73_049 cells.start cells.awaits low (omega (arith, ints))
+    length-map (filter (is_pending_on cells) (days_from first_day days_of_calendar)) (waiting_on cells)
+    ∙ count_of_column first_day days_of_calendar cells.start cells.awaits low (omega (arith, ints))
 
 -- the cell of a place
 abbrev pub cell_at : KeptDays → ℕ → Waiting
@@ -68,7 +68,7 @@ module _ (cells : KeptDays) (q : Waiting → Bool) where
   found_at place h l pending passing earlier =
       let low = h.low in
       let high = h.high in
-      found_first q (waiting_on cells) (is_pending_on cells) first_day 73_049 (cells.start +ℤ pos place) (omega (arith, ints)) (omega (arith, ints))
+      found_first q (waiting_on cells) (is_pending_on cells) first_day days_of_calendar (cells.start +ℤ pos place) (omega (arith, ints)) (omega (arith, ints))
       (pending_at cells place ∙ pending) (sym (ap q (cell_is cells place)) ∙ passing) (others place earlier)
       ∙ sym (ap (λ w. Some w) (cell_is cells place))
 
@@ -76,7 +76,7 @@ module _ (cells : KeptDays) (q : Waiting → Bool) where
       → find q (waiting_of cells) ≡ None
   unfolding calendar
   none_at none =
-      none_found q (waiting_on cells) (is_pending_on cells) first_day 73_049
+      none_found q (waiting_on cells) (is_pending_on cells) first_day days_of_calendar
       (λ e h. by_place cells e h (λ k f m g. ap (λ d. q (waiting_on cells d)) f ∙ sym (ap q (cell_is cells k)) ∙ none k m g))
 
   -- the answer of a scan that stopped at a place

@@ -9,7 +9,7 @@ use Rattle.std.proofs.lemmas.Bool.Decides.{Decides-int_eq}
 use Rattle.std.proofs.lemmas.List.Elements.{All-filter, All-head, All-tail, All-weaker}
 use Rattle.fixed_units.specs.Quantities.{IsDay, IsStamp, SiteNumber, first_day, last_day}
 use Rattle.fixed_units.specs.declared.readings.Reading.{Reading}
-use Rattle.fixed_units.specs.Calendar.{calendar}
+use Rattle.fixed_units.specs.Calendar.{calendar, shortest_day}
 use Rattle.fixed_units.proofs.CalendarLemmas.{calendar_any, calendar_any_none}
 use Rattle.rising.specs.Ends.{first, last}
 use Rattle.rising.specs.Lists.{at}
@@ -42,7 +42,7 @@ start_from text a b zone low high h =
     (λ l. let r = rise (day_start_of text) (zone_steps text zone) a b low high l in omega (arith, ints))
     (λ m. let e : a ≡ b = omega (arith, ints) in let f = ap (day_start_of text) e in omega (arith, ints))
 
-day_lasts : (text : List ℕ) (d next : ℤ) → IsZone text → IsDay d → next ≡ d +ℤ pos 1 → pos 72_000 ≤ℤ (day_start_of text next -ℤ day_start_of text d)
+day_lasts : (text : List ℕ) (d next : ℤ) → IsZone text → IsDay d → next ≡ d +ℤ pos 1 → pos shortest_day ≤ℤ (day_start_of text next -ℤ day_start_of text d)
 day_lasts text d next zone k e =
     let l = zone_lengths text d (day_start_of text d) (day_start_of text next) zone k refl (ap (day_start_of text) e) in
     l.shortest

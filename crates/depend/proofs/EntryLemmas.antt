@@ -31,7 +31,7 @@ use Rattle.station_inputs.specs.Series.{corrections_with, entries_in, shifts_wit
 use Rattle.station_inputs.specs.Stations.{StationState, estimated_discharge, series_of, station_day, with_series, day_start}
 use Rattle.station_inputs.specs.Touched as touched
 use Rattle.office_inputs.specs.Touched.{meets, most_gap_seconds}
-use Rattle.station_inputs.specs.Touched.{about_entry, has_inputs, says_from}
+use Rattle.station_inputs.specs.Touched.{has_inputs, says_from}
 use Rattle.station_inputs.specs.declared.series.StationSeries.{StationSeries}
 use Rattle.station_inputs.specs.declared.series.StationSeries.TheVariants.{Correction, Shift}
 

@@ -1,5 +1,6 @@
 -- How a session goes on, message by message.
 use Rattle.std.proofs.Common.{◌≡◌, ℕ, ◌+◌, ◌^◌, ◌≤◌, Bool, if◌then◌else◌, true, false, List, [], ◌∷◌, ◌++◌, length, Option, Some, None, IfSome, IsSomeAnd, refl, sym, ◌∙◌, ap, subst, inl, append-nil, length-append, arith}
+use Rattle.wire.specs.declared.limits.TheConstants.{BLOCK_BYTES}
 use Rattle.desk.proofs.EndLemmas.{wrote_whole, wrote_part}
 use Rattle.desk.proofs.RepliesLemmas.{messages_more, replies_more, concat-more}
 use Rattle.desk.specs.Replies.{AreReplies, Alone, IsReplied}
@@ -80,7 +81,7 @@ module _ (h now next : History) (held held' : Held) (message : Message) (reply :
   -- the sink failed within the reply
   tells_failed : (messages : List Message) (replies : List (List ℕ)) (l0 l' w0 w w' : Option (List ℕ)) → AreReplies Alone h messages replies now
       → IfSome l0 (λ input. IsSomeAnd l' (λ a. IsReadTo input (messages ++ message ∷ []) (held'.ahead ++ a) held'.offset))
-      → taken held' ≤ 2 ^ 36 → length held'.ahead ≤ 65_536 → IfSome w0 (λ before. w ≡ Some (before ++ concat replies)) → AreWritten w reply w' false
+      → taken held' ≤ 2 ^ 36 → length held'.ahead ≤ BLOCK_BYTES → IfSome w0 (λ before. w ≡ Some (before ++ concat replies)) → AreWritten w reply w' false
       → IsServed h next ends.OutputFault l0 l' w0 w'
   tells_failed messages replies None l' w0 w w' answers reads few block wrote put = tt
   tells_failed messages replies (Some input) None w0 w w' answers reads few block wrote put = absurd reads
@@ -104,7 +105,7 @@ module _ (h now next : History) (held held' : Held) (message : Message) (reply :
   pub after_reply : (done : Bool) (end : Option SessionEnd) (l0 l l' w0 w w' : Option (List ℕ))
       → end ≡ (if done then None else Some ends.OutputFault)
       → IsUnderWay h now held l0 l w0 w → Answers held l message held' l'
-      → taken held' ≤ 2 ^ 36 → length held'.ahead ≤ 65_536 → AreWritten w reply w' done
+      → taken held' ≤ 2 ^ 36 → length held'.ahead ≤ BLOCK_BYTES → AreWritten w reply w' done
       → GoesOn h next end held' l0 l' w0 w'
   after_reply true end l0 l l' w0 w w' due u answers few block put =
       subst (λ (e : Option SessionEnd). GoesOn h next e held' l0 l' w0 w') (sym due) (goes_on l0 l l' w0 w w' u answers put)

@@ -1,14 +1,14 @@
 -- What the recording inside a disk in memory did, said of the disk as it is seen from outside.
-use Rattle.std.proofs.Common.{◌≡◌, ℕ, ◌≤◌, Bool, true, false, List, length, refl, sym, ◌∙◌, ap, subst, arith}
+use Rattle.std.proofs.Common.{◌≡◌, ℕ, ◌≤◌, Bool, true, false, List, length, refl, sym, ap, subst, arith}
 use Rattle.devices.specs.Disks.{Torn, NothingNew, overwritten}
-use Rattle.devices.specs.MemoryDisks.{MemoryDiskState, Recorded, content_of, images_of, GoesOn}
+use Rattle.devices.specs.MemoryDisks.{MemoryDiskState, Recorded, content_of, images_of, GoesOn, LeavesContent}
 use Rattle.devices.proofs.Replays.{torn_overwritten}
 
-pub same_content : (old was new : Recorded) → was ≡ old → content_of new ≡ content_of was → content_of new ≡ content_of old
-same_content old was new same is = is ∙ ap content_of same
-
-pub same_images : (old was new : Recorded) → was ≡ old → NothingNew (images_of was) (images_of new) → NothingNew (images_of old) (images_of new)
-same_images old was new same is = subst (λ (r : Recorded). NothingNew (images_of r) (images_of new)) same is
+-- a call that leaves the content of the recording leaves that of the disk
+pub leaves_content : (old was new : Recorded) → was ≡ old → content_of new ≡ content_of was → NothingNew (images_of was) (images_of new)
+    → GoesOn was new → LeavesContent old new
+leaves_content old was new is same images time =
+    subst (λ (r : Recorded). LeavesContent r new) is (record { same = same; images = images; time = time })
 
 pub same_time : (old was new : Recorded) → was ≡ old → GoesOn was new → GoesOn old new
 same_time old was new same is = subst (λ (r : Recorded). GoesOn r new) same is

@@ -6,7 +6,7 @@ use Rattle.devices.specs.declared.disks.DiskFailed.{DiskFailed}
 use Rattle.devices.specs.declared.recordings.Change.{Change}
 use Rattle.devices.specs.declared.recordings.Change.TheVariants.{Nothing, Synced, Wrote}
 use Rattle.devices.specs.declared.recordings.Step.{Step}
-use Rattle.devices.specs.Disks.{Torn, Elapses, overwritten}
+use Rattle.devices.specs.Disks.{Torn, NothingNew, Elapses, overwritten}
 use Rattle.devices.specs.Failures.{Counts, Fails, one_more, with_call, with_fault, without_faults}
 
 -- what it had at first, what each call did, and how many calls failed behind these, for which there was no room
@@ -130,6 +130,12 @@ Lists failed old new = (calls_of new ≡ calls_of old ++ failed ∷ []) ⊎ (2 ^
 -- time has gone on to what there is now
 abbrev pub GoesOn : Recorded → Recorded → Type 0
 GoesOn old new = Elapses (moment_of old) (moment_of new) (since_of old) (since_of new) (images_of new)
+
+-- the content stays, and a stop may leave no more than before
+pub record LeavesContent (old new : Recorded) : Type 0 where
+  pub same : content_of new ≡ content_of old
+  pub images : NothingNew (images_of old) (images_of new)
+  pub time : GoesOn old new
 
 -- a disk in memory: what it has recorded, and its counts
 pub record MemoryDiskState : Type 0 where

@@ -2,7 +2,7 @@
 ghost use Rattle.std.specs.Prelude.{◌≡◌, ◌+◌, ◌^◌, ◌<◌, ◌≤◌, nat_lt, true, length, [], Some, slice_range, IfOk, OnOk, OnErr};
 ghost use Rattle.devices.specs.Disks.{Torn, NothingNew, Only, Follows, HasCause, IsListed, overwritten};
 ghost use Rattle.devices.specs.Failures.{untouched};
-ghost use Rattle.devices.specs.MemoryDisks.{content_of, images_of, moment_of, since_of, calls_of, stands, counts_now, only_now, blank, done, half, with_step, IsQuiet, DidNothing, WroteInPart, GoesOn, AnswersOnCommand, with_no_faults};
+ghost use Rattle.devices.specs.MemoryDisks.{content_of, images_of, moment_of, since_of, calls_of, stands, counts_now, only_now, blank, done, half, with_step, IsQuiet, DidNothing, WroteInPart, GoesOn, LeavesContent, AnswersOnCommand, with_no_faults};
 ghost use Rattle.devices.specs.declared.recordings.Change.TheVariants.{Nothing, Synced, Wrote};
 
 use crate::recordings::{Change, Recording};
@@ -95,9 +95,7 @@ impl MemoryDisk {
         ensures recorded { OnOk result (self.new.recorded ≡ with_step (done change) self.old.recorded) }
         ensures nothing { OnErr result (DidNothing self.old.recorded self.new.recorded) }
         ensures durable { OnOk result (change ≡ Synced → Only (content_of self.old.recorded) (images_of self.new.recorded)) }
-        ensures same { content_of self.new.recorded ≡ content_of self.old.recorded }
-        ensures images { NothingNew (images_of self.old.recorded) (images_of self.new.recorded) }
-        ensures time { GoesOn self.old.recorded self.new.recorded }
+        ensures left { LeavesContent self.old.recorded self.new.recorded }
         ensures listed { IsListed (Some (content_of self.old.recorded)) (calls_of self.old.recorded) result (calls_of self.new.recorded) self.new.counts.faults }
         ensures on_command { AnswersOnCommand self.old.counts result self.new.counts }
         ensures counted { self.old.counts.faults ≤ self.new.counts.faults }

@@ -2,6 +2,7 @@
 use Rattle.std.proofs.Common.{◌≡◌, ◌↔◌, ℕ, zero, suc, ◌<◌, Bool, true, List, Option, Some, None, is_some, ℤ, pos, negsuc, ◌+ℤ◌, ◌-ℤ◌, ◌≤ℤ◌, int_le, refl, sym, ap, ◌∙◌, subst, arith, ◌⊎◌, inl, inr}
 use Rattle.std.proofs.lemmas.Bool.{and_parts, and_from, cases_eq}
 use Rattle.std.proofs.lemmas.Int.{ints}
+use Rattle.fixed_units.specs.Calendar.{shortest_day, longest_day, days_of_calendar}
 use Rattle.civil_days.specs.Starts.{IsZone, zone_rule, day_start_of, start_on, start_by, IsDayLength, LastsWell}
 use Rattle.edit_bodies.specs.Zones.{all_below, lasts_well, is_zone}
 use Rattle.fixed_units.specs.Quantities.{IsDay, first_day, is_within}
@@ -34,15 +35,15 @@ counted : (n : ℤ) → pos 0 ≤ℤ n → (k : ℕ) × (pos k ≡ n)
 counted (pos k) h = (k, refl)
 counted (negsuc k) h = absurd (omega (arith, ints, h))
 
-placed : (day : ℤ) → IsDay day → (k : ℕ) × ((k < 73_049) × (first_day +ℤ pos k ≡ day))
+placed : (day : ℤ) → IsDay day → (k : ℕ) × ((k < days_of_calendar) × (first_day +ℤ pos k ≡ day))
 placed day is =
     let k = counted (day -ℤ first_day) (omega (arith, ints, is.low)) in
     (k.0, (omega (arith, ints, k.1, is.high), omega (arith, ints, k.1)))
 
-of_calendar : (k : ℕ) → k < 73_049 → IsDay (first_day +ℤ pos k)
+of_calendar : (k : ℕ) → k < days_of_calendar → IsDay (first_day +ℤ pos k)
 of_calendar k h = record { low = omega (arith, ints); high = omega (arith, ints, h) }
 
-length-told : (a b : ℤ) → is_within (pos 72_000) (pos 100_800) (b -ℤ a) ≡ true ↔ IsDayLength a b
+length-told : (a b : ℤ) → is_within (pos shortest_day) (pos longest_day) (b -ℤ a) ≡ true ↔ IsDayLength a b
 length-told a b = (
   λ e. let p = and_parts _ _ e in record { shortest = yes_le _ _ p.0; longest = yes_le _ _ p.1 },
   λ lasts. and_from _ _ (le_yes _ _ lasts.shortest) (le_yes _ _ lasts.longest),
@@ -87,4 +88,4 @@ zone-told text = (to, from)
     from : IsZone text → is_zone text ≡ true
     from zone =
         and_from _ _ (ap is_some zone.read)
-        (all_below-from _ 73_049 (λ k h. by_text text zone.rule zone.read (first_day +ℤ pos k) (zone.days _ (of_calendar k h))))
+        (all_below-from _ days_of_calendar (λ k h. by_text text zone.rule zone.read (first_day +ℤ pos k) (zone.days _ (of_calendar k h))))

@@ -1,6 +1,6 @@
 //! The compact form of the edits that come most: their members each once and in order, with no space and no escape, as programs write
-//! JSON. It is read byte by byte, without tokens and without a tree. Of a body that is not so nothing is said: its tokens or its tree
-//! decide.
+//! JSON. It is read straight from its bytes, without tokens and without a tree, the plain bytes of a string in blocks. Of a body that is
+//! not so nothing is said: its tokens or its tree decide.
 
 ghost use Rattle.std.specs.Prelude.{◌≡◌, ◌≤◌, ◌<◌, ◌+◌, ◌∷◌, ◌++◌, [], true, take, length, codes, Ok, IfSome, OnSome};
 ghost use Rattle.std.specs.Bool.{OnTrue};

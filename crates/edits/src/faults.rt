@@ -10,6 +10,6 @@ pub enum EditFault {
     #[error("a part of the edit is out of its range, or its zone is none")]
     NotLawful,
     /// There was no memory to read its zone.
-    #[error("there was no memory to read the zone of the edit")]
+    #[error("there is no memory to read the zone of the edit")]
     NoMemory,
 }

@@ -1,4 +1,4 @@
--- The days of the calendar, in order.
+-- The days of the calendar, in order, and how long a day may be.
 use Rattle.std.specs.Prelude.{ℕ, zero, suc, List, [], ◌∷◌, ℤ, pos, ◌+ℤ◌}
 use Rattle.fixed_units.specs.Quantities.{first_day}
 

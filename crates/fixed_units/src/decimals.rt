@@ -33,6 +33,7 @@ const GREATEST: u64 = 10_000_000_000_000;
 /// # Errors
 ///
 /// The first fault of the text in the order of [`Bad`]'s variants.
+#[inline(always)]
 pub fn read_decimal(text: &[u8]) -> Result<Micro, Bad>
     ensures { result ≡ decimal_of text.now }
 {

@@ -1,4 +1,4 @@
-//! The ranges of what stations give.
+//! The ranges of what stations give and of what is set for them.
 
 ghost use Rattle.std.specs.Prelude.{◌≡◌, ◌↔◌, true};
 ghost use Rattle.fixed_units.specs.Quantities.{IsStamp, IsStage, IsDischarge, IsAmount, is_stamp, is_stage, is_discharge, is_amount};

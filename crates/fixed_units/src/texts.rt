@@ -8,7 +8,7 @@ use thiserror::Error;
 
 /// There was no memory for what was asked.
 #[derive(Clone, Copy, Debug, PartialEq, Eq, Error)]
-#[error("there is no memory for the text")]
+#[error("there is no memory for what was asked")]
 pub struct NoMemory;
 
 impl From<AllocError> for NoMemory {

@@ -1,7 +1,7 @@
 -- Sums and counts over lists: where one element gives another number, and where two tests are joined.
-use Rattle.std.specs.Prelude.{◌≡◌, ℕ, ◌+◌, Bool, true, false, not, ◌||◌, cond, List, [], ◌∷◌, length, filter, find, sum_by, count_by, All, Option, Some, None, ℤ, ◌<ℤ◌}
+use Rattle.std.specs.Prelude.{◌≡◌, ℕ, ◌+◌, Bool, true, false, not, ◌||◌, cond, List, [], ◌∷◌, length, filter, sum_by, count_by, All, Some, None, ℤ}
 use Rattle.std.specs.Ordering.{int_eq}
-use Rattle.std.proofs.Common.{arith, refl, ap, sym, subst, ◌∙◌}
+use Rattle.std.proofs.Common.{arith, refl, ap, sym, ◌∙◌}
 use Rattle.std.proofs.lemmas.Bool.{false≢true}
 use Rattle.std.proofs.lemmas.Bool.Decides.{Decides-int_eq}
 use Rattle.std.proofs.lemmas.Int.{ints}

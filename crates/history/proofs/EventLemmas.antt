@@ -1,15 +1,13 @@
 -- What one event more makes of the accepted edits, the stations in force and the edits that days await.
-use Rattle.std.specs.Prelude.{◌≡◌, ℕ, ◌+◌, Bool, true, false, cond, List, [], ◌∷◌, ◌++◌, length, reverse, map, Option, Some, None, ℤ}
+use Rattle.std.specs.Prelude.{◌≡◌, ◌+◌, cond, List, [], ◌∷◌, ◌++◌, length, reverse, map, Option, Some, None, ℤ}
 use Rattle.std.proofs.Common.{arith, refl, ap, sym, ◌∙◌, length-append}
 use Rattle.std.proofs.lemmas.List.{append-nil, map-append, reverse-append, reverse-reverse}
 use Rattle.std.proofs.lemmas.Grind.{fold-append}
-use Rattle.edits.specs.declared.content.Edit.{Edit}
 use Rattle.fixed_units.specs.Quantities.{SiteNumber}
 use Rattle.history.specs.Accepted.{accepted, edit_of, edits_of, stations_at, changes}
 use Rattle.history.specs.Awaited.{awaited_back, awaited, is_day_of}
 use Rattle.history.specs.Events.{Event, Accepted, Published, Faulted}
 use Rattle.office_inputs.specs.Stations.{stations_of, stations_after}
-use Rattle.station_inputs.specs.Stations.{StationState}
 use Rattle.records.specs.Sheets.{Record}
 
 pub accepted-append : (xs ys : List Event) → accepted (xs ++ ys) ≡ accepted xs ++ accepted ys

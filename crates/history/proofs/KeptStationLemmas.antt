@@ -4,15 +4,13 @@ use Rattle.std.proofs.Common.{refl, ap, sym, ◌∙◌, inl, inr}
 use Rattle.std.proofs.lemmas.Bool.{false≢true}
 use Rattle.std.proofs.lemmas.Bool.Decides.{Decides-int_eq}
 use Rattle.approval.specs.Statuses.{Standing, is_approved}
-use Rattle.edits.specs.declared.content.What.{What}
 use Rattle.fixed_units.specs.Quantities.{SiteNumber, same_site, site_place}
 use Rattle.history.specs.Accepted.{accepted, edit_of, stations_at}
 use Rattle.history.specs.Awaited.{awaited, value_at}
 use Rattle.history.specs.Events.{Event, Accepted, Published, Faulted}
 use Rattle.history.specs.Legal.{IsOrderly, MayBeKept}
-use Rattle.history.specs.Sheets.{Shown, NoStation, Text, kept_first, shown_at, shown_by}
+use Rattle.history.specs.Sheets.{NoStation, Text, kept_first, shown_at, shown_by}
 use Rattle.history.specs.Statuses.{standing_at, standing_back, standing_of, status_at, stored_sheet}
-use Rattle.history.proofs.ApprovalLemmas.{IsApproval}
 use Rattle.history.proofs.EventLemmas.{accepted_faulted, accepted_published, stations_accepted}
 use Rattle.history.proofs.OrderlyLemmas.{by_events}
 use Rattle.history.proofs.SheetLemmas.{has_sheet}

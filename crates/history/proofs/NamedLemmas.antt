@@ -1,5 +1,5 @@
 -- The accepted edit that a reference names, and with one edit more.
-use Rattle.std.specs.Prelude.{◌≡◌, ℕ, zero, suc, ◌+◌, ◌-◌, Bool, true, false, cond, List, [], ◌∷◌, ◌++◌, length, find, slice_get, bytes_eq, Option, Some, None}
+use Rattle.std.specs.Prelude.{◌≡◌, ℕ, zero, suc, ◌+◌, Bool, true, false, cond, List, [], ◌∷◌, ◌++◌, length, find, slice_get, bytes_eq, Option, Some, None}
 use Rattle.std.proofs.Common.{arith, refl, ap, sym, subst, ◌∙◌}
 use Rattle.edits.specs.declared.content.Edit.{Edit}
 use Rattle.history.specs.Accepted.{Numbered, numbered_from, named}

@@ -1,8 +1,7 @@
 -- How many days are pending, and how many cells there are, with one edit more.
-use Rattle.std.specs.Prelude.{◌≡◌, ◌≢◌, ℕ, zero, suc, ◌+◌, ◌-◌, ◌≤◌, Bool, true, false, not, ◌&&◌, ◌||◌, cond, List, [], ◌∷◌, ◌++◌, length, map, filter, sum_by, count_by, reverse, All, Option, Some, None, is_some, is_none, ℤ, pos, ◌+ℤ◌}
-use Rattle.std.specs.List.{flat_map}
+use Rattle.std.specs.Prelude.{◌≡◌, ◌≢◌, ℕ, zero, suc, ◌+◌, ◌-◌, Bool, true, false, not, ◌&&◌, ◌||◌, cond, List, [], ◌∷◌, ◌++◌, length, map, filter, sum_by, count_by, reverse, All, Option, Some, None, is_some, is_none, ℤ, pos, ◌+ℤ◌}
 use Rattle.std.specs.Ordering.{int_eq}
-use Rattle.std.proofs.Common.{arith, refl, ap, sym, subst, ◌∙◌, inl, inr, get_or}
+use Rattle.std.proofs.Common.{arith, refl, ap, sym, ◌∙◌, inl, inr, get_or}
 use Rattle.std.proofs.lemmas.Bool.{false≢true, false_from_ne_true, or_cases}
 use Rattle.std.proofs.lemmas.Bool.Decides.{Decides-int_eq}
 use Rattle.std.proofs.lemmas.List.{length-map, reverse-append, reverse-reverse}
@@ -14,19 +13,19 @@ use Rattle.edits.specs.declared.content.What.{What}
 use Rattle.fixed_units.specs.Calendar.{calendar, days_from, days_of_calendar}
 use Rattle.fixed_units.specs.Quantities.{SiteNumber, IsDay, site_place, same_site, first_day}
 use Rattle.fixed_units.proofs.CalendarLemmas.{IsAmong, among_first, among_rest, is_day}
-use Rattle.history.specs.Accepted.{accepted, edit_of, edits_of, stations_at, changes, was_changed_back, was_changed, days_ever_changed, cells_of, cell_count}
+use Rattle.history.specs.Accepted.{accepted, edit_of, stations_at, changes, was_changed_back, was_changed, days_ever_changed, cells_of, cell_count}
 use Rattle.history.specs.Awaited.{awaited_back, awaited, is_day_of, is_pending, pending_of, pending_days}
 use Rattle.history.specs.Events.{Event, Accepted, Published, Faulted}
 use Rattle.history.proofs.CountLemmas.{sums_same, sums_swapped, sums_kept, count_or}
-use Rattle.history.proofs.EventLemmas.{awaited_accepted, stations_accepted, accepted_published, accepted_faulted, edits_accepted}
+use Rattle.history.proofs.EventLemmas.{awaited_accepted, stations_accepted, accepted_published, accepted_faulted}
 use Rattle.history.proofs.MergeLemmas.{given, merged_sums}
 use Rattle.history.proofs.SpanLemmas.{span_more, none_ever_changed, stations_more}
-use Rattle.history.proofs.StationLemmas.{places_equal, places_apart, found_passes, found_place, same_station, kept_other, station_stays, changed_has_station}
+use Rattle.history.proofs.StationLemmas.{places_equal, found_passes, found_place, station_stays, changed_has_station}
 use Rattle.office_inputs.specs.Changes.{keeps_day, changed_days}
 use Rattle.office_inputs.specs.Stations.{added, place_of, station_of, stations_of, stations_after, with_added, with_changed}
 use Rattle.station_inputs.specs.Stations.{StationState, station_after}
 use Rattle.records.specs.Sheets.{Record}
-use Rattle.rising.specs.Lists.{IsRising, at, put}
+use Rattle.rising.specs.Lists.{IsRising, at}
 use Rattle.rising.proofs.Placing.{put_rises}
 
 -- each day of the calendar is one

@@ -7,13 +7,13 @@ use Rattle.std.proofs.lemmas.Int.{ints}
 use Rattle.std.proofs.lemmas.List.{reverse-append, reverse-reverse}
 use Rattle.std.proofs.lemmas.List.Elements.{filter_agree}
 use Rattle.std.proofs.lemmas.Grind.{fold-append}
-use Rattle.day_cells.specs.Spans.{with_day, with_days, days_of}
+use Rattle.day_cells.specs.Spans.{with_day, with_days}
 use Rattle.day_cells.specs.declared.spans.Span.{Span}
 use Rattle.edits.specs.declared.content.Edit.{Edit}
 use Rattle.fixed_units.specs.Calendar.{calendar}
-use Rattle.fixed_units.specs.Quantities.{SiteNumber, site_place, same_site}
-use Rattle.history.specs.Accepted.{changes, was_changed_back, was_changed, days_ever_changed, cells_of}
-use Rattle.history.proofs.StationLemmas.{places_equal, station_stays, changed_has_station}
+use Rattle.fixed_units.specs.Quantities.{SiteNumber, same_site}
+use Rattle.history.specs.Accepted.{changes, was_changed_back, was_changed, days_ever_changed}
+use Rattle.history.proofs.StationLemmas.{station_stays, changed_has_station}
 use Rattle.office_inputs.specs.Changes.{keeps_day, changed_days}
 use Rattle.office_inputs.specs.Stations.{station_of, stations_of, stations_after}
 use Rattle.station_inputs.specs.Stations.{StationState}

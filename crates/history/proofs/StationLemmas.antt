@@ -1,11 +1,10 @@
 -- What an edit leaves of the stations and of the inputs of days.
-use Rattle.std.specs.Prelude.{◌≡◌, ℕ, Bool, true, false, not, ◌&&◌, cond, List, [], ◌∷◌, find, Option, Some, None, is_some, ℤ}
+use Rattle.std.specs.Prelude.{◌≡◌, Bool, true, false, not, ◌&&◌, cond, List, [], ◌∷◌, find, Option, Some, None, is_some, ℤ}
 use Rattle.std.specs.Ordering.{int_eq}
 use Rattle.std.proofs.Common.{refl, ap, sym, subst, ◌∙◌, inl, inr}
 use Rattle.std.proofs.lemmas.Bool.{cases_Bool, false≢true, and_parts, not-true, not-false}
 use Rattle.std.proofs.lemmas.Bool.Decides.{Decides-int_eq}
 use Rattle.day_inputs.specs.Equality.{same_inputs}
-use Rattle.day_inputs.specs.declared.day_inputs.DayInputs.{DayInputs}
 use Rattle.day_inputs.proofs.EqualityLemmas.{Decides-same_inputs}
 use Rattle.edits.specs.declared.content.Edit.{Edit}
 use Rattle.edits.specs.declared.content.What.{What}
@@ -14,7 +13,7 @@ use Rattle.fixed_units.specs.Quantities.{SiteNumber, site_place, same_site}
 use Rattle.history.specs.Accepted.{changes}
 use Rattle.office_inputs.specs.Changes.{keeps_day}
 use Rattle.office_inputs.proofs.LawLemmas.{station_left}
-use Rattle.office_inputs.specs.Stations.{added, place_of, station_of, with_added, with_changed, changed_at, after_what, stations_after, day_of_station, inputs_of_day}
+use Rattle.office_inputs.specs.Stations.{added, place_of, station_of, with_added, with_changed, after_what, stations_after, day_of_station, inputs_of_day}
 use Rattle.station_inputs.specs.Stations.{StationState, new_station, station_after}
 use Rattle.rising.specs.Lists.{at, put}
 use Rattle.rising.proofs.Placing.{at_put}

@@ -1,6 +1,6 @@
 -- What it says that an edit is accepted.
-use Rattle.std.specs.Prelude.{◌≡◌, ℕ, ◌+◌, ◌≤◌, nat_lt, Bool, true, false, cond, length, Option, Some, None, option_map}
-use Rattle.std.proofs.Common.{arith, refl, ap, sym, ◌∙◌}
+use Rattle.std.specs.Prelude.{◌≡◌, ℕ, ◌+◌, ◌≤◌, Bool, true, false, cond, length, Option, Some, None, option_map}
+use Rattle.std.proofs.Common.{refl, ap, sym, ◌∙◌}
 use Rattle.std.proofs.lemmas.Bool.{ltb-false}
 use Rattle.edits.specs.Same.{is_same}
 use Rattle.edits.specs.declared.content.Edit.{Edit}
@@ -8,7 +8,7 @@ use Rattle.history.specs.Accepted.{Numbered, accepted, edits_of, named, cell_cou
 use Rattle.history.specs.Awaited.{pending_days}
 use Rattle.history.specs.Events.{History}
 use Rattle.history.specs.Statuses.{locked_at, objection_at}
-use Rattle.history.specs.Verdicts.{Verdict, Repeats, Refuses, Accepts, with_edit, or_else, refused_by_stations, refused_by_statuses, refused_as_awaiting, refused_as_locked, is_full_of_events, is_full_of_cells, is_journal_full, refused_where, refusal_of, verdict_of_refusal, verdict_by, verdict}
+use Rattle.history.specs.Verdicts.{Repeats, Refuses, Accepts, with_edit, or_else, refused_by_stations, refused_by_statuses, refused_as_awaiting, refused_as_locked, is_full_of_events, is_full_of_cells, is_journal_full, refused_where, refusal_of, verdict_of_refusal, verdict_by, verdict}
 use Rattle.office_inputs.specs.Refusals as inputs
 use Rattle.office_inputs.specs.declared.refusals.Refusal.{Refusal}
 use Rattle.office_inputs.specs.declared.refusals.Refusal.TheVariants.{RefReused, Locked, HistoryFull, JournalFull}

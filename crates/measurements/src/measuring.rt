@@ -141,7 +141,7 @@ fn difference(stage: Micro, other: Micro) -> Micro
     requires other { IsStage other }
     ensures { result ≡ stage -ℤ other }
 {
-    quantity(stage.get() - other.get())
+    Micro::of_millionths(stage.get() - other.get())
 }
 
 /// A stage and a shift more.
@@ -149,13 +149,5 @@ fn sum(stage: Micro, shift: Micro) -> Micro
     requires { IsMicro (stage +ℤ shift) }
     ensures { result ≡ stage +ℤ shift }
 {
-    quantity(stage.get() + shift.get())
-}
-
-/// The quantity of a number that is in range.
-fn quantity(millionths: i64) -> Micro
-    requires { IsMicro millionths }
-    ensures { result ≡ millionths }
-{
-    Micro::new(millionths).unwrap()
+    Micro::of_millionths(stage.get() + shift.get())
 }

@@ -5,13 +5,13 @@ use Rattle.std.proofs.lemmas.List.Sums.{sum_by-append}
 use Rattle.devices.specs.Faults.{Rose}
 use Rattle.edits.specs.declared.content.Edit.{Edit}
 use Rattle.history.specs.Accepted.{accepted}
-use Rattle.history.specs.After.{after_publication, after_publications, after_settlement, publication, reopen}
-use Rattle.history.specs.Awaited.{SiteDay, pending_days}
+use Rattle.history.specs.After.{publication, reopen}
+use Rattle.history.specs.Awaited.{SiteDay}
 use Rattle.history.specs.Events.{Event, Accepted, Faulted, History}
 use Rattle.history.specs.Verdicts.{Refuses, record_of, verdict}
-use Rattle.office.specs.Counting.{fault_count, is_journal_fault, HasCounted, RisesFor, Counts, CountsEdit, GoesOverCounting}
+use Rattle.office.specs.Counting.{fault_count, is_journal_fault, HasCounted, RisesFor, Counts, GoesOverCounting}
 use Rattle.office.specs.Edits.{IsRefusedBy, IsTaken, is_fault}
-use Rattle.office.specs.Steps.{Step, AnEdit, AClaim, ALook, APublication, ATurn, ASettlement, AnAnswer, AStop, IsReopened, IsStep, Publishes, cut_off, added_by}
+use Rattle.office.specs.Steps.{Step, AnEdit, AClaim, ALook, APublication, ATurn, ASettlement, AnAnswer, AStop, IsReopened, IsStep, cut_off, added_by}
 use Rattle.office.proofs.RefusedLemmas.{refused_no_fault}
 use Rattle.office.proofs.StepLemmas.{Course, Still, Taken, Failed, Shown, step_course}
 use Rattle.office_inputs.specs.declared.limits.Limits.{Limits}

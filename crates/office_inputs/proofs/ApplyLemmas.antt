@@ -1,4 +1,4 @@
--- What an edit makes of the stations that are kept, of their records and of how many readings they have.
+-- What an edit makes of the stations that are kept, of their states and of how many readings they have.
 use Rattle.std.specs.Prelude.{◌≡◌, ℕ, zero, suc, ◌+◌, ◌<◌, ◌≤◌, Bool, true, false, cond, List, [], ◌∷◌, ◌++◌, filter, length, slice_set, slice_index_or, option_to_list, option_map, Option, Some, None, ℤ, ◌<ℤ◌, int_lt, All}
 use Rattle.std.proofs.Common.{arith, refl, ap, sym, subst, ◌∙◌}
 use Rattle.std.proofs.lemmas.List.Sums.{sum_by-append, sum_by-cons}
@@ -21,40 +21,40 @@ use Rattle.office_inputs.proofs.InputsLemmas.{record_at}
 use Rattle.office_inputs.proofs.KeepLemmas.{at_place}
 use Rattle.office_inputs.proofs.RoomLemmas.{StandsAt, stands_at}
 
--- records of the stations that pass
-filter_step : (k : KeptStation) (kept : List KeptStation) (records : List StationState) (b : Bool) → records ≡ states_of kept
-    → cond b (k.station ∷ records) records ≡ states_of (cond b (k ∷ kept) kept)
-filter_step k kept records true e = ap (λ (rs : List StationState). k.station ∷ rs) e
-filter_step k kept records false e = e
+-- states of the stations that pass
+filter_step : (k : KeptStation) (kept : List KeptStation) (states : List StationState) (b : Bool) → states ≡ states_of kept
+    → cond b (k.station ∷ states) states ≡ states_of (cond b (k ∷ kept) kept)
+filter_step k kept states true e = ap (λ (rs : List StationState). k.station ∷ rs) e
+filter_step k kept states false e = e
 
-records_filter : (p : StationState → Bool) (kept : List KeptStation) → filter p (states_of kept) ≡ states_of (filter (λ k. p k.station) kept)
-records_filter p [] = refl
-records_filter p (k ∷ kept) = filter_step k (filter (λ k. p k.station) kept) (filter p (states_of kept)) (p k.station) (records_filter p kept)
+states_filter : (p : StationState → Bool) (kept : List KeptStation) → filter p (states_of kept) ≡ states_of (filter (λ k. p k.station) kept)
+states_filter p [] = refl
+states_filter p (k ∷ kept) = filter_step k (filter (λ k. p k.station) kept) (filter p (states_of kept)) (p k.station) (states_filter p kept)
 
-records_append : (xs ys : List KeptStation) → states_of (xs ++ ys) ≡ states_of xs ++ states_of ys
-records_append [] ys = refl
-records_append (x ∷ xs) ys = ap (λ (rs : List StationState). x.station ∷ rs) (records_append xs ys)
+states_append : (xs ys : List KeptStation) → states_of (xs ++ ys) ≡ states_of xs ++ states_of ys
+states_append [] ys = refl
+states_append (x ∷ xs) ys = ap (λ (rs : List StationState). x.station ∷ rs) (states_append xs ys)
 
--- the records with a station put
-pub records_put : (k : KeptStation) (kept : List KeptStation) → states_of (lists.put place_of_kept k kept) ≡ lists.put place_of k.station (states_of kept)
-records_put k kept =
+-- the states with a station put
+pub states_put : (k : KeptStation) (kept : List KeptStation) → states_of (lists.put place_of_kept k kept) ≡ lists.put place_of k.station (states_of kept)
+states_put k kept =
     let n = place_of_kept k in
-    let before = records_filter (λ s. int_lt (place_of s) n) kept in
-    let after = records_filter (λ s. int_lt n (place_of s)) kept in
-    records_append (lists.before place_of_kept n kept) (k ∷ lists.after place_of_kept n kept) ∙ rw (before, after) refl
+    let before = states_filter (λ s. int_lt (place_of s) n) kept in
+    let after = states_filter (λ s. int_lt n (place_of s)) kept in
+    states_append (lists.before place_of_kept n kept) (k ∷ lists.after place_of_kept n kept) ∙ rw (before, after) refl
 
-records_all : (n : ℤ) (kept : List KeptStation) → All (λ k. n <ℤ place_of_kept k) kept → All (λ s. n <ℤ place_of s) (states_of kept)
-records_all n [] h = All-nil (λ s. n <ℤ place_of s)
-records_all n (k ∷ kept) h =
+states_all : (n : ℤ) (kept : List KeptStation) → All (λ k. n <ℤ place_of_kept k) kept → All (λ s. n <ℤ place_of s) (states_of kept)
+states_all n [] h = All-nil (λ s. n <ℤ place_of s)
+states_all n (k ∷ kept) h =
     All-cons (λ s. n <ℤ place_of s) k.station (states_of kept) (All-head (λ k. n <ℤ place_of_kept k) k kept h)
-    (records_all n kept (All-tail (λ k. n <ℤ place_of_kept k) k kept h))
+    (states_all n kept (All-tail (λ k. n <ℤ place_of_kept k) k kept h))
 
-pub records_rise : (kept : List KeptStation) → lists.IsRising place_of_kept kept → lists.IsRising place_of (states_of kept)
-records_rise [] h = λ i j d l m. absurd (omega arith)
-records_rise (k ∷ kept) h =
+pub states_rise : (kept : List KeptStation) → lists.IsRising place_of_kept kept → lists.IsRising place_of (states_of kept)
+states_rise [] h = λ i j d l m. absurd (omega arith)
+states_rise (k ∷ kept) h =
     AllPairs-cons (λ a b. place_of a <ℤ place_of b) k.station (states_of kept)
-    (records_all (place_of_kept k) kept (AllPairs-head (λ a b. place_of_kept a <ℤ place_of_kept b) k kept h))
-    (records_rise kept (AllPairs-tail (λ a b. place_of_kept a <ℤ place_of_kept b) k kept h))
+    (states_all (place_of_kept k) kept (AllPairs-head (λ a b. place_of_kept a <ℤ place_of_kept b) k kept h))
+    (states_rise kept (AllPairs-tail (λ a b. place_of_kept a <ℤ place_of_kept b) k kept h))
 
 -- how many readings there are, with a station put where none stands
 count_parts : (xs ys : List StationState) (s : StationState) → reading_count (xs ++ s ∷ ys) ≡ reading_count (xs ++ ys) + length s.readings
@@ -109,15 +109,15 @@ count_within (k ∷ kept) (suc i) x l e =
     sum_by-cons (λ (s : StationState). length s.readings) k.station (states_of kept) in
     omega (arith, h, b)
 
--- the records with a station of the site written over
-pub records_set : (kept : List KeptStation) (site : SiteNumber) (i : ℕ) (x y : KeptStation) (change : StationState → StationState) → StandsAt site i kept
+-- the states with a station of the site written over
+pub states_set : (kept : List KeptStation) (site : SiteNumber) (i : ℕ) (x y : KeptStation) (change : StationState → StationState) → StandsAt site i kept
     → x ≡ slice_index_or kept i x → y.station ≡ change x.station → place_of (change x.station) ≡ place_of x.station
     → states_of (slice_set kept i y) ≡ changed_at site change (states_of kept)
-records_set kept site i x y change h e f p =
+states_set kept site i x y change h e f p =
     let there = stands_at kept site i x h.within e h.found in
     let n : place_of_kept y ≡ site_place site = ap place_of f ∙ p ∙ at_place place_of_kept (site_place site) kept x there in
     let found : station_of (states_of kept) site ≡ Some x.station = record_at kept site ∙ ap (λ (o : Option KeptStation). option_map (λ (k : KeptStation). k.station) o) there in
-    ap states_of (h.written y n) ∙ records_put y kept ∙ ap (λ (s : StationState). lists.put place_of s (states_of kept)) f
+    ap states_of (h.written y n) ∙ states_put y kept ∙ ap (λ (s : StationState). lists.put place_of s (states_of kept)) f
     ∙ ap (λ (o : Option StationState). with_changed change o (states_of kept)) (sym found)
 
 -- in whose way nothing stands of the station of the site
@@ -129,15 +129,15 @@ free_here kept site i x what h e free =
     ap (λ (o : Option StationState). obstacle_of o what) (sym found) ∙ free
 
 -- a site that is not kept has no station to change
-pub records_none : (stations : List StationState) (site : SiteNumber) (change : StationState → StationState) → station_of stations site ≡ None
+pub states_none : (stations : List StationState) (site : SiteNumber) (change : StationState → StationState) → station_of stations site ≡ None
     → stations ≡ changed_at site change stations
-records_none stations site change e = ap (λ (o : Option StationState). with_changed change o stations) (sym e)
+states_none stations site change e = ap (λ (o : Option StationState). with_changed change o stations) (sym e)
 
 -- a station of a site that has none, put among those that are kept
 pub count_put_kept : (k : KeptStation) (kept : List KeptStation) → lists.IsRising place_of_kept kept → kept_at kept k.station.site ≡ None → k.station.readings ≡ []
     → reading_count (lists.put place_of k.station (states_of kept)) ≡ reading_count (states_of kept)
 count_put_kept k kept r n e =
-    count_put_new k.station (states_of kept) (records_rise kept r)
+    count_put_new k.station (states_of kept) (states_rise kept r)
     (record_at kept k.station.site ∙ ap (λ (o : Option KeptStation). option_map (λ (k : KeptStation). k.station) o) n) e
 
 -- stations with one put that keeps to its ranges

@@ -1,4 +1,4 @@
--- Where the station of a site stands, among the records in force and among the stations that are kept.
+-- Where the station of a site stands, among the states in force and among the stations that are kept.
 use Rattle.std.specs.Prelude.{◌≡◌, ℕ, zero, suc, ◌<◌, List, [], ◌∷◌, length, slice_get, slice_set, option_map, Option, Some, None, IfSome, IfNone, ℤ, ◌<ℤ◌, ◌≤ℤ◌, int_lt, true, false}
 use Rattle.std.proofs.Common.{arith, refl, ap, sym, subst, ◌∙◌, get_or}
 use Rattle.std.proofs.lemmas.Int.{ints}
@@ -22,10 +22,10 @@ use Rattle.office_inputs.proofs.RoomLemmas.{StandsAt}
 abbrev record_of : Option KeptStation → Option StationState
 record_of o = option_map (λ (k : KeptStation). k.station) o
 
-records_get : (kept : List KeptStation) (i : ℕ) → slice_get (states_of kept) i ≡ record_of (slice_get kept i)
-records_get [] i = refl
-records_get (k ∷ kept) zero = refl
-records_get (k ∷ kept) (suc i) = records_get kept i
+states_get : (kept : List KeptStation) (i : ℕ) → slice_get (states_of kept) i ≡ record_of (slice_get kept i)
+states_get [] i = refl
+states_get (k ∷ kept) zero = refl
+states_get (k ∷ kept) (suc i) = states_get kept i
 
 -- what a search among the stations that are kept finds is the place of the site
 pub found_place : (kept : List KeptStation) (site : SiteNumber) (found : Option ℕ) → IfSome found (λ i. kept_at kept site ≡ slice_get kept i)
@@ -35,7 +35,7 @@ found_place kept site (Some i) f w n = (
   refl,
   record {
     within = (let l = length-map kept (λ (k : KeptStation). k.station) in omega arith);
-    found = record_at kept site ∙ ap record_of f ∙ sym (records_get kept i);
+    found = record_at kept site ∙ ap record_of f ∙ sym (states_get kept i);
   },
 )
 
@@ -85,7 +85,7 @@ stands kept place i r p e =
     let within = index_within kept place i p e in
     let s = some_station kept i within in
     let there : station_of (states_of kept) place.site ≡ Some s.0.station =
-    p.found ∙ ap (station_in (states_of kept)) e ∙ records_get kept i ∙ ap record_of s.2 in
+    p.found ∙ ap (station_in (states_of kept)) e ∙ states_get kept i ∙ ap record_of s.2 in
     let n : place_of_kept s.0 ≡ site_place place.site = at_place place_of (site_place place.site) (states_of kept) s.0.station there in
     record {
       within = within;

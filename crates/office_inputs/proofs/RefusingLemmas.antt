@@ -161,5 +161,5 @@ few_in_all limit free stations s rs h e k f l =
     few_step free a.more (length rs) (passes limit (reading_count stations) (reading_count (lists.put place_of (with_readings (put_all rs) s) stations))) a.most l
     (new_in_all limit free a.more stations s rs h e f a.count)
 
-pub records_length : (kept : List KeptStation) → length (states_of kept) ≡ length kept
-records_length kept = length-map kept (λ (k : KeptStation). k.station)
+pub states_length : (kept : List KeptStation) → length (states_of kept) ≡ length kept
+states_length kept = length-map kept (λ (k : KeptStation). k.station)

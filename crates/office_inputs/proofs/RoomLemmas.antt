@@ -13,13 +13,13 @@ use Rattle.office_inputs.proofs.KeepLemmas.{at_place}
 cons_same : (x y : StationState) (xs ys : List StationState) → x ≡ y → xs ≡ ys → x ∷ xs ≡ y ∷ ys
 cons_same x y xs ys e f = cc
 
--- the records are as before where the one written is
-pub records_same : (kept : List KeptStation) (i : ℕ) (x y : KeptStation) → i < length kept → x ≡ slice_index_or kept i x → y.station ≡ x.station
+-- the states are as before where the one written is
+pub states_same : (kept : List KeptStation) (i : ℕ) (x y : KeptStation) → i < length kept → x ≡ slice_index_or kept i x → y.station ≡ x.station
     → states_of (slice_set kept i y) ≡ states_of kept
-records_same [] i x y l e f = absurd (omega arith)
-records_same (k ∷ kept) zero x y l e f = cons_same y.station k.station (states_of kept) (states_of kept) (f ∙ ap (λ (k : KeptStation). k.station) e) refl
-records_same (k ∷ kept) (suc i) x y l e f =
-    cons_same k.station k.station (states_of (slice_set kept i y)) (states_of kept) refl (records_same kept i x y (omega arith) e f)
+states_same [] i x y l e f = absurd (omega arith)
+states_same (k ∷ kept) zero x y l e f = cons_same y.station k.station (states_of kept) (states_of kept) (f ∙ ap (λ (k : KeptStation). k.station) e) refl
+states_same (k ∷ kept) (suc i) x y l e f =
+    cons_same k.station k.station (states_of (slice_set kept i y)) (states_of kept) refl (states_same kept i x y (omega arith) e f)
 
 -- the station in its place is that of the site
 pub stands_at : (kept : List KeptStation) (site : SiteNumber) (i : ℕ) (x : KeptStation) → i < length kept → x ≡ slice_index_or kept i x

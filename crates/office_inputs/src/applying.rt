@@ -100,7 +100,7 @@ fn add_in(stations: &mut Vec<Station>, station: Station)
     requires room { vec_len stations.old < vec_capacity stations.old }
     requires absent { kept_at stations.old.items station.station.site ≡ None }
     requires empty { station.station.readings ≡ [] }
-    ensures records { states_of stations.new.items ≡ put place_of station.station (states_of stations.old.items) }
+    ensures states { states_of stations.new.items ≡ put place_of station.station (states_of stations.old.items) }
     ensures count { reading_count (states_of stations.new.items) ≡ reading_count (states_of stations.old.items) }
     ensures kept { AreStations stations.new.items }
 {
@@ -120,7 +120,7 @@ fn change_in(
     requires lawful { IsLawful what.now }
     requires free { obstacle_of (station_of (states_of stations.old.items) place.site) what.now ≡ None }
     requires room { HasRoomThere stations.old.items staged place.site what.now }
-    ensures records { states_of stations.new.items ≡ changed_at place.site (station_after what.now) (states_of stations.old.items) }
+    ensures states { states_of stations.new.items ≡ changed_at place.site (station_after what.now) (states_of stations.old.items) }
     ensures count { reading_count (states_of stations.new.items) + result.0 ≡ reading_count (states_of stations.old.items) + result.1 }
     ensures within { result.0 ≤ reading_count (states_of stations.old.items) }
     ensures kept { AreStations stations.new.items }

@@ -103,7 +103,7 @@ fn prepare_in(
     requires stations { AreStations stations.old.items }
     requires place { IsPlace (states_of stations.old.items) place }
     requires lawful { IsLawful what.now }
-    ensures records { states_of stations.new.items ≡ states_of stations.old.items }
+    ensures states { states_of stations.new.items ≡ states_of stations.old.items }
     ensures kept { AreStations stations.new.items }
     ensures len { vec_len stations.new ≡ vec_len stations.old }
     ensures capacity { vec_capacity stations.new ≡ vec_capacity stations.old }

@@ -22,7 +22,7 @@ use Rattle.day_cells.proofs.DayLemmas.{by_day, on_day_at, on_day_before}
 use Rattle.day_cells.specs.Days.{contains_day, on_day}
 use Rattle.day_cells.specs.Spans.{days_of, with_days}
 use Rattle.day_cells.specs.KeptDays as station
-use Rattle.day_cells.specs.KeptDays.{KeptDays, edit_of, edit_on, awaited_on, is_out_on, value_on, is_pending_on, waiting_of, waiting_on, HasCell}
+use Rattle.day_cells.specs.KeptDays.{KeptDays, edit_of, edit_on, awaited_on, is_out_on, value_on, is_pending_on, waiting_of, waiting_on}
 use Rattle.day_cells.specs.Sites.{station_rank}
 use Rattle.recompute.specs.Cells.{station_of, awaited_in, span_in, waiting, cell_count, IsPlace, IsGap, HasRoom, SaysTheSame, Marks, TakesOut, Publishes, KeepsCounts, NonePendingWithin, NoneUnclaimedWithin, most_stations}
 use Rattle.recompute.proofs.StationLemmas.{site_yes, site_no}
@@ -38,21 +38,21 @@ waiting_within s day n =
       length_from day n,
     )
 
-pub waiting_most : (s : KeptDays) → length (waiting_of s) ≤ 73_049
+pub waiting_most : (s : KeptDays) → length (waiting_of s) ≤ days_of_calendar
 unfolding calendar
-waiting_most s = waiting_within s first_day 73_049
+waiting_most s = waiting_within s first_day days_of_calendar
 
 -- the totals are small
-pub pending_most : (stations : List KeptDays) → length stations ≤ most_stations → length (waiting stations) ≤ 4_294_967_296 * 73_049
+pub pending_most : (stations : List KeptDays) → length stations ≤ most_stations → length (waiting stations) ≤ 4_294_967_296 * days_of_calendar
 pending_most stations few =
     let a = length-flat_map waiting_of stations in
-    let b = sum_by-le (λ s. length (waiting_of s)) 73_049 stations (λ k d l. waiting_most (get_or stations k d)) in
+    let b = sum_by-le (λ s. length (waiting_of s)) days_of_calendar stations (λ k d l. waiting_most (get_or stations k d)) in
     omega (arith, a, b, few)
 
 pub cells_most : (stations : List KeptDays) → length stations ≤ most_stations → All (λ s. days_of s.span ≤ days_of_calendar) stations
-    → cell_count stations ≤ 4_294_967_296 * 73_049
+    → cell_count stations ≤ 4_294_967_296 * days_of_calendar
 cells_most stations few spans =
-    let b = sum_by-le (λ s. days_of s.span) 73_049 stations spans in
+    let b = sum_by-le (λ s. days_of s.span) days_of_calendar stations spans in
     omega (arith, b, few)
 
 -- a station's part of the totals

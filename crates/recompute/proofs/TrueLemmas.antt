@@ -1,8 +1,8 @@
 -- A job stays true: over an edit that another number is given to, and over all that takes no edit.
-use Rattle.std.specs.Prelude.{◌≡◌, ◌≢◌, ℕ, Bool, true, false, not, ◌&&◌, ◌||◌, cond, List, [], ◌∷◌, find, filter, Option, Some, None, ℤ}
+use Rattle.std.specs.Prelude.{◌≡◌, ◌≢◌, ℕ, Bool, true, false, not, ◌&&◌, ◌||◌, cond, List, [], ◌∷◌, filter, Some, None, ℤ}
 use Rattle.std.specs.List.{list_any}
 use Rattle.std.specs.Ordering.{int_eq}
-use Rattle.std.proofs.Common.{refl, ap, sym, subst, ◌∙◌}
+use Rattle.std.proofs.Common.{refl, ap, sym, ◌∙◌}
 use Rattle.std.proofs.lemmas.Bool.{not-false}
 use Rattle.std.proofs.lemmas.Bool.Decides.{Decides-int_eq}
 use Rattle.std.proofs.lemmas.Option.{same_Some}
@@ -16,13 +16,13 @@ use Rattle.fixed_units.specs.Quantities.{SiteNumber, IsDay, site_place, same_sit
 use Rattle.fixed_units.proofs.CalendarLemmas.{calendar_any}
 use Rattle.office_inputs.specs.Changes.{keeps_day, changed_days}
 use Rattle.office_inputs.proofs.LawLemmas.{station_left}
-use Rattle.office_inputs.specs.Stations.{place_of, station_of, stations_after, day_of_station, inputs_of_day}
+use Rattle.office_inputs.specs.Stations.{place_of, stations_after, day_of_station, inputs_of_day}
 use Rattle.station_inputs.specs.Stations.{StationState}
 use Rattle.rising.specs.Lists.{at}
 use Rattle.recompute.specs.Cells.{SaysTheSame, Marks, TakesOut, Publishes, awaited_in, is_day_of}
 use Rattle.recompute.specs.Jobs.{DayJob, IsTrueJob}
 use Rattle.recompute.proofs.FoundLemmas.{any_both}
-use Rattle.recompute.proofs.StationLemmas.{site_yes, site_no}
+use Rattle.recompute.proofs.StationLemmas.{site_yes}
 
 -- the same day of two sites that are one
 same_day : (stations : List StationState) (a b : SiteNumber) (day : ℤ) → site_place a ≡ site_place b → inputs_of_day stations a day ≡ inputs_of_day stations b day

@@ -34,7 +34,7 @@ pub(crate) fn correction_from(set: u8, draft: &EntryDraft) -> What
 {
     What::PutCorrection {
         set,
-        at: Second::new(draft.at).unwrap(),
+        at: Second::of_seconds(draft.at),
         curve: curve_from(&draft.points).unwrap(),
         prorate: draft.prorate,
     }
@@ -47,7 +47,7 @@ pub(crate) fn dropped_correction_from(set: u8, at: i64) -> What
 {
     What::DropCorrection {
         set,
-        at: Second::new(at).unwrap(),
+        at: Second::of_seconds(at),
     }
 }
 
@@ -58,7 +58,7 @@ pub(crate) fn shift_from(draft: &EntryDraft) -> What
     ensures { result ≡ PutShift draft.now.at draft.now.points.items draft.now.prorate }
 {
     What::PutShift {
-        at: Second::new(draft.at).unwrap(),
+        at: Second::of_seconds(draft.at),
         curve: curve_from(&draft.points).unwrap(),
         prorate: draft.prorate,
     }
@@ -70,7 +70,7 @@ pub(crate) fn dropped_shift_from(at: i64) -> What
     ensures { result ≡ DropShift at }
 {
     What::DropShift {
-        at: Second::new(at).unwrap(),
+        at: Second::of_seconds(at),
     }
 }
 

@@ -16,6 +16,7 @@ use ratings::Period;
 const FRAME: usize = 12;
 
 /// How many bytes a record takes as a payload: at most 1,700,064, which 100,000 readings may take.
+#[inline(always)]
 pub fn record_len(piece: &Record) -> usize
     ensures value { result ≡ length (payload piece.now) }
     ensures longest { result ≤ longest_payload }

@@ -57,6 +57,6 @@ pub(crate) fn dropped_period_from(from: i64) -> What
     ensures { result ≡ DropPeriod from }
 {
     What::DropPeriod {
-        from: Second::new(from).unwrap(),
+        from: Second::of_seconds(from),
     }
 }

@@ -111,8 +111,8 @@ pub(crate) fn dropped_span_from(from: i64, to: i64) -> What
     ensures { result ≡ DropReadings from to }
 {
     What::DropReadings {
-        from: Second::new(from).unwrap(),
-        to: Second::new(to).unwrap(),
+        from: Second::of_seconds(from),
+        to: Second::of_seconds(to),
     }
 }
 
@@ -122,8 +122,8 @@ pub(crate) fn flagged_span_from(from: i64, to: i64, flag: Flag) -> What
     ensures { result ≡ FlagReadings from to flag }
 {
     What::FlagReadings {
-        from: Second::new(from).unwrap(),
-        to: Second::new(to).unwrap(),
+        from: Second::of_seconds(from),
+        to: Second::of_seconds(to),
         flag,
     }
 }

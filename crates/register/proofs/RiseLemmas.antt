@@ -7,11 +7,11 @@ use Rattle.office_inputs.specs.Kept.{AreStations, states_of}
 use Rattle.station_inputs.specs.KeptStation.{KeptStation, IsStation}
 use Rattle.office_inputs.specs.Stations.{place_of}
 use Rattle.station_inputs.specs.Stations.{StationState}
-use Rattle.office_inputs.proofs.ApplyLemmas.{records_rise}
+use Rattle.office_inputs.proofs.ApplyLemmas.{states_rise}
 use Rattle.rising.specs.Lists.{IsRising}
 
 pub rising_stations : (kept : List KeptStation) (stations : List StationState) → AreStations kept → states_of kept ≡ stations → IsRising place_of stations
-rising_stations kept stations h e = subst (IsRising place_of) e (records_rise kept h.rising)
+rising_stations kept stations h e = subst (IsRising place_of) e (states_rise kept h.rising)
 
 pub sites_in_range : (kept : List KeptStation) (stations : List StationState) → AreStations kept → states_of kept ≡ stations
     → All (λ (s : StationState). IsSite s.site) stations

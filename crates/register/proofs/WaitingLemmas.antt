@@ -23,7 +23,7 @@ use Rattle.history.proofs.SpanLemmas.{none_ever_changed}
 use Rattle.history.proofs.StationLemmas.{found_passes}
 use Rattle.office_inputs.specs.Stations.{place_of, station_of}
 use Rattle.station_inputs.specs.Stations.{StationState}
-use Rattle.recompute.specs.Cells.{awaited_in, is_out_in, span_in, waiting, cell_count}
+use Rattle.recompute.specs.Cells.{is_out_in, waiting, cell_count}
 use Rattle.recompute.specs.Cells as kept_cells
 use Rattle.register.specs.Keeping.{Tells}
 use Rattle.rising.specs.Lists.{IsRising, at}

@@ -122,7 +122,7 @@ fn says_until(next: Option<&Entry>) -> Second
 {
     match next {
         Some(next) => next.at,
-        None => Second::new(LAST_STAMP).unwrap(),
+        None => Second::of_seconds(LAST_STAMP),
     }
 }
 
@@ -164,6 +164,6 @@ fn period_end(period: &Period) -> Second
 {
     match period.until {
         Some(until) => until,
-        None => Second::new(LAST_STAMP).unwrap(),
+        None => Second::of_seconds(LAST_STAMP),
     }
 }

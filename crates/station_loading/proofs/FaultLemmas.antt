@@ -1,5 +1,5 @@
 -- Each line that tells a fault of the journal stands for one that has happened.
-use Rattle.std.specs.Prelude.{◌≡◌, ℕ, ◌+◌, Bool, true, false, List, [], ◌∷◌, ◌++◌, count_by, Result, Ok, Err}
+use Rattle.std.specs.Prelude.{◌≡◌, ℕ, ◌+◌, Bool, true, false, List, [], ◌∷◌, count_by, Result, Ok, Err}
 use Rattle.std.proofs.Common.{refl, ap, sym, subst, ◌∙◌}
 use Rattle.desk.proofs.FaultLemmas.{Tells, edit_adds_none, more_told, none_told, tells_none, tells_one}
 use Rattle.edits.specs.declared.content.Edit.{Edit}

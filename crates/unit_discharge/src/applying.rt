@@ -50,9 +50,9 @@ pub fn unit(
     Unit {
         at: reading.at,
         raw: reading.raw,
-        correction: quantity(correction),
+        correction: Micro::of_millionths(correction),
         stage,
-        shift: quantity(shift),
+        shift: Micro::of_millionths(shift),
         discharge: discharge_of(periods, reading.flag, reading.at, sum(stage, shift)),
     }
 }
@@ -113,18 +113,10 @@ fn amount_of(entries: &[Entry], at: Second, stage: Micro) -> i64
     value_of(entries, at, stage).get()
 }
 
-/// The quantity of a number that is in range.
-fn quantity(millionths: i64) -> Micro
-    requires { IsMicro millionths }
-    ensures { result ≡ millionths }
-{
-    Micro::of_millionths(millionths)
-}
-
 /// A quantity and an amount in millionths more, where that is in range.
 fn sum(from: Micro, amount: i64) -> Micro
     requires { IsMicro (from +ℤ amount) }
     ensures { result ≡ from +ℤ amount }
 {
-    quantity(from.get() + amount)
+    Micro::of_millionths(from.get() + amount)
 }

@@ -5,6 +5,7 @@ use Rattle.std.specs.Option.{is_some}
 use Rattle.std.proofs.lemmas.Bool.{true≢false, and_right, eq-eqb}
 use Rattle.std.proofs.lemmas.List.Folds.{list_all-append}
 use Rattle.std.proofs.lemmas.List.Elements.{All-nil, All-append, All-from_get_or}
+use Rattle.wire.specs.declared.limits.TheConstants.{BLOCK_BYTES}
 use Rattle.memchr.specs.Find.{IsFirstByte, is_byte}
 use Rattle.std.proofs.Math.Seq.{take-add, take-append_seam}
 use Rattle.std.proofs.lemmas.List.{length-take, take-take, take-append-le, take-append-drop, drop-append-le, drop-take, drop-drop}
@@ -259,7 +260,7 @@ needed_unread rest seen left between splits same unsettled =
 
 -- and so were those at hand, of which the first n settle nothing
 pub needed_ahead : (rest ahead left : List ℕ) (n : ℕ) → rest ≡ ahead ++ left → AwaitsHead (take n ahead)
-    → length ahead ≤ 65_536 → IsNeeded rest left
+    → length ahead ≤ BLOCK_BYTES → IsNeeded rest left
 needed_ahead rest ahead left n splits unsettled block = (
   take n ahead,
   drop n ahead,

@@ -1,6 +1,7 @@
 -- Messages that are passed: what is passed of a rest behind a head is its body.
 use Rattle.std.proofs.Common.{◌≡◌, ◌⊎◌, ℕ, ◌+◌, ◌-◌, ◌^◌, ◌<◌, ◌≤◌, Bool, true, false, List, [], ◌++◌, length, take, drop, Option, Some, None, IfSome, if◌then◌else◌, refl, sym, ap, ◌∙◌, subst, arith, inl, inr, ⊎_elim, append_assoc, append-nil, length-append}
 use Rattle.std.proofs.lemmas.Bool.{true≢false}
+use Rattle.wire.specs.declared.limits.TheConstants.{BLOCK_BYTES}
 use Rattle.httparse.specs.Grammar.{RequestHead, print_request}
 use Rattle.wire.specs.declared.framing.Frame.{Frame}
 use Rattle.wire.specs.declared.framing.Frame.TheVariants as frames
@@ -16,7 +17,7 @@ use Rattle.wire.specs.Incoming.{Held, AwaitsBody, IsUnsettled, IsNeeded, IsNext,
 use Rattle.wire.specs.Looking.{IsFramedAt, PassesBytes, PassesWhole, MovesBy, IsCaused, is_kept, told_kept, told_dropped, told_as}
 use Rattle.wire.proofs.HeadLemmas.{head_fits, take_within, malformed_cut}
 use Rattle.std.proofs.lemmas.List.{take-append-drop}
-use Rattle.wire.proofs.IncomingLemmas.{Told, told_self, told_maps, told_joins, within_skipped}
+use Rattle.wire.proofs.IncomingLemmas.{Told, told_self, told_maps, told_joins, within_skipped, needed_unread}
 use Rattle.wire.proofs.MessageLemmas.{whole_counts}
 
 -- ---- a head at the front
@@ -57,7 +58,7 @@ unsettled_rest ahead more found head at short =
 
 -- what was needed for the body was needed for the message
 pub needed_rest : (ahead more seen piece left : List ℕ) (found : Head) (head : RequestHead) → IsFramedAt ahead found head
-    → drop found.len ahead ++ more ≡ seen ++ (piece ++ left) → length seen < body_length found.frame → length piece ≤ 65_536
+    → drop found.len ahead ++ more ≡ seen ++ (piece ++ left) → length seen < body_length found.frame → length piece ≤ BLOCK_BYTES
     → IsNeeded (ahead ++ more) left
 needed_rest ahead more seen piece left found head at splits short block =
     let printed = print_request head in
@@ -277,21 +278,13 @@ passes_all false passed is count rest offset before text after left all len spli
 abbrev pub IsRest : List ℕ → List ℕ → List ℕ → Option (List ℕ) → Option (List ℕ) → Type 0
 IsRest first bytes ahead before after = Told before after (λ b a. first ++ b ≡ bytes ++ (ahead ++ a))
 
--- it is the same where nothing was taken,
+-- it is the same where nothing was taken
 pub rest_same : (first bytes ahead : List ℕ) (before between after : Option (List ℕ)) → IsRest first bytes ahead before between
     → Told between after (λ m a. a ≡ m) → IsRest first bytes ahead before after
 rest_same first bytes ahead before between after rest same =
     told_joins before between after (λ b m. first ++ b ≡ bytes ++ (ahead ++ m)) (λ m a. a ≡ m)
     (λ b a. first ++ b ≡ bytes ++ (ahead ++ a))
     (λ b m a p q. p ∙ ap (λ (xs : List ℕ). bytes ++ (ahead ++ xs)) (sym q)) rest same
-
--- and at the end
-pub rest_end : (first bytes ahead : List ℕ) (before between after : Option (List ℕ)) → IsRest first bytes ahead before between
-    → Told between after (λ m a. (m ≡ []) × (a ≡ [])) → Told before after (λ b a. (first ++ b ≡ bytes ++ (ahead ++ a)) × (a ≡ []))
-rest_end first bytes ahead before between after rest end =
-    told_joins before between after (λ b m. first ++ b ≡ bytes ++ (ahead ++ m)) (λ m a. (m ≡ []) × (a ≡ []))
-    (λ b a. (first ++ b ≡ bytes ++ (ahead ++ a)) × (a ≡ []))
-    (λ b m a p q. (p ∙ ap (λ (xs : List ℕ). bytes ++ (ahead ++ xs)) (q.0 ∙ sym q.1), q.1)) rest end
 
 -- no more was taken than may be
 pub within_passed : (first bytes ahead : List ℕ) (before after : Option (List ℕ)) (offset now : ℕ) → now ≡ offset + length bytes
@@ -303,9 +296,9 @@ within_passed first bytes ahead before after offset now moved limit rest =
 
 -- the bytes at hand were taken for what was missing behind those that were passed,
 pub needed_before : (count : ℕ) (first bytes ahead : List ℕ) (before after : Option (List ℕ)) → length bytes < count
-    → length ahead ≤ 65_536 → IsRest first bytes ahead before after
+    → length ahead ≤ BLOCK_BYTES → IsRest first bytes ahead before after
     → Told before after (λ b a. (b ≡ a)
-    ⊎ ((seen : List ℕ) × (piece : List ℕ) × (first ++ b ≡ seen ++ (piece ++ a)) × (length seen < count) × (length piece ≤ 65_536)))
+    ⊎ ((seen : List ℕ) × (piece : List ℕ) × (first ++ b ≡ seen ++ (piece ++ a)) × (length seen < count) × (length piece ≤ BLOCK_BYTES)))
 needed_before count first bytes ahead before after short block rest =
     told_maps before after (λ b a. first ++ b ≡ bytes ++ (ahead ++ a)) _ (λ b a p. inr (bytes, ahead, p, short, block)) rest
 
@@ -313,7 +306,7 @@ needed_before count first bytes ahead before after short block rest =
 pub needed_behind : (count : ℕ) (first bytes ahead : List ℕ) (before after : Option (List ℕ)) → length (bytes ++ ahead) < count
     → IsRest first bytes ahead before after
     → Told before after (λ b a. (b ≡ a)
-    ⊎ ((seen : List ℕ) × (piece : List ℕ) × (first ++ b ≡ seen ++ (piece ++ a)) × (length seen < count) × (length piece ≤ 65_536)))
+    ⊎ ((seen : List ℕ) × (piece : List ℕ) × (first ++ b ≡ seen ++ (piece ++ a)) × (length seen < count) × (length piece ≤ BLOCK_BYTES)))
 needed_behind count first bytes ahead before after short rest =
     told_maps before after (λ b a. first ++ b ≡ bytes ++ (ahead ++ a)) _
     (λ b a p. inr (bytes ++ ahead, [], p ∙ sym (append_assoc bytes ahead a), short, omega arith)) rest
@@ -321,10 +314,10 @@ needed_behind count first bytes ahead before after short rest =
 -- nothing was taken
 pub needed_never : (count : ℕ) (first : List ℕ) (before after : Option (List ℕ)) → after ≡ before
     → Told before after (λ b a. (b ≡ a)
-    ⊎ ((seen : List ℕ) × (piece : List ℕ) × (first ++ b ≡ seen ++ (piece ++ a)) × (length seen < count) × (length piece ≤ 65_536)))
+    ⊎ ((seen : List ℕ) × (piece : List ℕ) × (first ++ b ≡ seen ++ (piece ++ a)) × (length seen < count) × (length piece ≤ BLOCK_BYTES)))
 needed_never count first before after same =
     subst (λ (o : Option (List ℕ)). Told before o (λ b a. (b ≡ a)
-    ⊎ ((seen : List ℕ) × (piece : List ℕ) × (first ++ b ≡ seen ++ (piece ++ a)) × (length seen < count) × (length piece ≤ 65_536))))
+    ⊎ ((seen : List ℕ) × (piece : List ℕ) × (first ++ b ≡ seen ++ (piece ++ a)) × (length seen < count) × (length piece ≤ BLOCK_BYTES))))
     (sym same) (told_self before _ (λ b. inl refl))
 
 -- the end was not found
@@ -339,17 +332,28 @@ ended_short count first None after before now told = tt
 ended_short count first (Some b) None before now told = absurd told
 ended_short count first (Some b) (Some a) before now told = inr told
 
--- all of a rest is short whose last bytes are at hand
-pub short_end : (count : ℕ) (first bytes ahead b a : List ℕ) → length (bytes ++ ahead) < count
-    → first ++ b ≡ bytes ++ (ahead ++ a) → a ≡ [] → length (first ++ b) < count
-short_end count first bytes ahead b a short splits end =
+-- all of a rest is short whose last bytes are at hand, and nothing is left of it
+pub short_end : (count : ℕ) (first bytes ahead : List ℕ) (before between after : Option (List ℕ)) → length (bytes ++ ahead) < count
+    → IsRest first bytes ahead before between → Told between after (λ m a. (m ≡ []) × (a ≡ []))
+    → Told before after (λ b a. (length (first ++ b) < count) × (a ≡ []))
+short_end count first bytes ahead before between after short rest end =
+    told_joins before between after (λ b m. first ++ b ≡ bytes ++ (ahead ++ m)) (λ m a. (m ≡ []) × (a ≡ []))
+    (λ b a. (length (first ++ b) < count) × (a ≡ []))
+    (λ b m a p q.
     let whole : first ++ b ≡ bytes ++ ahead =
-    splits ∙ ap (λ (xs : List ℕ). bytes ++ (ahead ++ xs)) end ∙ ap (λ (xs : List ℕ). bytes ++ xs) (append-nil ahead) in
-    subst (λ (xs : List ℕ). length xs < count) (sym whole) short
+    p ∙ ap (λ (xs : List ℕ). bytes ++ (ahead ++ xs)) q.0 ∙ ap (λ (xs : List ℕ). bytes ++ xs) (append-nil ahead) in
+    (subst (λ (xs : List ℕ). length xs < count) (sym whole) short, q.1)) rest end
 
 -- bytes at hand behind those that were passed
 pub splits_ahead : (first bytes ahead b a : List ℕ) → first ++ b ≡ bytes ++ (ahead ++ a) → first ++ b ≡ (bytes ++ ahead) ++ a
 splits_ahead first bytes ahead b a splits = splits ∙ sym (append_assoc bytes ahead a)
+
+-- where these settle nothing, and no more was taken, they were needed
+pub needed_unsettled : (first bytes ahead : List ℕ) (before after : Option (List ℕ)) → IsUnsettled (bytes ++ ahead)
+    → IsRest first bytes ahead before after → Told before after (λ b a. IsNeeded (first ++ b) a)
+needed_unsettled first bytes ahead before after unsettled rest =
+    told_maps before after (λ b a. first ++ b ≡ bytes ++ (ahead ++ a)) _
+    (λ b a p. needed_unread (first ++ b) (bytes ++ ahead) a a (splits_ahead first bytes ahead b a p) refl unsettled) rest
 
 -- the end was found only where all of the rest settles nothing
 pub ended_rest : (ahead behind : List ℕ) (found : Head) (head : RequestHead) → IsFramedAt ahead found head

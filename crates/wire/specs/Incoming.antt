@@ -100,6 +100,12 @@ abbrev pub IsWithinLimit : Held → Option (List ℕ) → Option (List ℕ) → 
 IsWithinLimit old before after =
     IfSome before (λ b. IsSomeAnd after (λ a. old.offset + length (old.ahead ++ b) ≤ STREAM_BYTES + length a))
 
+-- no more is held than a block, no more of a stream is taken than may be, and a count of faults does not fall
+pub record KeepsBounds (new : Held) (before now : ℕ) : Type 0 where
+  pub block : length new.ahead ≤ BLOCK_BYTES
+  pub limit : taken new ≤ STREAM_BYTES
+  pub counted : before ≤ now
+
 -- a message that another can follow moves the offset on
 abbrev pub Proceeds : Held → Message → Held → Type 0
 Proceeds old (messages.Request verb target body) new = old.offset < new.offset

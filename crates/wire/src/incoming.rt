@@ -6,7 +6,7 @@ ghost use Rattle.httparse.specs.Grammar.{RequestHead};
 ghost use Rattle.devices.specs.Sources as sources;
 ghost use Rattle.devices.specs.Sources.{IsTakenWithin, Takes, IsEndCounted};
 ghost use Rattle.wire.specs.Framing.{body_length};
-ghost use Rattle.wire.specs.Incoming.{Held, taken, IsNext, Answers, AwaitsHead, AwaitsBody, IsUnsettled, IsTakenAsNeeded, IsEndedAsNeeded, IsWithinLimit, Proceeds, HasCause};
+ghost use Rattle.wire.specs.Incoming.{Held, taken, IsNext, Answers, AwaitsHead, AwaitsBody, IsUnsettled, IsTakenAsNeeded, IsEndedAsNeeded, IsWithinLimit, KeepsBounds, Proceeds, HasCause};
 ghost use Rattle.wire.specs.Looking.{IsFramedAt, IsBlankWindow, IsFilled, Keeps, KeepsEnds, HasFault, PassesBytesOf, PassesWholeOf, MovesBy, IsCaused, IsTakenToPass, IsTakenOrNeeded, IsEndedToPass, is_kept};
 
 use crate::framing::{Head, length_of};
@@ -103,10 +103,8 @@ impl Incoming {
         requires { (found : RequestHead) × IsFramedAt self.old.ahead head found }
         ensures answer { Answers self.old (S.left source.old) result self.new (S.left source.new) }
         ensures proceeds { Proceeds self.old result self.new }
-        ensures block { length self.new.ahead ≤ BLOCK_BYTES }
-        ensures limit { taken self.new ≤ STREAM_BYTES }
+        ensures bounds { KeepsBounds self.new (S.faults source.old) (S.faults source.new) }
         ensures within { IsWithinLimit self.old (S.left source.old) (S.left source.new) }
-        ensures counted { S.faults source.old ≤ S.faults source.new }
         ensures cause { HasCause (S.faults source.old) (S.faults source.new) result }
         ensures asked { (source.new ≡ source.old) ⊎ AwaitsBody self.old.ahead }
         ensures needed { IsTakenOrNeeded self.old (S.left source.old) (S.left source.new) }
@@ -132,10 +130,8 @@ impl Incoming {
             → PassesWholeOf found self.old (S.left source.old) body.old result body.new self.new (S.left source.new) }
         ensures moved { MovesBy (head.len + body_length head.frame) self.old result self.new }
         ensures kept { keeps ≡ false → is_kept result ≡ false }
-        ensures block { length self.new.ahead ≤ BLOCK_BYTES }
-        ensures limit { taken self.new ≤ STREAM_BYTES }
+        ensures bounds { KeepsBounds self.new (S.faults source.old) (S.faults source.new) }
         ensures within { IsWithinLimit self.old (S.left source.old) (S.left source.new) }
-        ensures counted { S.faults source.old ≤ S.faults source.new }
         ensures cause { IsCaused (S.faults source.old) (S.faults source.new) result }
         ensures asked { (source.new ≡ source.old) ⊎ AwaitsBody self.old.ahead }
         ensures needed { IsTakenOrNeeded self.old (S.left source.old) (S.left source.new) }
@@ -156,10 +152,8 @@ impl Incoming {
         ensures passed { PassesBytesOf count self.old (S.left source.old) text.old result text.new self.new (S.left source.new) }
         ensures moved { MovesBy count self.old result self.new }
         ensures kept { keeps ≡ false → is_kept result ≡ false }
-        ensures block { length self.new.ahead ≤ BLOCK_BYTES }
-        ensures limit { taken self.new ≤ STREAM_BYTES }
+        ensures bounds { KeepsBounds self.new (S.faults source.old) (S.faults source.new) }
         ensures within { IsWithinLimit self.old (S.left source.old) (S.left source.new) }
-        ensures counted { S.faults source.old ≤ S.faults source.new }
         ensures cause { IsCaused (S.faults source.old) (S.faults source.new) result }
         ensures asked { (source.new ≡ source.old) ⊎ (length self.old.ahead < count) }
         ensures needed { IsTakenToPass count self.old (S.left source.old) (S.left source.new) }
@@ -213,10 +207,8 @@ impl Incoming {
         requires { IsBlankWindow self.old.ahead }
         ensures answer { Answers self.old (S.left source.old) result self.new (S.left source.new) }
         ensures proceeds { Proceeds self.old result self.new }
-        ensures block { length self.new.ahead ≤ BLOCK_BYTES }
-        ensures limit { taken self.new ≤ STREAM_BYTES }
+        ensures bounds { KeepsBounds self.new (S.faults source.old) (S.faults source.new) }
         ensures within { IsWithinLimit self.old (S.left source.old) (S.left source.new) }
-        ensures counted { S.faults source.old ≤ S.faults source.new }
         ensures cause { HasCause (S.faults source.old) (S.faults source.new) result }
         ensures asked { (source.new ≡ source.old) ⊎ (messages.is_blank self.old.ahead ≡ true) }
         ensures needed { IsTakenAsNeeded self.old (S.left source.old) (S.left source.new) }
@@ -249,9 +241,7 @@ impl Incoming {
         requires { length self.old.ahead < HEAD_BYTES }
         ensures filled { IsFilled self.old result self.new }
         ensures kept { Keeps self.old (S.left source.old) result self.new (S.left source.new) }
-        ensures block { length self.new.ahead ≤ BLOCK_BYTES }
-        ensures limit { taken self.new ≤ STREAM_BYTES }
-        ensures counted { S.faults source.old ≤ S.faults source.new }
+        ensures bounds { KeepsBounds self.new (S.faults source.old) (S.faults source.new) }
         ensures cause { HasFault (S.faults source.old) (S.faults source.new) result }
         ensures ended { KeepsEnds (S.ends source.old) (S.ends source.new) result }
     {

@@ -7,18 +7,14 @@ use Rattle.day_cells.proofs.columns.earliest.Goals as goal
 
 pub loop-other-preserved : goal.loop-other-preserved
 loop-other-preserved c =
-    let h = c.loop-other.invariant in
-    let days = c.args.days.now in
-    let i = c.loop-other.other-index in
-    let other = c.other-item.result in
     let first = c.earlier_of-first.ensures.first in
     let second = c.earlier_of-first.ensures.second in
-    let low = h.low in
+    let low = c.loop-other.invariant.low in
     let here = c.other-item.is in
     record {
       low = omega (arith, ints);
-      all = All-more (λ d. c.earlier_of-first.result ≤ℤ d) days i other c.loop-other-test.true
-          (All-weaker (λ d. c.loop-other.first ≤ℤ d) (λ d. c.earlier_of-first.result ≤ℤ d) (λ d k. omega (arith, ints, k, first)) (take i days) h.all)
+      all = All-more (λ d. c.earlier_of-first.result ≤ℤ d) c.args.days.now c.loop-other.other-index c.other-item.result c.loop-other-test.true
+          (All-weaker (λ d. c.loop-other.first ≤ℤ d) (λ d. c.earlier_of-first.result ≤ℤ d) (λ d k. omega (arith, ints, k, first)) (take c.loop-other.other-index c.args.days.now) c.loop-other.invariant.all)
           (omega (arith, ints));
     }
 

@@ -1,4 +1,4 @@
-use Rattle.std.proofs.Common.{◌≡◌, ◌++◌, ◌≤◌, length, List, ℕ, Some, IfSome}
+use Rattle.std.proofs.Common.{◌≡◌, ◌++◌, length, List, ℕ, Some, IfSome}
 use Rattle.devices.proofs.sinks.put_all.Given as goal
 
 -- a front of the bytes was put, and the count of faults stands as it was

@@ -1,9 +1,4 @@
 use Rattle.history.proofs.JobLemmas.{inputs_stay}
-use Rattle.history.proofs.VerdictLemmas.{accepted_parts}
-use Rattle.history.proofs.LegalLemmas.{legal_more}
-use Rattle.history.proofs.MergeLemmas.{merged_lists}
-use Rattle.history.proofs.NamedLemmas.{named_new}
-use Rattle.history.proofs.PendingLemmas.{pending_more, cells_more}
 use Rattle.history.proofs.laws.inputs_stay_while_awaited.Goals as goal
 
 pub returns : goal.returns

@@ -3,7 +3,7 @@ use Rattle.std.proofs.Common.{arith, sym, ◌∙◌}
 use Rattle.office_inputs.specs.Kept.{states_of}
 use Rattle.station_inputs.specs.Room.{HasStationRoom}
 use Rattle.station_inputs.specs.Stations.{station_after}
-use Rattle.office_inputs.proofs.ApplyLemmas.{count_set, count_within, free_here, records_none, records_set, stations_set}
+use Rattle.office_inputs.proofs.ApplyLemmas.{count_set, count_within, free_here, states_none, states_set, stations_set}
 use Rattle.office_inputs.proofs.KeepLemmas.{place_after, same_place}
 use Rattle.office_inputs.proofs.PlaceLemmas.{index_within, none_stands, stands}
 use Rattle.office_inputs.proofs.RoomLemmas.{room_here}
@@ -23,10 +23,10 @@ apply-requires-clause-room c =
     room_here (λ k. HasStationRoom k c.args.staged c.args.what.now) c.args.stations.now.items c.args.place.site c.in-Some.index c.index_mut-station.result.now h
     c.index_mut-station.ensures.value c.requires.room
 
-pub returns-in-Some-clause-records : goal.returns-in-Some-clause-records
-returns-in-Some-clause-records c =
+pub returns-in-Some-clause-states : goal.returns-in-Some-clause-states
+returns-in-Some-clause-states c =
     let h = stands c.args.stations.now.items c.args.place c.in-Some.index c.requires.kept.rising c.requires.place (sym c.index.ensures ∙ c.in-Some.is) in
-    records_set c.args.stations.now.items c.args.place.site c.in-Some.index c.index_mut-station.result.now c.apply.new.self (station_after c.args.what.now) h
+    states_set c.args.stations.now.items c.args.place.site c.in-Some.index c.index_mut-station.result.now c.apply.new.self (station_after c.args.what.now) h
     c.index_mut-station.ensures.value c.apply.ensures.station (same_place c.args.what.now c.index_mut-station.result.now.station)
 
 pub returns-in-Some-clause-count : goal.returns-in-Some-clause-count
@@ -50,7 +50,7 @@ returns-in-Some-clause-kept c =
     stations_set c.args.stations.now.items c.args.place.site c.in-Some.index c.index_mut-station.result.now c.apply.new.self c.requires.kept h c.index_mut-station.ensures.value
     (place_after c.args.what.now c.index_mut-station.result.now.station c.apply.new.self.station c.apply.ensures.station) c.apply.ensures.kept
 
-pub returns-in-None-clause-records : goal.returns-in-None-clause-records
-returns-in-None-clause-records c =
-    records_none (states_of c.args.stations.now.items) c.args.place.site (station_after c.args.what.now)
+pub returns-in-None-clause-states : goal.returns-in-None-clause-states
+returns-in-None-clause-states c =
+    states_none (states_of c.args.stations.now.items) c.args.place.site (station_after c.args.what.now)
     (none_stands c.args.stations.now.items c.args.place c.requires.place (sym c.index.ensures ∙ c.in-None.is))

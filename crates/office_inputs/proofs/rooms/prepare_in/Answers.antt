@@ -7,16 +7,16 @@ use Rattle.station_inputs.specs.Stations.{StationState}
 use Rattle.station_inputs.specs.declared.staged.Staged.TheVariants.{Nothing}
 use Rattle.office_inputs.proofs.ApplyLemmas.{stations_set}
 use Rattle.office_inputs.proofs.PlaceLemmas.{index_within, no_room_asked, stands}
-use Rattle.office_inputs.proofs.RoomLemmas.{records_same, room_there, written_found}
+use Rattle.office_inputs.proofs.RoomLemmas.{states_same, room_there, written_found}
 use Rattle.office_inputs.proofs.rooms.prepare_in.Goals as goal
 
 pub index_mut-requires : goal.index_mut-requires
 index_mut-requires c = omega (arith, index_within c.args.stations.now.items c.args.place c.in-Some.index c.requires.place (sym c.index.ensures ∙ c.in-Some.is), c.args.stations.now.ok.0)
 
-pub returns-in-Some-clause-records : goal.returns-in-Some-clause-records
-returns-in-Some-clause-records c =
+pub returns-in-Some-clause-states : goal.returns-in-Some-clause-states
+returns-in-Some-clause-states c =
     let h = stands c.args.stations.now.items c.args.place c.in-Some.index c.requires.stations.rising c.requires.place (sym c.index.ensures ∙ c.in-Some.is) in
-    records_same c.args.stations.now.items c.in-Some.index c.index_mut.result.now c.prepare.new.self h.within c.index_mut.ensures.value c.prepare.ensures.station
+    states_same c.args.stations.now.items c.in-Some.index c.index_mut.result.now c.prepare.new.self h.within c.index_mut.ensures.value c.prepare.ensures.station
 
 pub returns-in-Some-clause-kept : goal.returns-in-Some-clause-kept
 returns-in-Some-clause-kept c =

@@ -24,14 +24,14 @@ returns-clause-unit c =
     let r = c.args.reading in
     let corrected = c.correction_of-correction.ensures in
     let range = c.amount_of-shift.ensures.range in
-    let correction : c.quantity.result ≡ c.correction_of-correction.result =
-    omega (arith, ints, c.quantity.ensures, corrected.low, corrected.high) in
+    let correction : c.of_millionths.result ≡ c.correction_of-correction.result =
+    omega (arith, ints, c.of_millionths.ensures, corrected.low, corrected.high) in
     let stage : c.sum-stage.result ≡ r.raw +ℤ c.correction_of-correction.result =
     omega (arith, ints, c.sum-stage.ensures, corrected.low, corrected.high) in
-    let shift : c.quantity-2.result ≡ c.amount_of-shift.result = omega (arith, ints, c.quantity-2.ensures, range.low, range.high) in
-    let entered : c.sum.result ≡ c.sum-stage.result +ℤ c.quantity-2.result =
-    omega (arith, ints, c.sum.ensures, c.quantity-2.ensures, range.low, range.high) in
-    made c.args.first.now c.args.second.now c.args.third.now c.args.shifts.now c.args.periods.now r c.quantity.result c.sum-stage.result
-    c.quantity-2.result c.discharge_of.result
+    let shift : c.of_millionths-2.result ≡ c.amount_of-shift.result = omega (arith, ints, c.of_millionths-2.ensures, range.low, range.high) in
+    let entered : c.sum.result ≡ c.sum-stage.result +ℤ c.of_millionths-2.result =
+    omega (arith, ints, c.sum.ensures, c.of_millionths-2.ensures, range.low, range.high) in
+    made c.args.first.now c.args.second.now c.args.third.now c.args.shifts.now c.args.periods.now r c.of_millionths.result c.sum-stage.result
+    c.of_millionths-2.result c.discharge_of.result
     (correction ∙ corrected.value) (stage ∙ ap (λ n. r.raw +ℤ n) corrected.value) (shift ∙ c.amount_of-shift.ensures.value)
     (c.discharge_of.ensures.value ∙ ap (λ n. units.discharge r.flag (part_at r.at c.args.periods.now) n) entered)

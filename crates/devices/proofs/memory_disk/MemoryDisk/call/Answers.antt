@@ -3,7 +3,7 @@ use Rattle.devices.specs.Disks.{Only}
 use Rattle.devices.specs.MemoryDisks.{Recorded, content_of, images_of, with_step, IsNoted, DidNothing}
 use Rattle.devices.specs.declared.recordings.Change.{Change}
 use Rattle.devices.specs.declared.recordings.Change.TheVariants.{Nothing}
-use Rattle.devices.proofs.Insides.{was, same_content, same_images, same_time}
+use Rattle.devices.proofs.Insides.{was, leaves_content}
 use Rattle.devices.proofs.Replays.{synced_only}
 use Rattle.devices.proofs.memory_disk.MemoryDisk.call.Goals as goal
 
@@ -16,32 +16,20 @@ did_nothing listed old was new same noted = kept listed (subst (λ (r : Recorded
 pub returns-then-fails_next-clause-nothing : goal.returns-then-fails_next-clause-nothing
 returns-then-fails_next-clause-nothing c = did_nothing c.list.result c.args.self.now.recorded c.self.inside.recording c.list.new.self (was c.self.view_is) c.list.ensures.noted
 
-pub returns-then-fails_next-clause-same : goal.returns-then-fails_next-clause-same
-returns-then-fails_next-clause-same c = same_content c.args.self.now.recorded c.self.inside.recording c.list.new.self (was c.self.view_is) c.list.ensures.same
+pub returns-then-fails_next-clause-left : goal.returns-then-fails_next-clause-left
+returns-then-fails_next-clause-left c =
+    leaves_content c.args.self.now.recorded c.self.inside.recording c.list.new.self (was c.self.view_is)
+    c.list.ensures.same c.list.ensures.images c.list.ensures.time
 
-pub returns-then-fails_next-clause-images : goal.returns-then-fails_next-clause-images
-returns-then-fails_next-clause-images c = same_images c.args.self.now.recorded c.self.inside.recording c.list.new.self (was c.self.view_is) c.list.ensures.images
+pub returns-then-not-list-clause-left : goal.returns-then-not-list-clause-left
+returns-then-not-list-clause-left c =
+    leaves_content c.args.self.now.recorded c.self.inside.recording c.list-2.new.self (was c.self.view_is)
+    c.list-2.ensures.same c.list-2.ensures.images c.list-2.ensures.time
 
-pub returns-then-fails_next-clause-time : goal.returns-then-fails_next-clause-time
-returns-then-fails_next-clause-time c = same_time c.args.self.now.recorded c.self.inside.recording c.list.new.self (was c.self.view_is) c.list.ensures.time
-
-pub returns-then-not-list-clause-same : goal.returns-then-not-list-clause-same
-returns-then-not-list-clause-same c = same_content c.args.self.now.recorded c.self.inside.recording c.list-2.new.self (was c.self.view_is) c.list-2.ensures.same
-
-pub returns-then-not-list-clause-images : goal.returns-then-not-list-clause-images
-returns-then-not-list-clause-images c = same_images c.args.self.now.recorded c.self.inside.recording c.list-2.new.self (was c.self.view_is) c.list-2.ensures.images
-
-pub returns-then-not-list-clause-time : goal.returns-then-not-list-clause-time
-returns-then-not-list-clause-time c = same_time c.args.self.now.recorded c.self.inside.recording c.list-2.new.self (was c.self.view_is) c.list-2.ensures.time
-
-pub returns-clause-same : goal.returns-clause-same
-returns-clause-same c = same_content c.args.self.now.recorded c.self.inside.recording c.list-2.new.self (was c.self.view_is) c.list-2.ensures.same
-
-pub returns-clause-images : goal.returns-clause-images
-returns-clause-images c = same_images c.args.self.now.recorded c.self.inside.recording c.list-2.new.self (was c.self.view_is) c.list-2.ensures.images
-
-pub returns-clause-time : goal.returns-clause-time
-returns-clause-time c = same_time c.args.self.now.recorded c.self.inside.recording c.list-2.new.self (was c.self.view_is) c.list-2.ensures.time
+pub returns-clause-left : goal.returns-clause-left
+returns-clause-left c =
+    leaves_content c.args.self.now.recorded c.self.inside.recording c.list-2.new.self (was c.self.view_is)
+    c.list-2.ensures.same c.list-2.ensures.images c.list-2.ensures.time
 
 pub returns-clause-durable : goal.returns-clause-durable
 returns-clause-durable c synced =

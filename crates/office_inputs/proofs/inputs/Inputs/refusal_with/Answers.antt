@@ -7,7 +7,7 @@ use Rattle.office_inputs.specs.Kept.{in_force}
 use Rattle.office_inputs.specs.Refusals.{limit_of}
 use Rattle.station_inputs.specs.Counts.{passed_count}
 use Rattle.station_inputs.specs.Stations.{station_after}
-use Rattle.office_inputs.proofs.ApplyLemmas.{records_rise}
+use Rattle.office_inputs.proofs.ApplyLemmas.{states_rise}
 use Rattle.office_inputs.proofs.KeepLemmas.{adds_not}
 use Rattle.office_inputs.proofs.RefusingLemmas.{own_site, refused_other, refused_readings}
 use Rattle.office_inputs.proofs.inputs.Inputs.refusal_with.Goals as goal
@@ -27,5 +27,5 @@ returns-in_default c =
     c.refusal_by_station.ensures
     ∙ refused_other c.args.self.now.limits (in_force c.args.self.now) c.args.edit.now s
     (option_map limit_of (passed_count s (station_after c.args.edit.now.what s)))
-    (records_rise c.args.self.now.kept c.stations_keep_to_their_ranges.ensures.rising) c.requires.found
+    (states_rise c.args.self.now.kept c.stations_keep_to_their_ranges.ensures.rising) c.requires.found
     (adds_not c.args.edit.now.what c.in_default.not-AddStation) c.in_default.not-PutReadings refl

@@ -1,14 +1,22 @@
 use Rattle.std.specs.Prelude.{◌≡◌, ℕ, ◌+◌, ◌-◌, ◌*◌, ◌<◌, ◌≤◌, ◌^◌, not, length, find, slice_get, count_by, is_none, Some, None, option_and_then}
 use Rattle.std.proofs.Common.{rules, arith, ap, sym, ◌∙◌, add-zero, Fits, w64}
 use Rattle.std.proofs.lemmas.List.{get_or-set_same}
+use Rattle.fixed_units.specs.Calendar.{days_of_calendar}
 use Rattle.day_cells.specs.Spans.{days_of}
 use Rattle.day_cells.specs.KeptDays.{KeptDays, awaited_on, waiting_of}
 use Rattle.recompute.specs.Cells.{station_of, awaited_in, waiting, IsPlace, IsGap}
 use Rattle.recompute.proofs.ReplaceLemmas.{IsReplaced, pending_most, cells_most, pending_part, cells_part, was_there, pending_replaced, cells_replaced, keeps_replaced, marks, no_room, marks_none, fresh_days, first_back}
 use Rattle.recompute.proofs.cells.Cells.mark.Goals as goal
+use Rattle.recompute.proofs.cells.Cells.mark.Goals.{After-mark}
 
-fits_small : (n : ℕ) → n ≤ 4_294_967_296 * 73_049 + 73_049 → Fits w64 n
+fits_small : (n : ℕ) → n ≤ 4_294_967_296 * days_of_calendar + days_of_calendar → Fits w64 n
 fits_small n h = let l : n < 2 ^ 64 = omega arith in search rules
+
+-- the cells of the station stand replaced by those that it has after the call
+replaced : (c : After-mark) → IsReplaced c.self.inside.stations.items c.args.site c.in-Ok.place c.index_mut.result.now c.mark.new.self
+replaced c =
+    let here : IsPlace c.self.inside.stations.items c.args.site c.in-Ok.place = rw c.deref.ensures.value at c.in-Ok.ensures.found in
+    record { rising = c.self.invariant.rising; here = here; was = c.index_mut.ensures.value; same = c.mark.ensures.marks.site }
 
 pub mark-requires-clause-room : goal.mark-requires-clause-room
 mark-requires-clause-room c k d l =
@@ -52,17 +60,16 @@ invariant_of-self c =
     let place = c.in-Ok.place in
     let old = c.index_mut.result.now in
     let new = c.mark.new.self in
-    let here : IsPlace stations c.args.site place = rw c.deref.ensures.value at c.in-Ok.ensures.found in
-    let h : IsReplaced stations c.args.site place old new = record { rising = c.self.invariant.rising; here = here; was = c.index_mut.ensures.value; same = c.mark.ensures.marks.site } in
+    let h = replaced (goal.at.invariant_of-self c).After-mark in
     let k = c.self.invariant in
-    let l = here.within in
+    let l = h.here.within in
     let e = ap (λ (s : KeptDays). days_of s.span) h.was in
     let e1 = ap (λ (s : KeptDays). length (waiting_of s)) h.was in
     let there = get_or-set_same stations place new new l in
     let s1 = ap (λ (s : KeptDays). days_of s.span) there in
     let w1 = ap (λ (s : KeptDays). length (waiting_of s)) there in
-    let pending = pending_replaced stations c.args.site place old new h in
-    let cells = cells_replaced stations c.args.site place old new h in
+    let pending = pending_replaced _ _ _ _ _ h in
+    let cells = cells_replaced _ _ _ _ _ h in
     let was = k.pending_days in
     let had = k.kept_cells in
     let fw = k.within in
@@ -76,7 +83,7 @@ invariant_of-self c =
     let m1 = c.cells_at.ensures.most in
     let part = pending_part stations place old l in
     let part1 = cells_part stations place old l in
-    keeps_replaced stations c.args.site place old new h c.self.inside.pending c.self.inside.cells c.self.inside.first c.self.inside.unclaimed
+    keeps_replaced _ _ _ _ _ h c.self.inside.pending c.self.inside.cells c.self.inside.first c.self.inside.unclaimed
     (c.self.inside.pending - c.pending_at-pending.result + c.pending_at.result) (c.self.inside.cells - c.cells_at-cells.result + c.cells_at.result)
     c.min-self-inside.result c.min-self-inside-in-Ok.result c.self.inside.empty k
     (omega (arith, c1 new, s1, m1)) (omega (arith, pending, was, p0 old, p1 new, e1, w1, part)) (omega (arith, cells, had, c0 old, c1 new, e, s1, part1))
@@ -87,27 +94,17 @@ invariant_of-self c =
 
 pub returns-in-Ok-clause-marks : goal.returns-in-Ok-clause-marks
 returns-in-Ok-clause-marks c =
-    let stations = c.self.inside.stations.items in
-    let place = c.in-Ok.place in
-    let old = c.index_mut.result.now in
-    let new = c.mark.new.self in
-    let here : IsPlace stations c.args.site place = rw c.deref.ensures.value at c.in-Ok.ensures.found in
-    let h : IsReplaced stations c.args.site place old new = record { rising = c.self.invariant.rising; here = here; was = c.index_mut.ensures.value; same = c.mark.ensures.marks.site } in
-    rw (← c.self.view_is) (marks stations c.args.site place old new h c.args.changed.now c.args.edit c.requires.edit c.mark.ensures.marks c.mark.ensures.span)
+    let h = replaced (goal.at.returns-in-Ok-clause-marks c).After-mark in
+    rw (← c.self.view_is) (marks _ _ _ _ _ h c.args.changed.now c.args.edit c.requires.edit c.mark.ensures.marks c.mark.ensures.span)
 
 pub returns-in-Ok-clause-pending : goal.returns-in-Ok-clause-pending
 returns-in-Ok-clause-pending c =
-    let stations = c.self.inside.stations.items in
-    let place = c.in-Ok.place in
-    let old = c.index_mut.result.now in
-    let new = c.mark.new.self in
-    let here : IsPlace stations c.args.site place = rw c.deref.ensures.value at c.in-Ok.ensures.found in
-    let h : IsReplaced stations c.args.site place old new = record { rising = c.self.invariant.rising; here = here; was = c.index_mut.ensures.value; same = c.mark.ensures.marks.site } in
+    let h = replaced (goal.at.returns-in-Ok-clause-pending c).After-mark in
     let days = c.args.changed.now in
-    let pending = pending_replaced stations c.args.site place old new h in
+    let pending = pending_replaced _ _ _ _ _ h in
     let count = c.mark.ensures.count in
-    let fresh = fresh_days old days in
-    let there = ap (λ o. count_by (λ d. is_none (option_and_then (λ s. awaited_on s d) o)) days) (was_there stations c.args.site place old new h) in
+    let fresh = fresh_days c.index_mut.result.now days in
+    let there = ap (λ o. count_by (λ d. is_none (option_and_then (λ s. awaited_on s d) o)) days) (was_there _ _ _ _ _ h) in
     rw (← c.self.view_is) (omega (arith, pending, count, fresh, there))
 
 pub returns-in_default-clause-marks : goal.returns-in_default-clause-marks

@@ -5,10 +5,13 @@ use Rattle.wire.specs.Incoming.{Held}
 use Rattle.wire.proofs.IncomingLemmas.{held_grows, held_stays, grown, told_maps}
 use Rattle.wire.proofs.incoming.Incoming.fill.Goals as goal
 
--- the same bytes at hand
-at_hand : {xs ys : List ℕ} (offset : ℕ) → xs ≡ ys
-    → ◌≡◌ {A = Held} (record { ahead = xs; offset = offset }) (record { ahead = ys; offset = offset })
-at_hand offset same = let held : List ℕ → Held = λ ahead. record { ahead = ahead; offset = offset } in ap held same
+-- the bytes at hand stand in a block: where none are read behind them, the same are at hand
+same_at_hand : {items before moved read held : List ℕ} {start end : ℕ} (offset : ℕ) → items ≡ read → take end read ≡ take end before
+    → before ≡ moved → start ≤ end → slice_range moved start end ≡ held
+    → ◌≡◌ {A = Held} (record { ahead = slice_range items start end; offset = offset }) (record { ahead = held; offset = offset })
+same_at_hand offset whole front same le kept =
+    let at_hand : List ℕ → Held = λ ahead. record { ahead = ahead; offset = offset } in
+    ap at_hand (held_stays _ _ _ _ _ _ _ whole front same le kept)
 
 pub returns-in-Bytes-clause-filled : goal.returns-in-Bytes-clause-filled
 returns-in-Bytes-clause-filled g c =
@@ -47,17 +50,15 @@ returns-in-Bytes-clause-kept g c =
 pub returns-in-End-clause-filled : goal.returns-in-End-clause-filled
 returns-in-End-clause-filled g c =
     let block = with_items c.self.inside.block c.make_room-self-inside.new.block in
-    let stays =
-    held_stays _ _ _ _ _ _ _ (with_items_is block _ (search (rules, places)))
-    c.take_behind.ensures.front (c.deref_mut-2.ensures.value ∙ with_items_is c.self.inside.block _ (search (rules, places))) (omega arith)
-    (c.make_room-self-inside.ensures.held ∙ ap (λ (xs : List ℕ). slice_range xs c.self.inside.start c.self.inside.end) c.deref_mut.ensures.value) in
-    at_hand c.self.inside.offset stays ∙ c.self.view_is
+    same_at_hand c.self.inside.offset (with_items_is block _ (search (rules, places))) c.take_behind.ensures.front
+    (c.deref_mut-2.ensures.value ∙ with_items_is c.self.inside.block _ (search (rules, places))) (omega arith)
+    (c.make_room-self-inside.ensures.held ∙ ap (λ (xs : List ℕ). slice_range xs c.self.inside.start c.self.inside.end) c.deref_mut.ensures.value)
+    ∙ c.self.view_is
 
 pub returns-in-Failed-clause-filled : goal.returns-in-Failed-clause-filled
 returns-in-Failed-clause-filled g c =
     let block = with_items c.self.inside.block c.make_room-self-inside.new.block in
-    let stays =
-    held_stays _ _ _ _ _ _ _ (with_items_is block _ (search (rules, places)))
-    c.take_behind.ensures.front (c.deref_mut-2.ensures.value ∙ with_items_is c.self.inside.block _ (search (rules, places))) (omega arith)
-    (c.make_room-self-inside.ensures.held ∙ ap (λ (xs : List ℕ). slice_range xs c.self.inside.start c.self.inside.end) c.deref_mut.ensures.value) in
-    at_hand c.self.inside.offset stays ∙ c.self.view_is
+    same_at_hand c.self.inside.offset (with_items_is block _ (search (rules, places))) c.take_behind.ensures.front
+    (c.deref_mut-2.ensures.value ∙ with_items_is c.self.inside.block _ (search (rules, places))) (omega arith)
+    (c.make_room-self-inside.ensures.held ∙ ap (λ (xs : List ℕ). slice_range xs c.self.inside.start c.self.inside.end) c.deref_mut.ensures.value)
+    ∙ c.self.view_is

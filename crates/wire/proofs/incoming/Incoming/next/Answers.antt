@@ -1,6 +1,7 @@
 use Rattle.std.proofs.Common.{◌≡◌, ◌⊎◌, ℕ, ◌+◌, ◌^◌, ◌≤◌, List, [], ◌++◌, length, take, refl, sym, ap, ◌∙◌, subst, arith, append-nil, inl, inr, ⊎_elim}
 use Rattle.wire.specs.Incoming.{Held, IsNext, AwaitsHead, IsUnsettled, IsNeeded, IsStopped}
 use Rattle.wire.proofs.IncomingLemmas.{told_self, told_maps, told_joins, blank_unsettled, ended_behind, ended_never, ended_joins, was_unsettled, stopped_ahead, needed_unread, needed_ahead, within_rest}
+use Rattle.wire.proofs.PassingLemmas.{rest_same, within_passed, needed_unsettled}
 use Rattle.wire.proofs.incoming.Incoming.next.Goals as goal
 
 pub loop-head-init : goal.loop-head-init
@@ -52,7 +53,7 @@ loop-head-preserved g c =
           c.loop-head.invariant.rest c.in-More.ensures.kept;
       looked = omega (arith, ap length c.held-looked.ensures.held, grown.more);
       unsettled = subst AwaitsHead (sym front) awaits;
-      counted = omega (arith, c.loop-head.invariant.counted, c.fill.ensures.counted);
+      counted = omega (arith, c.loop-head.invariant.counted, c.fill.ensures.bounds.counted);
       ended = c.in-More.ensures.ended ∙ c.loop-head.invariant.ended;
       asked = inr (was_unsettled old.ahead now.ahead _ (inl awaits) c.loop-head.invariant.asked);
     }
@@ -136,23 +137,19 @@ pub returns-in-Long-clause-within : goal.returns-in-Long-clause-within
 returns-in-Long-clause-within g c =
     let old = c.args.self.now in
     let now = c.loop-head.self in
-    let limit : old.offset + length now.ahead ≤ 2 ^ 36 = omega (arith, c.held.ensures.limit, c.loop-head.invariant.offset) in
-    told_joins (g.S.Source.left c.args.source.now) (g.S.Source.left c.loop-head.source) (g.S.Source.left c.fill.new.source)
-    (λ b m. old.ahead ++ b ≡ now.ahead ++ m) (λ m a. a ≡ m)
-    (λ b a. old.offset + length (old.ahead ++ b) ≤ 2 ^ 36 + length a)
-    (λ b m a p q. within_rest old.offset (old.ahead ++ b) now.ahead a (p ∙ ap (λ (xs : List ℕ). now.ahead ++ xs) (sym q)) limit)
-    c.loop-head.invariant.rest c.in-Long.ensures.kept
+    let left = g.S.Source.left in
+    within_passed old.ahead [] now.ahead (left c.args.source.now) (left c.fill.new.source) old.offset now.offset
+    (omega (arith, c.loop-head.invariant.offset)) c.held.ensures.limit
+    (rest_same old.ahead [] now.ahead (left c.args.source.now) (left c.loop-head.source) (left c.fill.new.source) c.loop-head.invariant.rest c.in-Long.ensures.kept)
 
 pub returns-in-Failed-clause-within : goal.returns-in-Failed-clause-within
 returns-in-Failed-clause-within g c =
     let old = c.args.self.now in
     let now = c.loop-head.self in
-    let limit : old.offset + length now.ahead ≤ 2 ^ 36 = omega (arith, c.held.ensures.limit, c.loop-head.invariant.offset) in
-    told_joins (g.S.Source.left c.args.source.now) (g.S.Source.left c.loop-head.source) (g.S.Source.left c.fill.new.source)
-    (λ b m. old.ahead ++ b ≡ now.ahead ++ m) (λ m a. a ≡ m)
-    (λ b a. old.offset + length (old.ahead ++ b) ≤ 2 ^ 36 + length a)
-    (λ b m a p q. within_rest old.offset (old.ahead ++ b) now.ahead a (p ∙ ap (λ (xs : List ℕ). now.ahead ++ xs) (sym q)) limit)
-    c.loop-head.invariant.rest c.in-Failed.ensures.kept
+    let left = g.S.Source.left in
+    within_passed old.ahead [] now.ahead (left c.args.source.now) (left c.fill.new.source) old.offset now.offset
+    (omega (arith, c.loop-head.invariant.offset)) c.held.ensures.limit
+    (rest_same old.ahead [] now.ahead (left c.args.source.now) (left c.loop-head.source) (left c.fill.new.source) c.loop-head.invariant.rest c.in-Failed.ensures.kept)
 
 pub returns-in-Malformed-clause-asked : goal.returns-in-Malformed-clause-asked
 returns-in-Malformed-clause-asked g c = ⊎_elim (λ same. inl same.0) (λ unsettled. inr unsettled) c.loop-head.invariant.asked
@@ -214,11 +211,9 @@ pub returns-in-Long-clause-needed : goal.returns-in-Long-clause-needed
 returns-in-Long-clause-needed g c =
     let old = c.args.self.now in
     let now = c.loop-head.self in
-    let awaits : AwaitsHead now.ahead = subst AwaitsHead c.held.ensures.held c.in-Unfinished.ensures.1 in
-    told_joins (g.S.Source.left c.args.source.now) (g.S.Source.left c.loop-head.source) (g.S.Source.left c.fill.new.source)
-    (λ b m. old.ahead ++ b ≡ now.ahead ++ m) (λ m a. a ≡ m) (λ b a. IsNeeded (old.ahead ++ b) a)
-    (λ b m a p q. needed_unread (old.ahead ++ b) now.ahead a m p q (inl awaits))
-    c.loop-head.invariant.rest c.in-Long.ensures.kept
+    let left = g.S.Source.left in
+    needed_unsettled old.ahead [] now.ahead (left c.args.source.now) (left c.fill.new.source) (inl (subst AwaitsHead c.held.ensures.held c.in-Unfinished.ensures.1))
+    (rest_same old.ahead [] now.ahead (left c.args.source.now) (left c.loop-head.source) (left c.fill.new.source) c.loop-head.invariant.rest c.in-Long.ensures.kept)
 
 pub returns-in-Failed-clause-asked : goal.returns-in-Failed-clause-asked
 returns-in-Failed-clause-asked g c =
@@ -230,11 +225,9 @@ pub returns-in-Failed-clause-needed : goal.returns-in-Failed-clause-needed
 returns-in-Failed-clause-needed g c =
     let old = c.args.self.now in
     let now = c.loop-head.self in
-    let awaits : AwaitsHead now.ahead = subst AwaitsHead c.held.ensures.held c.in-Unfinished.ensures.1 in
-    told_joins (g.S.Source.left c.args.source.now) (g.S.Source.left c.loop-head.source) (g.S.Source.left c.fill.new.source)
-    (λ b m. old.ahead ++ b ≡ now.ahead ++ m) (λ m a. a ≡ m) (λ b a. IsNeeded (old.ahead ++ b) a)
-    (λ b m a p q. needed_unread (old.ahead ++ b) now.ahead a m p q (inl awaits))
-    c.loop-head.invariant.rest c.in-Failed.ensures.kept
+    let left = g.S.Source.left in
+    needed_unsettled old.ahead [] now.ahead (left c.args.source.now) (left c.fill.new.source) (inl (subst AwaitsHead c.held.ensures.held c.in-Unfinished.ensures.1))
+    (rest_same old.ahead [] now.ahead (left c.args.source.now) (left c.loop-head.source) (left c.fill.new.source) c.loop-head.invariant.rest c.in-Failed.ensures.kept)
 
 pub returns-in-Malformed-clause-ended : goal.returns-in-Malformed-clause-ended
 returns-in-Malformed-clause-ended g c = ended_never c.args.self.now.ahead (g.S.Source.left c.args.source.now) _ _ c.loop-head.invariant.ended

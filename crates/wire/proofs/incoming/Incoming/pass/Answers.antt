@@ -1,4 +1,5 @@
 use Rattle.std.proofs.Common.{◌≡◌, ◌⊎◌, ℕ, ◌<◌, ◌≤◌, List, ◌++◌, length, drop, sym, ap, ◌∙◌, subst, arith, inl, inr, ⊎_elim}
+use Rattle.wire.specs.declared.limits.TheConstants.{BLOCK_BYTES}
 use Rattle.wire.specs.Framing.{body_length}
 use Rattle.wire.specs.Incoming.{Held, IsNeeded}
 use Rattle.wire.specs.Looking.{PassesBytes, PassesWhole, MovesBy}
@@ -48,7 +49,7 @@ returns-clause-needed g c =
     told_maps (g.S.Source.left c.args.source.now) (g.S.Source.left c.pass_bytes.new.source)
     (λ b a. (b ≡ a)
     ⊎ ((seen : List ℕ) × (piece : List ℕ) × (mid.ahead ++ b ≡ seen ++ (piece ++ a)) × (length seen < c.length_of.result)
-    × (length piece ≤ 65_536)))
+    × (length piece ≤ BLOCK_BYTES)))
     (λ b a. (b ≡ a) ⊎ IsNeeded (old.ahead ++ b) a)
     (λ b a p.
     ⊎_elim (λ same. inl same)

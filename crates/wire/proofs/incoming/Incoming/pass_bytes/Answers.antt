@@ -2,7 +2,7 @@ use Rattle.std.proofs.Common.{◌≡◌, ℕ, ◌+◌, ◌^◌, ◌<◌, ◌≤�
 use Rattle.std.proofs.lemmas.List.{length-take, take_all, drop_all}
 use Rattle.wire.specs.Incoming.{Held}
 use Rattle.wire.proofs.IncomingLemmas.{told_self, told_maps, told_joins}
-use Rattle.wire.proofs.PassingLemmas.{joins_front, passes_all, rest_same, rest_end, short_end, splits_ahead}
+use Rattle.wire.proofs.PassingLemmas.{joins_front, passes_all, rest_same, short_end, splits_ahead}
 use Rattle.wire.proofs.incoming.Incoming.pass_bytes.Goals as goal
 
 pub loop-missing-init : goal.loop-missing-init
@@ -53,7 +53,7 @@ loop-missing-preserved g c =
             so_far.4 c.in-More.ensures.kept,
       );
       kept = λ k. c.loop-missing.invariant.kept (c.add-kept.ensures.kept k);
-      counted = omega (arith, c.loop-missing.invariant.counted, c.fill.ensures.counted);
+      counted = omega (arith, c.loop-missing.invariant.counted, c.fill.ensures.bounds.counted);
       ended = c.in-More.ensures.ended ∙ c.loop-missing.invariant.ended;
       asked = inr (
         ⊎_elim (λ same. let e : length now.ahead ≡ length first = ap length same.1 in omega (arith, e, all, same.2, c.if-missing-eq0.false)) (λ was. was.0)
@@ -90,17 +90,13 @@ returns-then-missing-eq0-clause-passed g c =
 
 pub returns-in-End-clause-passed : goal.returns-in-End-clause-passed
 returns-in-End-clause-passed g c =
-    let first = c.args.self.now.ahead in
     let now = c.loop-missing.self in
+    let left = g.S.Source.left in
     let so_far = c.loop-missing.invariant.passed in
-    let bytes = so_far.0 in
-    let short : length (bytes ++ now.ahead) < c.args.count =
-    omega (arith, so_far.1, length-append bytes now.ahead, c.min-here.ensures, ap length c.held.ensures.held, c.if-missing-eq0.false) in
-    told_maps (g.S.Source.left c.args.source.now) (g.S.Source.left c.fill.new.source)
-    (λ b a. (first ++ b ≡ bytes ++ (now.ahead ++ a)) × (a ≡ [])) _
-    (λ b a p. (short_end c.args.count first bytes now.ahead b a short p.0 p.1, p.1))
-    (rest_end first bytes now.ahead (g.S.Source.left c.args.source.now) (g.S.Source.left c.loop-missing.source) (g.S.Source.left c.fill.new.source)
-    so_far.4 c.in-End.ensures.kept)
+    let short : length (so_far.0 ++ now.ahead) < c.args.count =
+    omega (arith, so_far.1, length-append so_far.0 now.ahead, c.min-here.ensures, ap length c.held.ensures.held, c.if-missing-eq0.false) in
+    short_end c.args.count c.args.self.now.ahead so_far.0 now.ahead (left c.args.source.now) (left c.loop-missing.source) (left c.fill.new.source)
+    short so_far.4 c.in-End.ensures.kept
 
 pub returns-in-Long-clause-passed : goal.returns-in-Long-clause-passed
 returns-in-Long-clause-passed g c =

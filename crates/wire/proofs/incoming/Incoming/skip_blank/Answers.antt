@@ -1,9 +1,31 @@
-use Rattle.std.proofs.Common.{◌≡◌, ℕ, ◌+◌, ◌-◌, ◌^◌, ◌≤◌, true, false, List, [], ◌++◌, length, drop, refl, sym, ap, ◌∙◌, subst, arith, append_assoc, append-nil, length-append, inl, inr, ⊎_elim}
+use Rattle.std.proofs.Common.{◌≡◌, ℕ, ◌+◌, ◌-◌, ◌^◌, ◌≤◌, true, false, List, [], ◌++◌, length, drop, Option, refl, sym, ap, ◌∙◌, subst, arith, append_assoc, append-nil, length-append, inl, inr, ⊎_elim}
 use Rattle.std.proofs.lemmas.List.{length-take}
 use Rattle.wire.specs.Incoming.{Held, taken, IsNeeded, IsStopped}
 use Rattle.wire.specs.Messages.{is_blank, IsMalformed}
-use Rattle.wire.proofs.IncomingLemmas.{told_self, told_maps, told_joins, blank-append, blank_window_more, blank_unsettled, ended_behind, ended_never, malformed_behind, needed_unread, stopped_blank, was_blank, within_skipped}
+use Rattle.wire.proofs.IncomingLemmas.{Told, told_self, told_maps, told_joins, blank-append, blank_window_more, blank_unsettled, ended_behind, ended_never, malformed_behind, needed_unread, stopped_blank, was_blank, within_skipped}
+use Rattle.wire.proofs.PassingLemmas.{IsRest, rest_same, within_passed, needed_unsettled}
 use Rattle.wire.proofs.incoming.Incoming.skip_blank.Goals as goal
+
+-- the stream is stopped behind blank bytes, all of which were skipped
+stopped_behind : (old now new : Held) (skipped : List ℕ) (before between after : Option (List ℕ))
+    → length skipped ≡ now.offset - old.offset → old.offset ≤ now.offset → is_blank skipped ≡ true → is_blank now.ahead ≡ true
+    → new ≡ record { ahead = []; offset = taken now } → IsRest old.ahead skipped now.ahead before between → Told between after (λ m a. a ≡ m)
+    → Told before after (λ b a. IsStopped (old.ahead ++ b) old.offset (skipped ++ now.ahead) (new.ahead ++ a) a new.offset)
+stopped_behind old now new skipped before between after count forward front blank none rest same =
+    let moved : new.offset ≡ old.offset + length (skipped ++ now.ahead) =
+    omega (arith, count, length-append skipped now.ahead, forward, ap (λ (h : Held). h.offset) none) in
+    told_joins before between after (λ b m. old.ahead ++ b ≡ skipped ++ (now.ahead ++ m)) (λ m a. a ≡ m) _
+    (λ b m a p q. stopped_blank (old.ahead ++ b) (skipped ++ now.ahead) (new.ahead ++ a) a m old.offset new.offset
+    (p ∙ sym (append_assoc skipped now.ahead m)) q (blank-append skipped now.ahead front blank)
+    (ap (λ (h : Held). h.ahead ++ a) none) moved)
+    rest same
+
+-- and blank bytes behind which no more was taken were needed
+needed_behind_blank : (first skipped ahead : List ℕ) (before between after : Option (List ℕ)) → is_blank skipped ≡ true → is_blank ahead ≡ true
+    → IsRest first skipped ahead before between → Told between after (λ m a. a ≡ m) → Told before after (λ b a. IsNeeded (first ++ b) a)
+needed_behind_blank first skipped ahead before between after front blank rest same =
+    needed_unsettled first skipped ahead before after (inl (blank_unsettled (skipped ++ ahead) (blank-append skipped ahead front blank)))
+    (rest_same first skipped ahead before between after rest same)
 
 pub loop-self-init : goal.loop-self-init
 loop-self-init g c =
@@ -55,8 +77,8 @@ loop-self-preserved g c =
       some = omega (arith, grown.more);
       forward = omega (arith, grown.offset, moved, c.loop-self.invariant.forward);
       begun = c.loop-self.invariant.begun;
-      limit = c.fill.ensures.limit;
-      counted = omega (arith, c.loop-self.invariant.counted, c.fill.ensures.counted);
+      limit = c.fill.ensures.bounds.limit;
+      counted = omega (arith, c.loop-self.invariant.counted, c.fill.ensures.bounds.counted);
       ended = c.in-More.ensures.ended ∙ c.loop-self.invariant.ended;
       asked = inr (was_blank old.ahead now.ahead _ blank c.loop-self.invariant.asked);
     }
@@ -66,18 +88,9 @@ returns-in-Long-clause-answer g c =
     let old = c.args.self.now in
     let now = c.loop-self.self in
     let new = c.fill.new.self in
+    let left = g.S.Source.left in
     let so_far = c.loop-self.invariant.skipped in
     let seen : List ℕ = so_far.0 ++ now.ahead in
-    let blank : is_blank now.ahead ≡ true = ap is_blank (sym c.held.ensures.held) ∙ sym c.loop-self-test.ensures in
-    let left : new ≡ record { ahead = []; offset = taken now } = c.in-Long.ensures.filled.0 ∙ c.skip_all.ensures in
-    let moved : new.offset ≡ old.offset + length seen =
-    omega (
-      arith,
-      so_far.1,
-      length-append so_far.0 now.ahead,
-      c.loop-self.invariant.forward,
-      ap (λ (h : Held). h.offset) left,
-    ) in
     let count : old.offset + length seen ≡ 2 ^ 36 =
     omega (
       arith,
@@ -88,42 +101,29 @@ returns-in-Long-clause-answer g c =
       ap (λ (h : Held). h.offset) c.skip_all.ensures,
       ap (λ (h : Held). length h.ahead) c.skip_all.ensures,
     ) in
-    told_joins (g.S.Source.left c.args.source.now) (g.S.Source.left c.loop-self.source) (g.S.Source.left c.fill.new.source)
-    (λ b m. old.ahead ++ b ≡ so_far.0 ++ (now.ahead ++ m)) (λ m a. a ≡ m)
+    let blank : is_blank now.ahead ≡ true = ap is_blank (sym c.held.ensures.held) ∙ sym c.loop-self-test.ensures in
+    told_maps (left c.args.source.now) (left c.fill.new.source)
+    (λ b a. IsStopped (old.ahead ++ b) old.offset seen (new.ahead ++ a) a new.offset)
     (λ b a.
     (seen : List ℕ) × IsStopped (old.ahead ++ b) old.offset seen (new.ahead ++ a) a new.offset × (old.offset + length seen ≡ 2 ^ 36))
-    (λ b m a p q.
-    let stopped = stopped_blank (old.ahead ++ b) seen (new.ahead ++ a) a m old.offset new.offset
-    (p ∙ sym (append_assoc so_far.0 now.ahead m)) q (blank-append so_far.0 now.ahead so_far.2 blank)
-    (ap (λ (h : Held). h.ahead ++ a) left) moved in (seen, stopped, count))
-    so_far.4 c.in-Long.ensures.kept
+    (λ b a stopped. (seen, stopped, count))
+    (stopped_behind old now new so_far.0 (left c.args.source.now) (left c.loop-self.source) (left c.fill.new.source) so_far.1
+    c.loop-self.invariant.forward so_far.2 blank (c.in-Long.ensures.filled.0 ∙ c.skip_all.ensures) so_far.4 c.in-Long.ensures.kept)
 
 pub returns-in-Failed-clause-answer : goal.returns-in-Failed-clause-answer
 returns-in-Failed-clause-answer g c =
     let old = c.args.self.now in
     let now = c.loop-self.self in
     let new = c.fill.new.self in
+    let left = g.S.Source.left in
     let so_far = c.loop-self.invariant.skipped in
-    let seen : List ℕ = so_far.0 ++ now.ahead in
     let blank : is_blank now.ahead ≡ true = ap is_blank (sym c.held.ensures.held) ∙ sym c.loop-self-test.ensures in
-    let left : new ≡ record { ahead = []; offset = taken now } = c.in-Failed.ensures.filled ∙ c.skip_all.ensures in
-    let moved : new.offset ≡ old.offset + length seen =
-    omega (
-      arith,
-      so_far.1,
-      length-append so_far.0 now.ahead,
-      c.loop-self.invariant.forward,
-      ap (λ (h : Held). h.offset) left,
-    ) in
-    told_joins (g.S.Source.left c.args.source.now) (g.S.Source.left c.loop-self.source) (g.S.Source.left c.fill.new.source)
-    (λ b m. old.ahead ++ b ≡ so_far.0 ++ (now.ahead ++ m)) (λ m a. a ≡ m)
-    (λ b a.
-    (seen : List ℕ) × IsStopped (old.ahead ++ b) old.offset seen (new.ahead ++ a) a new.offset)
-    (λ b m a p q.
-    let stopped = stopped_blank (old.ahead ++ b) seen (new.ahead ++ a) a m old.offset new.offset
-    (p ∙ sym (append_assoc so_far.0 now.ahead m)) q (blank-append so_far.0 now.ahead so_far.2 blank)
-    (ap (λ (h : Held). h.ahead ++ a) left) moved in (seen, stopped))
-    so_far.4 c.in-Failed.ensures.kept
+    told_maps (left c.args.source.now) (left c.fill.new.source)
+    (λ b a. IsStopped (old.ahead ++ b) old.offset (so_far.0 ++ now.ahead) (new.ahead ++ a) a new.offset)
+    (λ b a. (seen : List ℕ) × IsStopped (old.ahead ++ b) old.offset seen (new.ahead ++ a) a new.offset)
+    (λ b a stopped. (so_far.0 ++ now.ahead, stopped))
+    (stopped_behind old now new so_far.0 (left c.args.source.now) (left c.loop-self.source) (left c.fill.new.source) so_far.1
+    c.loop-self.invariant.forward so_far.2 blank (c.in-Failed.ensures.filled ∙ c.skip_all.ensures) so_far.4 c.in-Failed.ensures.kept)
 
 pub returns-clause-answer : goal.returns-clause-answer
 returns-clause-answer g c =
@@ -151,27 +151,21 @@ returns-in-End-clause-within g c =
 
 pub returns-in-Long-clause-within : goal.returns-in-Long-clause-within
 returns-in-Long-clause-within g c =
-    let old = c.args.self.now in
     let now = c.loop-self.self in
+    let left = g.S.Source.left in
     let so_far = c.loop-self.invariant.skipped in
-    told_joins (g.S.Source.left c.args.source.now) (g.S.Source.left c.loop-self.source) (g.S.Source.left c.fill.new.source)
-    (λ b m. old.ahead ++ b ≡ so_far.0 ++ (now.ahead ++ m)) (λ m a. a ≡ m)
-    (λ b a. old.offset + length (old.ahead ++ b) ≤ 2 ^ 36 + length a)
-    (λ b m a p q. within_skipped old.offset now.offset (old.ahead ++ b) so_far.0 now.ahead a
-    (p ∙ ap (λ (xs : List ℕ). so_far.0 ++ (now.ahead ++ xs)) (sym q)) so_far.1 c.loop-self.invariant.forward c.loop-self.invariant.limit)
-    so_far.4 c.in-Long.ensures.kept
+    within_passed c.args.self.now.ahead so_far.0 now.ahead (left c.args.source.now) (left c.fill.new.source) c.args.self.now.offset now.offset
+    (omega (arith, so_far.1, c.loop-self.invariant.forward)) c.loop-self.invariant.limit
+    (rest_same _ so_far.0 now.ahead (left c.args.source.now) (left c.loop-self.source) (left c.fill.new.source) so_far.4 c.in-Long.ensures.kept)
 
 pub returns-in-Failed-clause-within : goal.returns-in-Failed-clause-within
 returns-in-Failed-clause-within g c =
-    let old = c.args.self.now in
     let now = c.loop-self.self in
+    let left = g.S.Source.left in
     let so_far = c.loop-self.invariant.skipped in
-    told_joins (g.S.Source.left c.args.source.now) (g.S.Source.left c.loop-self.source) (g.S.Source.left c.fill.new.source)
-    (λ b m. old.ahead ++ b ≡ so_far.0 ++ (now.ahead ++ m)) (λ m a. a ≡ m)
-    (λ b a. old.offset + length (old.ahead ++ b) ≤ 2 ^ 36 + length a)
-    (λ b m a p q. within_skipped old.offset now.offset (old.ahead ++ b) so_far.0 now.ahead a
-    (p ∙ ap (λ (xs : List ℕ). so_far.0 ++ (now.ahead ++ xs)) (sym q)) so_far.1 c.loop-self.invariant.forward c.loop-self.invariant.limit)
-    so_far.4 c.in-Failed.ensures.kept
+    within_passed c.args.self.now.ahead so_far.0 now.ahead (left c.args.source.now) (left c.fill.new.source) c.args.self.now.offset now.offset
+    (omega (arith, so_far.1, c.loop-self.invariant.forward)) c.loop-self.invariant.limit
+    (rest_same _ so_far.0 now.ahead (left c.args.source.now) (left c.loop-self.source) (left c.fill.new.source) so_far.4 c.in-Failed.ensures.kept)
 
 pub returns-clause-within : goal.returns-clause-within
 returns-clause-within g c =
@@ -210,15 +204,12 @@ returns-in-Long-clause-asked g c =
 
 pub returns-in-Long-clause-needed : goal.returns-in-Long-clause-needed
 returns-in-Long-clause-needed g c =
-    let old = c.args.self.now in
     let now = c.loop-self.self in
+    let left = g.S.Source.left in
     let so_far = c.loop-self.invariant.skipped in
     let blank : is_blank now.ahead ≡ true = ap is_blank (sym c.held.ensures.held) ∙ sym c.loop-self-test.ensures in
-    told_joins (g.S.Source.left c.args.source.now) (g.S.Source.left c.loop-self.source) (g.S.Source.left c.fill.new.source)
-    (λ b m. old.ahead ++ b ≡ so_far.0 ++ (now.ahead ++ m)) (λ m a. a ≡ m) (λ b a. IsNeeded (old.ahead ++ b) a)
-    (λ b m a p q. needed_unread (old.ahead ++ b) (so_far.0 ++ now.ahead) a m (p ∙ sym (append_assoc so_far.0 now.ahead m)) q
-    (inl (blank_unsettled (so_far.0 ++ now.ahead) (blank-append so_far.0 now.ahead so_far.2 blank))))
-    so_far.4 c.in-Long.ensures.kept
+    needed_behind_blank c.args.self.now.ahead so_far.0 now.ahead (left c.args.source.now) (left c.loop-self.source) (left c.fill.new.source)
+    so_far.2 blank so_far.4 c.in-Long.ensures.kept
 
 pub returns-in-Failed-clause-asked : goal.returns-in-Failed-clause-asked
 returns-in-Failed-clause-asked g c =
@@ -228,15 +219,12 @@ returns-in-Failed-clause-asked g c =
 
 pub returns-in-Failed-clause-needed : goal.returns-in-Failed-clause-needed
 returns-in-Failed-clause-needed g c =
-    let old = c.args.self.now in
     let now = c.loop-self.self in
+    let left = g.S.Source.left in
     let so_far = c.loop-self.invariant.skipped in
     let blank : is_blank now.ahead ≡ true = ap is_blank (sym c.held.ensures.held) ∙ sym c.loop-self-test.ensures in
-    told_joins (g.S.Source.left c.args.source.now) (g.S.Source.left c.loop-self.source) (g.S.Source.left c.fill.new.source)
-    (λ b m. old.ahead ++ b ≡ so_far.0 ++ (now.ahead ++ m)) (λ m a. a ≡ m) (λ b a. IsNeeded (old.ahead ++ b) a)
-    (λ b m a p q. needed_unread (old.ahead ++ b) (so_far.0 ++ now.ahead) a m (p ∙ sym (append_assoc so_far.0 now.ahead m)) q
-    (inl (blank_unsettled (so_far.0 ++ now.ahead) (blank-append so_far.0 now.ahead so_far.2 blank))))
-    so_far.4 c.in-Failed.ensures.kept
+    needed_behind_blank c.args.self.now.ahead so_far.0 now.ahead (left c.args.source.now) (left c.loop-self.source) (left c.fill.new.source)
+    so_far.2 blank so_far.4 c.in-Failed.ensures.kept
 
 pub returns-clause-asked : goal.returns-clause-asked
 returns-clause-asked g c =

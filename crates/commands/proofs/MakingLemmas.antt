@@ -1,7 +1,7 @@
 -- How the making of a journal ends.
-use Rattle.std.proofs.Common.{◌≡◌, ℕ, ◌≤◌, true, List, [], Option, Some, None, IfSome, Result, Ok, Err, refl, sym, subst, inl, inr, ⊎_elim, arith}
+use Rattle.std.proofs.Common.{◌≡◌, ℕ, true, List, [], Option, Some, None, IfSome, Result, Ok, Err, refl, sym, subst, inl, inr, ⊎_elim, arith}
 use Rattle.devices.specs.declared.disks.Disk.{Ghosts}
-use Rattle.devices.specs.Cabinets.{Place, Free, Kept, Out, IsEmptyDisk, IsGiven, IsOpened, IsKept, IsCounted}
+use Rattle.devices.specs.Cabinets.{Place, Free, Kept, Out, IsEmptyDisk, IsGiven, IsOpened, IsKept}
 use Rattle.devices.specs.Disks.{NothingNew}
 use Rattle.devices.specs.Faults.{Rose}
 use Rattle.devices.specs.declared.cabinets.Opened.TheVariants as opens
@@ -15,7 +15,7 @@ use Rattle.commands.specs.Making.{MakesOn, IsLeftByMaking, MakesAt, Makes, IsMak
 use Rattle.commands.specs.RunEnds.{making_end}
 use Rattle.commands.specs.declared.runs.RunEnd.{RunEnd}
 use Rattle.commands.specs.declared.runs.RunEnd.TheVariants as ends
-use Rattle.commands.proofs.PlaceLemmas.{opened_and_kept, leaves_kept, all_stay, rose_kept}
+use Rattle.commands.proofs.PlaceLemmas.{opened_and_kept, leaves_kept}
 
 -- the end says what `init` answered
 made_by : {D T : Type 0} (g : Ghosts D) (bytes : List ℕ) (images : List ℕ → Type 0)
@@ -157,27 +157,6 @@ pub makes_kept : {D : Type 0} (g : Ghosts D) (end : RunEnd)
 makes_kept g end name p0 p1 p2 disk left opened kept makes leaves =
     opened_and_kept g name true p0 p1 p2 disk left (λ before after. MakesAt g end before after)
     opened kept (made_at g end disk left makes leaves)
-
-pub ends_kept : (end : RunEnd) (f f' c0 c1 c2 : ℕ) → IsMakingEnd end f f' → f ≡ 0 → c0 ≤ c1 → IsCounted f' c1 c2 → IsMakingEnd end c0 c2
-ends_kept ends.Made f f' c0 c1 c2 h fresh later counted = tt
-ends_kept ends.Exists f f' c0 c1 c2 h fresh later counted = tt
-ends_kept ends.NotAJournal f f' c0 c1 c2 h fresh later counted = tt
-ends_kept ends.DiskFault f f' c0 c1 c2 h fresh later counted = rose_kept f f' c0 c1 c2 fresh h later counted
-ends_kept (ends.Served end) f f' c0 c1 c2 h fresh later counted = absurd h
-ends_kept (ends.Loaded end) f f' c0 c1 c2 h fresh later counted = absurd h
-ends_kept (ends.Tried end) f f' c0 c1 c2 h fresh later counted = absurd h
-ends_kept (ends.Damaged at) f f' c0 c1 c2 h fresh later counted = absurd h
-ends_kept ends.NoMemory f f' c0 c1 c2 h fresh later counted = tt
-ends_kept ends.Usage f f' c0 c1 c2 h fresh later counted = absurd h
-
--- the cabinet failed
-pub makes_failed : {D : Type 0} (g : Ghosts D)
-    (name : List ℕ) (p0 p1 : Option (List ℕ → Place D))
-    → IsOpened g name true p0 p1 opens.Failed → Makes g ends.DiskFault name p0 p1
-makes_failed g name None p1 opened = tt
-makes_failed g name (Some b) None opened = absurd opened
-makes_failed g name (Some b) (Some a) opened =
-    all_stay name b a (λ before after. MakesAt g ends.DiskFault before after) opened (inl (inl refl, refl))
 
 -- there was no memory for the words, and nothing was done
 pub makes_nothing : {D : Type 0} (g : Ghosts D) (name : List ℕ) (places : Option (List ℕ → Place D)) → Makes g ends.NoMemory name places places

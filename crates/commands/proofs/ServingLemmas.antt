@@ -2,11 +2,11 @@
 use Rattle.std.proofs.Common.{◌≡◌, ◌⊎◌, ℕ, zero, suc, ◌≤◌, true, false, List, Option, Some, None, is_some, IfSome, IsSome, IsSomeAnd, refl, sym, ◌∙◌, ap, subst, inl, inr, arith}
 use Rattle.std.specs.Prelude.{⊤}
 use Rattle.devices.specs.declared.disks.Disk.{Ghosts}
-use Rattle.devices.specs.Cabinets.{Place, Free, Kept, Out, is_kept, OthersStay, IsSameDisk, IsOpened, IsKept, IsCounted}
+use Rattle.devices.specs.Cabinets.{Place, Free, Kept, Out, OthersStay, IsSameDisk, IsOpened, IsKept, IsCounted}
 use Rattle.devices.specs.Disks.{IsUnchanged}
 use Rattle.devices.specs.Faults.{Rose}
 use Rattle.devices.specs.declared.cabinets.Opened.TheVariants as opens
-use Rattle.commands.proofs.PlaceLemmas.{opened_and_kept, was_kept, leaves_kept, all_stay, rose_kept}
+use Rattle.commands.proofs.PlaceLemmas.{opened_and_kept, was_kept, leaves_kept, rose_kept}
 use Rattle.commands.proofs.ReopenLemmas.{found_left}
 use Rattle.commands.specs.Places.{HasKept, IfKept, IsLeftAlone, HasTheSame}
 use Rattle.commands.specs.RunEnds.{opening_end}
@@ -217,35 +217,6 @@ has_the_same g (Kept held) only = record {
   any_moment = started g held (g.may_leave held) (only held);
 }
 has_the_same g Out only = refl
-
--- nothing was under the name
-no_disk : {D : Type 0} (g : Ghosts D) (place : Place D) → is_kept place ≡ false
-    → IfKept (λ disk. IfSome (g.content disk) (λ bytes. ¬ HasHeader bytes)) place
-no_disk g Free is = tt
-no_disk g (Kept held) is = absurd (cc)
-no_disk g Out is = tt
-
-pub serves_absent : {D : Type 0} (g : Ghosts D)
-    (name : List ℕ) (p0 p1 : Option (List ℕ → Place D))
-    → ((disk : D) (image : List ℕ) → g.left_since disk (g.moment disk) image → g.may_leave disk image)
-    → IsOpened g name false p0 p1 opens.Absent
-    → StaysWith g name (IfKept (λ disk. IfSome (g.content disk) (λ bytes. ¬ HasHeader bytes))) p0 p1
-serves_absent g name None p1 only opened = tt
-serves_absent g name (Some b) None only opened = absurd opened
-serves_absent g name (Some b) (Some a) only opened =
-    let all = all_stay name b a (λ before after. HasTheSame g before after) opened.2 (has_the_same g (b name) only) in
-    (no_disk g (b name) opened.1, (all.0, all.1))
-
-pub serves_failed : {D : Type 0} (g : Ghosts D)
-    (name : List ℕ) (p0 p1 : Option (List ℕ → Place D))
-    → ((disk : D) (image : List ℕ) → g.left_since disk (g.moment disk) image → g.may_leave disk image)
-    → IsOpened g name false p0 p1 opens.Failed
-    → StaysWith g name (λ place. ⊤) p0 p1
-serves_failed g name None p1 only opened = tt
-serves_failed g name (Some b) None only opened = absurd opened
-serves_failed g name (Some b) (Some a) only opened =
-    let all = all_stay name b a (λ before after. HasTheSame g before after) opened (has_the_same g (b name) only) in
-    (tt, (all.0, all.1))
 
 -- there was no memory for the words, and nothing was done
 pub serves_nothing : {D : Type 0} (g : Ghosts D) (work : Work) (name : List ℕ) (places : Option (List ℕ → Place D)) (count : ℕ) (l w : Option (List ℕ))

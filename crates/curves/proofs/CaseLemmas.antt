@@ -239,16 +239,6 @@ pair_value points p q stage v h a = by (either_way stage p.0) (either_way q.0 st
     by (inr k) (inl l) = a.high l ∙ sym (h.high l)
     by (inr k) (inr l) = let m : p.0 ≤ℤ stage = omega (arith, ints, k) in let n : stage ≤ℤ q.0 = omega (arith, ints, l) in a.between m n ∙ sym (h.between m n)
 
--- one point alone says each value
-pub value_of_one : (points : List (ℤ × ℤ)) (p : ℤ × ℤ) (stage : ℤ) → length points ≡ 1 → Rises stage_of points → p ≡ get_or points 0 p → p.1 ≡ curve_value points stage
-value_of_one [] p stage one h e = absurd (omega (arith, one))
-value_of_one (a ∷ []) p stage one h e = by (either_way stage a.0)
-  where
-    by : (stage ≤ℤ a.0) ⊎ (a.0 <ℤ stage) → p.1 ≡ curve_value (a ∷ []) stage
-    by (inl k) = ap (λ (x : ℤ × ℤ). x.1) e ∙ sym ((curve_cases (a ∷ []) stage h).low a [] refl k)
-    by (inr k) = ap (λ (x : ℤ × ℤ). x.1) e ∙ sym ((curve_cases (a ∷ []) stage h).high [] a refl (omega (arith, ints, k)))
-value_of_one (a ∷ b ∷ points) p stage one h e = absurd (omega (arith, one))
-
 -- the same of series
 series_at : (at stage : ℤ) (entries es : List Entry) (e : Entry) (ns : List Entry) → IsRising entries → entries ≡ es ++ e ∷ ns → e.at ≤ℤ at
     → All (IsAfter instant_of at) ns → series_value entries at stage ≡ amount_in_force (Some e) (first ns) at stage

@@ -86,7 +86,7 @@ fn value_searched(entries: &[Entry], at: Second, stage: Micro) -> Micro
 fn no_amount() -> Micro
     ensures { result ≡ pos 0 }
 {
-    Micro::new(0).unwrap()
+    Micro::of_millionths(0)
 }
 
 /// The amount at an instant between two entries.

@@ -83,14 +83,6 @@ counts-done day counts h =
     made counts.readings counts.affected counts.no_rating counts.below counts.above all.readings all.affected all.no_rating all.below all.above
     (omega (arith, h.readings)) (omega (arith, h.affected)) (omega (arith, h.no_rating)) (omega (arith, h.below)) (omega (arith, h.above))
 
--- no window, no counts
-pub no-counts : (day : DayParts) → length day.window ≡ 0 → ◌≡◌ {A = Counts} (record { readings = 0; affected = 0; no_rating = 0; below = 0; above = 0 }) (counts_of day)
-no-counts day h = by day.window refl h
-  where
-    by : (w : List Reading) → day.window ≡ w → length w ≡ 0 → ◌≡◌ {A = Counts} (record { readings = 0; affected = 0; no_rating = 0; below = 0; above = 0 }) (counts_of day)
-    by [] e h = rw e refl
-    by (r ∷ rs) e h = absurd (omega arith)
-
 -- a unit value of the day stands within it
 within : (day : DayParts) (at : ℤ) (a b : Bool) → int_le day.from at ≡ a → int_lt at day.until ≡ b → (pos (one (a && b)) +ℤ int_max day.from at) ≤ℤ int_max day.until (int_max day.from at)
 within day at false b e f = omega (arith, ints, clamps)

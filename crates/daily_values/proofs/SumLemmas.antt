@@ -45,14 +45,6 @@ same a b m n e f = cc
 pub sum-is : (point : Unit → Point) (day : DayParts) (sum : Sum) → sum.twice ≡ (sum_of point day).twice → sum.covered ≡ (sum_of point day).covered → sum ≡ sum_of point day
 sum-is point day sum e f = same sum.twice (sum_of point day).twice sum.covered (sum_of point day).covered e f
 
--- no window, no sum
-pub no-sum : (point : Unit → Point) (day : DayParts) → length day.window ≡ 0 → ◌≡◌ {A = Sum} (record { twice = pos 0; covered = 0 }) (sum_of point day)
-no-sum point day h = by day.window refl h
-  where
-    by : (w : List Reading) → day.window ≡ w → length w ≡ 0 → ◌≡◌ {A = Sum} (record { twice = pos 0; covered = 0 }) (sum_of point day)
-    by [] e h = rw e refl
-    by (r ∷ rs) e h = absurd (omega arith)
-
 -- a list from a place on
 pub drop-at : {X : Type 0} (xs : List X) (i : ℕ) (x : X) → i < length xs → x ≡ get_or xs i x → drop i xs ≡ x ∷ drop (i + 1) xs
 drop-at xs i x h f =
@@ -77,9 +69,6 @@ pub units-done : (day : DayParts) (rest : List Reading) (i : ℕ) → length res
 units-done day rest i h = ap (map (unit_of day)) (drop_all i rest h)
 
 -- the readings of a window are of stages
-pub first-stage : (day : DayParts) → AreParts day → (first : Reading) (rest : List Reading) → day.window ≡ first ∷ rest → IsStage first.raw
-first-stage day are first rest e = All-head (λ (r : Reading). IsStage r.raw) first rest (subst (All (λ (r : Reading). IsStage r.raw)) e are.stages)
-
 pub next-stage : (day : DayParts) → AreParts day → (first : Reading) (rest : List Reading) (i : ℕ) (r : Reading) → day.window ≡ first ∷ rest
     → i < length rest → r ≡ get_or rest i r → IsStage r.raw
 next-stage day are first rest i r e h f =

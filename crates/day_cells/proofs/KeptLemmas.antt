@@ -1,5 +1,5 @@
 -- What the kept columns say of a day and of the pending days.
-use Rattle.std.specs.Prelude.{◌≡◌, ◌⊎◌, ℕ, ◌≢◌, ◌+◌, ◌<◌, ◌≤◌, min, Bool, true, false, ◌&&◌, cond, List, length, set, filter, find, count_by, Option, Some, None, IfSome, ℤ, pos, ◌+ℤ◌, ◌<ℤ◌, ◌≤ℤ◌}
+use Rattle.std.specs.Prelude.{◌≡◌, ◌⊎◌, ℕ, ◌≢◌, ◌+◌, ◌<◌, ◌≤◌, Bool, true, false, cond, List, length, set, filter, find, count_by, Option, Some, None, IfSome, ℤ, pos, ◌+ℤ◌, ◌<ℤ◌, ◌≤ℤ◌}
 use Rattle.std.proofs.Common.{arith, refl, ap, sym, ◌∙◌, get_or, inl, inr}
 use Rattle.std.proofs.lemmas.Int.{ints}
 use Rattle.std.proofs.lemmas.Bool.{cases_lt, cases_eq, false≢true}
@@ -8,7 +8,7 @@ use Rattle.std.proofs.lemmas.List.Sums.{sum_by-set}
 use Rattle.fixed_units.specs.Quantities.{first_day}
 use Rattle.fixed_units.specs.Calendar.{days_from, calendar, days_of_calendar}
 use Rattle.day_cells.specs.Days.{on_day}
-use Rattle.day_cells.specs.KeptDays.{KeptDays, AreColumns, TakesOut, Publishes, Marks, HasCell, NonePendingWithin, NoneUnclaimedBefore, is_edit, is_pending_on, waiting_of, waiting_on}
+use Rattle.day_cells.specs.KeptDays.{KeptDays, AreColumns, TakesOut, Publishes, Marks, HasCell, NonePendingWithin, is_edit, is_pending_on, waiting_of, waiting_on}
 use Rattle.day_cells.specs.Spans.{IsSpan}
 use Rattle.day_cells.specs.declared.spans.Span.{Span}
 use Rattle.daily_values.specs.declared.day_values.DayValue.{DayValue}
@@ -167,11 +167,6 @@ before_cleared awaits place first l h k low high =
       | inr e ↦ ap is_edit (get_or-set_other awaits place k 0 0 e) ∙ h k low high
     ]
 
-pub before_marked : (awaits : List ℕ) (place first edit : ℕ) → NonePendingWithin awaits 0 first
-    → NonePendingWithin (set awaits place edit) 0 (min first place)
-before_marked awaits place first edit h k low high =
-    ap is_edit (get_or-set_other awaits place k edit 0 (omega arith)) ∙ h k low (omega arith)
-
 pub joined : (awaits : List ℕ) (first next : ℕ) → NonePendingWithin awaits 0 first → NonePendingWithin awaits first next
     → NonePendingWithin awaits 0 next
 joined awaits first next h g k low high =
@@ -180,38 +175,8 @@ joined awaits first next h g k low high =
       | inr l ↦ g k l high
     ]
 
-pub unclaimed_cleared : (awaits : List ℕ) (claims : List Bool) (place first : ℕ) → place < length awaits → NoneUnclaimedBefore awaits claims first
-    → NoneUnclaimedBefore (set awaits place 0) (set claims place false) first
-unclaimed_cleared awaits claims place first l h k high =
-    elim (cases_eq k place) [
-      | inl e ↦ (let n : get_or (set awaits place 0) k 0 ≡ 0 = ap (λ n. get_or (set awaits place 0) n 0) e ∙ get_or-set_same awaits place 0 0 l in rw n refl)
-      | inr e ↦ (let n = get_or-set_other awaits place k 0 0 e in let m = get_or-set_other claims place k false false e in rw (n, m) (h k high))
-    ]
-
-pub unclaimed_marked : (awaits : List ℕ) (claims : List Bool) (place first edit : ℕ) → NoneUnclaimedBefore awaits claims first
-    → NoneUnclaimedBefore (set awaits place edit) (set claims place false) (min first place)
-unclaimed_marked awaits claims place first edit h k high =
-    let other : k ≢ place = omega arith in
-    let n = get_or-set_other awaits place k edit 0 other in
-    let m = get_or-set_other claims place k false false other in
-    rw (n, m) (h k (omega arith))
-
 -- a day outside a column
 pub outside : {X : Type 0} (start : ℤ) (awaits : List ℕ) (xs : List X) (z : X) (day : ℤ) → length awaits ≡ length xs
     → (day <ℤ start) ⊎ ((start +ℤ pos (length awaits)) ≤ℤ day) → on_day start xs z day ≡ z
 outside start awaits xs z day e (inl h) = on_day_before start xs z day h
 outside start awaits xs z day e (inr h) = on_day_behind start xs z day (omega (arith, ints))
-
-never : (b : Bool) → (b && false) ≡ false
-never true = refl
-never false = refl
-
--- a claim that is taken out leaves no more unclaimed
-pub unclaimed_taken : (awaits : List ℕ) (claims : List Bool) (place first : ℕ) → place < length claims → NoneUnclaimedBefore awaits claims first
-    → NoneUnclaimedBefore awaits (set claims place true) first
-unclaimed_taken awaits claims place first l h k high =
-    elim (cases_eq k place) [
-      | inl e ↦ (let m : get_or (set claims place true) k false ≡ true = ap (λ n. get_or (set claims place true) n false) e ∙ get_or-set_same claims place true false l in
-          rw m (never (is_edit (get_or awaits k 0))))
-      | inr e ↦ (let m = get_or-set_other claims place k true false e in rw m (h k high))
-    ]

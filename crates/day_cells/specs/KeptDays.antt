@@ -104,7 +104,6 @@ abbrev pub NonePendingWithin : List ℕ → ℕ → ℕ → Type 0
 NonePendingWithin awaits low high = (k : ℕ) → low ≤ k → k < high → is_edit (slice_index awaits k) ≡ false
 
 -- no cell before the place awaits an edit and has its claim not out
-
 abbrev pub NoneUnclaimedBefore : List ℕ → List Bool → ℕ → Type 0
 NoneUnclaimedBefore awaits claims place =
     (k : ℕ) → k < place → (is_edit (slice_index awaits k) && not (slice_index_or claims k false)) ≡ false

@@ -5,7 +5,6 @@ use Rattle.std.specs.List.{list_any}
 use Rattle.std.specs.Ordering.{int_eq}
 use Rattle.std.proofs.Common.{arith, refl, ap, sym, subst, ◌∙◌, inl, inr}
 use Rattle.std.proofs.lemmas.Int.{ints, by_lt_z}
-use Rattle.std.proofs.lemmas.Bool.Decides.{Decides-int_eq}
 use Rattle.std.proofs.lemmas.List.Elements.{All-filter, All-head, All-tail, All-weaker}
 use Rattle.fixed_units.specs.Quantities.{IsDay, IsStamp, SiteNumber, first_day, last_day}
 use Rattle.fixed_units.specs.declared.readings.Reading.{Reading}
@@ -31,7 +30,7 @@ use Rattle.station_inputs.specs.declared.series.StationSeries.{StationSeries}
 use Rattle.station_inputs.specs.declared.series.StationSeries.TheVariants.{Correction, Shift}
 use Rattle.office_inputs.specs.Touched.{is_filled, is_between_filled, in_reach, touched_by, meets, most_gap_seconds, IsUsedSpan}
 use Rattle.station_inputs.specs.Touched.{about_dropped_period, about_entry, about_period, about_span, between_readings, end_or_last, later_end, period_end, touched_at}
-use Rattle.station_inputs.specs.declared.touched.Touched.TheVariants.{One, Between}
+use Rattle.station_inputs.specs.declared.touched.Touched.TheVariants.{Between}
 use Rattle.depend.specs.Compared.{IsCover, AreCompared}
 use Rattle.depend.proofs.EntryLemmas.{entry_stamps, from_of, series_has, until_of}
 
@@ -323,15 +322,6 @@ none_used stations site u day d =
     let none = calendar_any_none (λ earlier. int_le earlier day && is_filled stations site earlier) (λ x k. and_none (int_le x day) (is_filled stations site x) (u x k)) in
     let n : false ≡ true = sym none ∙ t in
     absurd (cc))
-
--- one day
-pub one_cover : (stations : List StationState) (site : SiteNumber) (own : ℤ) → IsDay own → IsCover (in_reach stations site (One own)) own own
-one_cover stations site own k = record {
-  begins = k;
-  ends = k;
-  all = λ d l t. let e : own ≡ d = (Decides-int_eq own d).0 t in (omega (arith, ints), omega (arith, ints));
-  only = λ d l m n. absurd (omega (arith, ints));
-}
 
 -- what holds of each element holds of the one that is found
 at_step : {X : Type 0} (P : X → Type 0) (x y : X) (o : Option X) (b : Bool) → P x → (o ≡ Some y → P y) → cond b (Some x) o ≡ Some y → P y

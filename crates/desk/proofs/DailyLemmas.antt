@@ -1,23 +1,22 @@
 -- The rows of a daily table, one day after another, and the replies for days.
-use Rattle.std.specs.Prelude.{◌≡◌, ℕ, Bool, true, false, List, [], ◌∷◌, ◌++◌, map, Option, Some, None, is_some, option_map, ℤ, pos, ◌+ℤ◌, ◌≤ℤ◌, ◌<ℤ◌, if◌then◌else◌}
+use Rattle.std.specs.Prelude.{◌≡◌, ℕ, Bool, true, false, List, [], ◌++◌, map, Option, Some, None, is_some, option_map, ℤ, pos, ◌+ℤ◌, ◌≤ℤ◌, ◌<ℤ◌}
 use Rattle.std.proofs.Common.{Bor, arith, refl, ap, sym, ◌∙◌, append_assoc}
 use Rattle.std.specs.List.{flat_map}
 use Rattle.std.proofs.lemmas.Int.{ints}
 use Rattle.std.proofs.lemmas.List.{append-nil}
 use Rattle.approval.specs.declared.status.Status.{Status}
-use Rattle.daily_values.specs.declared.day_values.DayValue.{DayValue}
 use Rattle.depend.specs.Compared.{days_within}
 use Rattle.depend.proofs.CalendarLemmas.{within_cons, within_none}
 use Rattle.desk.specs.Answering.{IsKnown, answer_of}
-use Rattle.desk.specs.Replies.{answer_bytes, day_reply, day_row, row_at, sheet_reply, table_reply}
+use Rattle.desk.specs.Replies.{answer_bytes, day_reply, sheet_reply, table_reply}
 use Rattle.fixed_units.specs.Quantities.{IsDay, SiteNumber, first_day}
-use Rattle.history.specs.Awaited.{NoStation, answer_at, answer_by}
+use Rattle.history.specs.Awaited.{NoStation, answer_at}
 use Rattle.history.specs.Events.{Event}
 use Rattle.history.specs.Sheets.{Text}
 use Rattle.history.specs.Statuses.{status_at}
 use Rattle.http_api.specs.Days.{answer_members, status_member}
 use Rattle.http_api.specs.Replies.{bytes_of}
-use Rattle.http_api.specs.Tables.{Row, answer_row, row_of}
+use Rattle.http_api.specs.Tables.{Row, row_of}
 use Rattle.http_api.specs.declared.days.DayAnswer.{DayAnswer as Answer}
 use Rattle.http_api.specs.declared.days.DayAnswer.TheVariants as answers
 use Rattle.http_api.specs.declared.days.DayReply.{DayReply}
@@ -54,25 +53,6 @@ pub gathered_last : (rows_on : ℤ → List Row) (first last next : ℤ) (rows :
     → rows ≡ flat_map rows_on (days_within first last)
 gathered_last rows_on first last next rows l h =
     sym (append-nil rows) ∙ ap (λ (days : List ℤ). rows ++ flat_map rows_on days) (sym (within_none next last l)) ∙ h.rest
-
--- a day of a site that is kept has an answer
-pub is_answered : (kept : Bool) (edit : Option ℕ) (value : DayValue) → kept ≡ true → (if kept then answer_by edit value else NoStation) ≡ NoStation → ⊥
-is_answered false edit value k e = absurd (cc)
-is_answered true None value k e = absurd (cc)
-is_answered true (Some number) value k e = absurd (cc)
-
--- and a day with an answer has a row
-told_row : (day : ℤ) (status : Status) (answer : Answer) → day_row day status (answer_of answer) ≡ answer_row day answer status ∷ []
-told_row day status (answers.Pending number) = refl
-told_row day status (answers.Computed value) = refl
-
-pub row_known : (events : List Event) (site : SiteNumber) (day : ℤ) (known : DayReply) → IsKnown events site day known
-    → row_at events site day ≡ row_of known ∷ []
-row_known events site day known h =
-    ap (day_row day (status_at events site day)) (sym h.answer)
-    ∙ ap (λ (s : Status). day_row day s (answer_of known.answer)) (sym h.status)
-    ∙ ap (λ (d : ℤ). day_row d known.status (answer_of known.answer)) (sym h.day)
-    ∙ told_row known.day known.status known.answer
 
 -- ---- the replies
 

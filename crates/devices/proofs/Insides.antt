@@ -4,12 +4,13 @@ use Rattle.devices.specs.Disks.{Torn, NothingNew, overwritten}
 use Rattle.devices.specs.MemoryDisks.{MemoryDiskState, Recorded, content_of, images_of, GoesOn, LeavesContent}
 use Rattle.devices.proofs.Replays.{torn_overwritten}
 
--- a call that leaves the content of the recording leaves that of the disk
+-- a call that leaves the content of the recording leaves that of the disk, by what a stop may leave and by time as well
 pub leaves_content : (old was new : Recorded) → was ≡ old → content_of new ≡ content_of was → NothingNew (images_of was) (images_of new)
     → GoesOn was new → LeavesContent old new
 leaves_content old was new is same images time =
     subst (λ (r : Recorded). LeavesContent r new) is (record { same = same; images = images; time = time })
 
+-- time goes on for the disk as for its recording
 pub same_time : (old was new : Recorded) → was ≡ old → GoesOn was new → GoesOn old new
 same_time old was new same is = subst (λ (r : Recorded). GoesOn r new) same is
 

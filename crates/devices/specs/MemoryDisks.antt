@@ -131,7 +131,7 @@ Lists failed old new = (calls_of new ≡ calls_of old ++ failed ∷ []) ⊎ (2 ^
 abbrev pub GoesOn : Recorded → Recorded → Type 0
 GoesOn old new = Elapses (moment_of old) (moment_of new) (since_of old) (since_of new) (images_of new)
 
--- the content stays, and a stop may leave no more than before
+-- the content stays, a stop may leave no more than before, and time goes on
 pub record LeavesContent (old new : Recorded) : Type 0 where
   pub same : content_of new ≡ content_of old
   pub images : NothingNew (images_of old) (images_of new)

@@ -47,10 +47,6 @@ block_more bytes block known more within enough same so_far own =
           ∙ ap (λ l. take known bytes ++ l) plain ∙ sym parts,
     )
 
-pub quoted_whole : (text behind s rest end : List ℕ) → text ≡ 34 ∷ behind → behind ≡ s ++ rest → rest ≡ 34 ∷ end → escape s ≡ s → text ≡ quoted s ++ end
-quoted_whole text behind s rest end a b c plain =
-    a ∙ ap (λ (l : List ℕ). 34 ∷ l) (b ∙ ap (λ l. s ++ l) c ∙ sym (append_assoc s (34 ∷ []) end) ∙ ap (λ l. (l ++ 34 ∷ []) ++ end) (sym plain))
-
 -- what stands behind the front of a text
 pub front_behind : (n : ℕ) (text first rest front : List ℕ) → first ≡ take n text → rest ≡ drop n text → first ≡ front → text ≡ front ++ rest
 front_behind n text first rest front a b same =

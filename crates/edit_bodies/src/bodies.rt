@@ -1,6 +1,6 @@
 //! The body of an edit, read as one.
 
-ghost use Rattle.std.specs.Prelude.{◌≡◌, ◌≢◌, IfOk, IfSome, Ok, Err, Some, None, option_map};
+ghost use Rattle.std.specs.Prelude.{◌≡◌, ◌≢◌, IfOk, Ok, Err, Some, None, option_map};
 ghost use Rattle.edit_bodies.specs.Bodies.{edit_of, edit_of_value, edit_in, parts};
 ghost use Rattle.edit_bodies.specs.Answers.{IsMade};
 ghost use Rattle.edit_bodies.specs.Trees.{left, stated};
@@ -36,19 +36,21 @@ pub fn read_edit(alloc: Global, body: &[u8], scratch: &mut Scratch) -> Result<Ed
         return Err(BodyFault::Json);
     };
     // most edits, as programs write them, need no tree
-    match quick_edit(alloc, text, scratch) {
+    match compact_edit(alloc, text) {
         Some(edit) => Ok(edit),
-        None => edit_of_tree(alloc, text, scratch),
+        None => edit_of_tokens(alloc, text, scratch),
     }
 }
 
-/// The edit that a text is, where it is of the compact form or a put of the usual form. Of another text nothing is said.
-fn quick_edit(alloc: Global, text: &str, scratch: &mut Scratch) -> Option<Edit>
-    ensures { IfSome result (λ edit. edit_of_value (read text.now) ≡ Ok (parts edit)) }
+/// The edit that a text is: by its tokens, where it is a put of the usual form, and else by its tree.
+fn edit_of_tokens(alloc: Global, text: &str, scratch: &mut Scratch) -> Result<Edit, BodyFault>
+    ensures edit { IfOk result (λ edit. edit_of_value (read text.now) ≡ Ok (parts edit)) }
+    ensures json { result ≡ Err BodyFault.Json → edit_of_value (read text.now) ≡ Err BodyFault.Json }
+    ensures member { (name : Member) → result ≡ Err (BodyFault.Body name) → edit_of_value (read text.now) ≡ Err (BodyFault.Body name) }
 {
-    match compact_edit(alloc, text) {
-        Some(edit) => Some(edit),
-        None => usual_put(alloc, text, scratch),
+    match usual_put(alloc, text, scratch) {
+        Some(edit) => Ok(edit),
+        None => edit_of_tree(alloc, text, scratch),
     }
 }
 

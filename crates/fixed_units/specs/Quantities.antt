@@ -1,4 +1,5 @@
--- The ranges of quantities, instants, days, sites, gap tolerances and rating numbers. A number is that of millionths, seconds or days.
+-- The ranges of quantities, instants, days and sites, and the greatest gap tolerance and rating number. A number is that of millionths,
+-- seconds or days.
 use Rattle.std.specs.Prelude.{ℕ, ◌+◌, ◌*◌, ◌^◌, ◌<◌, ◌≤◌, Bool, ◌&&◌, ℤ, pos, neg_ℤ, ◌≤ℤ◌, int_le}
 use Rattle.std.specs.Ordering.{nat_cmp, ordering_then, int_eq}
 use Rattle.std.specs.declared.cmp.Ordering.{Ordering}

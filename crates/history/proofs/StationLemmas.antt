@@ -21,9 +21,6 @@ use Rattle.rising.proofs.Placing.{at_put}
 pub places_equal : (a b : SiteNumber) → same_site a b ≡ true → site_place a ≡ site_place b
 places_equal a b h = (Decides-int_eq (site_place a) (site_place b)).0 h
 
-pub places_apart : (a b : SiteNumber) → same_site a b ≡ false → site_place a ≡ site_place b → ⊥
-places_apart a b h e = false≢true (sym h ∙ (Decides-int_eq (site_place a) (site_place b)).1 e)
-
 -- what is found passes the test
 found_step : {X : Type 0} (p : X → Bool) (x y : X) (xs : List X) (b : Bool) → p x ≡ b → cond b (Some x) (find p xs) ≡ Some y
     → (find p xs ≡ Some y → p y ≡ true) → p y ≡ true

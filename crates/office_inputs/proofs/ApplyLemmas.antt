@@ -17,14 +17,14 @@ use Rattle.edits.specs.declared.content.What.{What}
 use Rattle.station_inputs.specs.Obstacles.{obstacle}
 use Rattle.office_inputs.specs.Refusals.{obstacle_of, reading_count}
 use Rattle.office_inputs.specs.Kept.{states_of, kept_at, place_of_kept, AreStations}
-use Rattle.office_inputs.proofs.InputsLemmas.{record_at}
+use Rattle.office_inputs.proofs.InputsLemmas.{state_at}
 use Rattle.office_inputs.proofs.KeepLemmas.{at_place}
 use Rattle.office_inputs.proofs.RoomLemmas.{StandsAt, stands_at}
 
 -- states of the stations that pass
 filter_step : (k : KeptStation) (kept : List KeptStation) (states : List StationState) (b : Bool) → states ≡ states_of kept
     → cond b (k.station ∷ states) states ≡ states_of (cond b (k ∷ kept) kept)
-filter_step k kept states true e = ap (λ (rs : List StationState). k.station ∷ rs) e
+filter_step k kept states true e = ap (λ (states : List StationState). k.station ∷ states) e
 filter_step k kept states false e = e
 
 states_filter : (p : StationState → Bool) (kept : List KeptStation) → filter p (states_of kept) ≡ states_of (filter (λ k. p k.station) kept)
@@ -33,7 +33,7 @@ states_filter p (k ∷ kept) = filter_step k (filter (λ k. p k.station) kept) (
 
 states_append : (xs ys : List KeptStation) → states_of (xs ++ ys) ≡ states_of xs ++ states_of ys
 states_append [] ys = refl
-states_append (x ∷ xs) ys = ap (λ (rs : List StationState). x.station ∷ rs) (states_append xs ys)
+states_append (x ∷ xs) ys = ap (λ (states : List StationState). x.station ∷ states) (states_append xs ys)
 
 -- the states with a station put
 pub states_put : (k : KeptStation) (kept : List KeptStation) → states_of (lists.put place_of_kept k kept) ≡ lists.put place_of k.station (states_of kept)
@@ -116,7 +116,7 @@ pub states_set : (kept : List KeptStation) (site : SiteNumber) (i : ℕ) (x y : 
 states_set kept site i x y change h e f p =
     let there = stands_at kept site i x h.within e h.found in
     let n : place_of_kept y ≡ site_place site = ap place_of f ∙ p ∙ at_place place_of_kept (site_place site) kept x there in
-    let found : station_of (states_of kept) site ≡ Some x.station = record_at kept site ∙ ap (λ (o : Option KeptStation). option_map (λ (k : KeptStation). k.station) o) there in
+    let found : station_of (states_of kept) site ≡ Some x.station = state_at kept site ∙ ap (λ (o : Option KeptStation). option_map (λ (k : KeptStation). k.station) o) there in
     ap states_of (h.written y n) ∙ states_put y kept ∙ ap (λ (s : StationState). lists.put place_of s (states_of kept)) f
     ∙ ap (λ (o : Option StationState). with_changed change o (states_of kept)) (sym found)
 
@@ -125,7 +125,7 @@ pub free_here : (kept : List KeptStation) (site : SiteNumber) (i : ℕ) (x : Kep
     → obstacle_of (station_of (states_of kept) site) what ≡ None → obstacle x.station what ≡ None
 free_here kept site i x what h e free =
     let found : station_of (states_of kept) site ≡ Some x.station =
-    record_at kept site ∙ ap (λ (o : Option KeptStation). option_map (λ (k : KeptStation). k.station) o) (stands_at kept site i x h.within e h.found) in
+    state_at kept site ∙ ap (λ (o : Option KeptStation). option_map (λ (k : KeptStation). k.station) o) (stands_at kept site i x h.within e h.found) in
     ap (λ (o : Option StationState). obstacle_of o what) (sym found) ∙ free
 
 -- a site that is not kept has no station to change
@@ -138,7 +138,7 @@ pub count_put_kept : (k : KeptStation) (kept : List KeptStation) → lists.IsRis
     → reading_count (lists.put place_of k.station (states_of kept)) ≡ reading_count (states_of kept)
 count_put_kept k kept r n e =
     count_put_new k.station (states_of kept) (states_rise kept r)
-    (record_at kept k.station.site ∙ ap (λ (o : Option KeptStation). option_map (λ (k : KeptStation). k.station) o) n) e
+    (state_at kept k.station.site ∙ ap (λ (o : Option KeptStation). option_map (λ (k : KeptStation). k.station) o) n) e
 
 -- stations with one put that keeps to its ranges
 pub stations_put : (k : KeptStation) (kept : List KeptStation) → AreStations kept → IsStation k.station → AreStations (lists.put place_of_kept k kept)

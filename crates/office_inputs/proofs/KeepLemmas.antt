@@ -108,7 +108,7 @@ pub add_told : (limits : Limits) (stations : List StationState) (edit : Edit) (d
     → station_of stations edit.site ≡ None → keeps_day stations edit day ≡ true
 add_told limits stations edit day r e = add_step limits stations edit day (adds_station edit.what) refl r e
 
--- the record of a station that was found
+-- the state of a station that was found
 pub lent_is : (found : Option (Bor KeptStation)) (kept : Option StationState) (s : Bor KeptStation) → option_map (λ (s : Bor KeptStation). s.now.station) found ≡ kept
     → found ≡ Some s → kept ≡ Some s.now.station
 lent_is found kept s e f = sym e ∙ ap (option_map (λ (s : Bor KeptStation). s.now.station)) f

@@ -15,14 +15,14 @@ use Rattle.office_inputs.specs.Kept.{states_of, kept_at, place_of_kept}
 use Rattle.office_inputs.specs.Places.{Placed, IsPlace, IsPlaceOf, station_in}
 use Rattle.office_inputs.specs.Stations.{station_of, place_of}
 use Rattle.station_inputs.specs.Stations.{StationState}
-use Rattle.office_inputs.proofs.InputsLemmas.{record_at}
+use Rattle.office_inputs.proofs.InputsLemmas.{state_at}
 use Rattle.office_inputs.proofs.KeepLemmas.{at_place}
 use Rattle.office_inputs.proofs.RoomLemmas.{StandsAt}
 
-abbrev record_of : Option KeptStation → Option StationState
-record_of o = option_map (λ (k : KeptStation). k.station) o
+abbrev state_of : Option KeptStation → Option StationState
+state_of o = option_map (λ (k : KeptStation). k.station) o
 
-states_get : (kept : List KeptStation) (i : ℕ) → slice_get (states_of kept) i ≡ record_of (slice_get kept i)
+states_get : (kept : List KeptStation) (i : ℕ) → slice_get (states_of kept) i ≡ state_of (slice_get kept i)
 states_get [] i = refl
 states_get (k ∷ kept) zero = refl
 states_get (k ∷ kept) (suc i) = states_get kept i
@@ -30,12 +30,12 @@ states_get (k ∷ kept) (suc i) = states_get kept i
 -- what a search among the stations that are kept finds is the place of the site
 pub found_place : (kept : List KeptStation) (site : SiteNumber) (found : Option ℕ) → IfSome found (λ i. kept_at kept site ≡ slice_get kept i)
     → IfSome found (λ i. i < length kept) → IfNone found (kept_at kept site ≡ None) → IsPlaceOf (states_of kept) site (record { site = site; index = found })
-found_place kept site None f w n = (refl, record { within = tt; found = record_at kept site ∙ ap record_of n })
+found_place kept site None f w n = (refl, record { within = tt; found = state_at kept site ∙ ap state_of n })
 found_place kept site (Some i) f w n = (
   refl,
   record {
     within = (let l = length-map kept (λ (k : KeptStation). k.station) in omega arith);
-    found = record_at kept site ∙ ap record_of f ∙ sym (states_get kept i);
+    found = state_at kept site ∙ ap state_of f ∙ sym (states_get kept i);
   },
 )
 
@@ -85,7 +85,7 @@ stands kept place i r p e =
     let within = index_within kept place i p e in
     let s = some_station kept i within in
     let there : station_of (states_of kept) place.site ≡ Some s.0.station =
-    p.found ∙ ap (station_in (states_of kept)) e ∙ states_get kept i ∙ ap record_of s.2 in
+    p.found ∙ ap (station_in (states_of kept)) e ∙ states_get kept i ∙ ap state_of s.2 in
     let n : place_of_kept s.0 ≡ site_place place.site = at_place place_of (site_place place.site) (states_of kept) s.0.station there in
     record {
       within = within;
@@ -96,19 +96,15 @@ stands kept place i r p e =
     }
 
 -- where no station stands none is kept
-none_kept : (o : Option KeptStation) → record_of o ≡ None → o ≡ None
+none_kept : (o : Option KeptStation) → state_of o ≡ None → o ≡ None
 none_kept None e = refl
 none_kept (Some k) e = absurd (cc)
-
-pub no_index : (o : Option ℕ) → ((i : ℕ) → o ≡ Some i → ⊥) → o ≡ None
-no_index None n = refl
-no_index (Some i) n = absurd (n i refl)
 
 pub none_stands : (kept : List KeptStation) (place : Placed) → IsPlace (states_of kept) place → place.index ≡ None → station_of (states_of kept) place.site ≡ None
 none_stands kept place p e = p.found ∙ ap (station_in (states_of kept)) e
 
 pub not_kept : (kept : List KeptStation) (place : Placed) → IsPlace (states_of kept) place → place.index ≡ None → kept_at kept place.site ≡ None
-not_kept kept place p e = none_kept (kept_at kept place.site) (sym (record_at kept place.site) ∙ none_stands kept place p e)
+not_kept kept place p e = none_kept (kept_at kept place.site) (sym (state_at kept place.site) ∙ none_stands kept place p e)
 
 pub no_room_asked : (P : KeptStation → Type 0) (kept : List KeptStation) (place : Placed) → IsPlace (states_of kept) place → place.index ≡ None
     → IfSome (kept_at kept place.site) P

@@ -14,7 +14,7 @@ use Rattle.office_inputs.specs.declared.refusals.Refusal.{Refusal}
 use Rattle.office_inputs.specs.declared.refusals.Refusal.TheVariants.{NoStation, StationExists}
 use Rattle.office_inputs.specs.declared.refusals.Which.{Which}
 use Rattle.office_inputs.specs.declared.refusals.Which.TheVariants as counts
-use Rattle.office_inputs.proofs.InputsLemmas.{record_at}
+use Rattle.office_inputs.proofs.InputsLemmas.{state_at}
 
 pub some_none : {X : Type 0} {x : X} → Some x ≡ None → ⊥
 some_none e = absurd (cc)
@@ -65,4 +65,4 @@ pub absent : (limits : Limits) (kept : List KeptStation) (edit : Edit) → refus
     → kept_at kept edit.site ≡ None
 absent limits kept edit e a =
     none_kept (kept_at kept edit.site)
-    (ap is_some (sym (record_at kept edit.site)) ∙ both_off (adds_station edit.what) (is_kept (states_of kept) edit.site) (accepted limits (states_of kept) edit e).new a)
+    (ap is_some (sym (state_at kept edit.site)) ∙ both_off (adds_station edit.what) (is_kept (states_of kept) edit.site) (accepted limits (states_of kept) edit e).new a)

@@ -1,4 +1,4 @@
--- The inputs in force: the record of each station that is kept, and what an edit makes of them.
+-- The inputs in force: the state of each station that is kept, and what an edit makes of them.
 use Rattle.std.specs.Prelude.{List, [], Option, Some, None, ℤ, fold}
 use Rattle.fixed_units.specs.Quantities.{SiteNumber, site_place}
 use Rattle.rising.specs.Lists as lists

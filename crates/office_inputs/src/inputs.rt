@@ -3,7 +3,7 @@
 ghost use Rattle.std.specs.Prelude.{◌≡◌, ◌↔◌, ◌+◌, true, [], IfOk, None, option_map};
 ghost use Rattle.day_inputs.specs.DayInputs.{AreInputs};
 ghost use Rattle.office_inputs.specs.Changes.{keeps_day};
-ghost use Rattle.office_inputs.specs.Kept.{AreStations, HasRoom, in_force};
+ghost use Rattle.office_inputs.specs.Kept.{AreStations, in_force};
 ghost use Rattle.office_inputs.specs.Places.{IsPlace, IsPlaceOf};
 ghost use Rattle.office_inputs.specs.Refusals.{refusal_of};
 ghost use Rattle.office_inputs.specs.Measured.{measurement_at, shift_at, table_at};
@@ -139,7 +139,7 @@ impl Inputs {
     {
         match self.station(site) {
             Some(station) => station.shift(at, stage),
-            None => Micro::new(0).unwrap(),
+            None => Micro::of_millionths(0),
         }
     }
 

@@ -1,4 +1,4 @@
-//! How large a record may grow.
+//! How much an office may hold.
 
 ghost use Rattle.std.specs.Prelude.{◌≡◌};
 ghost use Rattle.office_inputs.specs.Usual.{usual};

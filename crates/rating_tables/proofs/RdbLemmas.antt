@@ -1,5 +1,5 @@
 -- Rows that are read line by line: what is left to read, that the rows are in order, and the table that they make.
-use Rattle.std.specs.Prelude.{◌≡◌, Bool, true, false, cond, ◌&&◌, List, [], ◌∷◌, ◌++◌, ℕ, ◌+◌, ◌≤◌, int_lt, int_le, Option, None, Some, unwrap_or, Result, Ok, Err, length, ◌⊎◌, IfOk, IfErr}
+use Rattle.std.specs.Prelude.{◌≡◌, Bool, true, false, cond, ◌&&◌, List, [], ◌∷◌, ◌++◌, ℕ, ◌+◌, ◌≤◌, int_lt, int_le, Option, None, Some, unwrap_or, Result, Ok, Err, length, ◌⊎◌}
 use Rattle.std.specs.Result.{result_err}
 use Rattle.std.proofs.Common.{arith, refl, ap, sym, ◌∙◌, subst, inl, inr}
 use Rattle.std.proofs.lemmas.Int.{ints}
@@ -26,10 +26,6 @@ pub rows_end : (c : Columns) (before : Option Row) → rows_of c before [] ≡ O
 unfolding rows_of
 rows_end c before = refl
 
-front_none : (x : Result (List Row) RdbFault) → rows_in_front [] x ≡ x
-front_none (Ok rows) = refl
-front_none (Err f) = refl
-
 front_twice : (done : List Row) (r : Row) (x : Result (List Row) RdbFault) → rows_in_front done (rows_in_front (r ∷ []) x) ≡ rows_in_front (done ++ r ∷ []) x
 front_twice done r (Ok rows) = ap (λ l. Ok l) (sym (append_assoc done (r ∷ []) rows))
 front_twice done r (Err f) = refl
@@ -41,9 +37,6 @@ pub record Reads (c : Columns) (all : List (ℕ × List ℕ)) (kept : List Row) 
   pub counted : length done ≡ count
   pub few : length kept ≤ count
   pub whole : length kept ≡ count → kept ≡ done
-
-pub reads_start : (c : Columns) (all : List (ℕ × List ℕ)) → Reads c all [] 0 None all
-reads_start c all = record { done = []; rows = sym (front_none (rows_of c None all)); counted = refl; few = omega arith; whole = λ e. refl }
 
 abbrev Adds : List Row → ℕ → Row → List Row → Type 0
 Adds kept count row more = ((length kept ≡ count) × (more ≡ kept ++ row ∷ [])) ⊎ (more ≡ kept)
@@ -138,24 +131,9 @@ read_order (Ok rows) kept count h k e = subst IsInOrder (sym (k.1 e)) (h rows re
 pub read_in_order : (c : Columns) (lines : List (ℕ × List ℕ)) (kept : List Row) (count : ℕ) → AreRead (rows_of c None lines) kept count → length kept ≡ count → IsInOrder kept
 read_in_order c lines kept count h e = read_order (rows_of c None lines) kept count (λ rows f. rows_in_order c None lines rows f) h e
 
--- what the table that is made of them answers
-pub counted_ok : (x : Result (List Row) RdbFault) (kept : List Row) (count : ℕ) (r : Result (List Row) RdbFault) → AreRead x kept count
-    → IfOk r (λ table. (is_off_count count ≡ false) × (length kept ≡ count) × (table ≡ kept)) → IfOk r (λ table. counted x ≡ Ok table)
-counted_ok x kept count (Err f) h k = tt
-counted_ok (Err g) kept count (Ok table) h k = absurd h
-counted_ok (Ok rows) kept count (Ok table) h k =
-    let on : is_off_count (length rows) ≡ false = ap is_off_count h.0 ∙ k.0 in
-    rw on (ap (λ (l : List Row). Ok l) (sym (h.1 k.1) ∙ sym k.2))
-
 counted_told : (rows : List Row) (b : Bool) → is_off_count (length rows) ≡ b → cond b faults.Count faults.NoMemory ≡ unwrap_or (result_err (counted (Ok rows))) faults.NoMemory
 counted_told rows true e = rw e refl
 counted_told rows false e = rw e refl
-
-pub counted_err : (x : Result (List Row) RdbFault) (kept : List Row) (count : ℕ) (r : Result (List Row) RdbFault) → AreRead x kept count
-    → IfErr r (λ fault. fault ≡ cond (is_off_count count) faults.Count faults.NoMemory) → IfErr r (λ fault. fault ≡ unwrap_or (result_err (counted x)) faults.NoMemory)
-counted_err x kept count (Ok table) h k = tt
-counted_err (Err g) kept count (Err f) h k = absurd h
-counted_err (Ok rows) kept count (Err f) h k = k ∙ ap (λ n. cond (is_off_count n) faults.Count faults.NoMemory) (sym h.0) ∙ counted_told rows (is_off_count (length rows)) refl
 
 -- the rows under a line of names and a line of formats
 pub table_of : (lines : List (ℕ × List ℕ)) (names formats : ℕ × List ℕ) (rest : List (ℕ × List ℕ)) (c : Columns) → lines ≡ names ∷ formats ∷ rest

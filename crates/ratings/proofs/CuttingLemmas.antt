@@ -48,14 +48,6 @@ meeting_is lo hi begun list kept e f =
     ap (filter (λ (p : Span). is_before_end lo p.until)) (e ∙ ap (filter (λ (p : Span). int_le p.from hi)) f)
     ∙ filter_both (λ (p : Span). int_le p.from hi) (λ (p : Span). is_before_end lo p.until) kept
 
-pub filter_apart : (q : Span → Bool) (kept : List Span) → AreApart kept → AreApart (filter q kept)
-filter_apart q kept h =
-    record {
-      ordered = All-filter q EndsLater kept h.ordered;
-      rising = AllPairs-filter (λ (p : Span) (r : Span). p.from <ℤ r.from) q kept h.rising;
-      apart = AllPairs-filter (λ (p : Span) (r : Span). share p r ≡ false) q kept h.apart;
-    }
-
 -- what is found has what all have
 found_step : {X : Type 0} (P : X → Type 0) (x : X) (o : Option X) (b : Bool) → P x → IfSome o P → IfSome (cond b (Some x) o) P
 found_step P x o true h k = h

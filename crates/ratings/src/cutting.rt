@@ -61,7 +61,7 @@ fn cut(
     let table = table_of(tables, period.rating).share()?;
     Ok(PeriodPart {
         from: later(period.from, lo),
-        until: Second::new(cut_end(hi, period.until)).unwrap(),
+        until: Second::of_seconds(cut_end(hi, period.until)),
         rating: period.rating,
         table,
     })

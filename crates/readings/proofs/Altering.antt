@@ -1,7 +1,7 @@
 -- What the comparisons of a change say of the used readings, and of the window.
 use Rattle.std.specs.Prelude.{◌≡◌, ◌≢◌, Bool, true, false, not, ◌&&◌, ◌||◌, List, [], ◌∷◌, ◌++◌, ℤ, ◌≤ℤ◌, int_le, int_lt, filter, find, is_some, Option, Some, None, option_to_list, All}
 use Rattle.std.specs.List.{list_any}
-use Rattle.std.proofs.Common.{arith, refl, ap, sym, ◌∙◌, subst}
+use Rattle.std.proofs.Common.{arith, refl, ap, sym, ◌∙◌}
 use Rattle.std.proofs.lemmas.Bool.{and_parts}
 use Rattle.std.proofs.lemmas.Int.{ints}
 use Rattle.std.proofs.lemmas.Option.{MatchOption-at_some}
@@ -9,9 +9,8 @@ use Rattle.std.proofs.lemmas.List.Elements.{All-head, All-tail, All-cons, All-ni
 use Rattle.fixed_units.specs.declared.readings.Reading.{Reading}
 use Rattle.fixed_units.specs.declared.readings.Flag.{Flag}
 use Rattle.rising.proofs.Parting.{yes_lt, yes_le}
-use Rattle.rising.proofs.Placing.{filter_rises}
 use Rattle.rising.proofs.Selecting.{none_found, filter_none}
-use Rattle.readings.specs.Readings.{IsRising, instant_of, at_instant, before_instant, from_instant, put_all, is_used, in_span, without_span, with_flag}
+use Rattle.readings.specs.Readings.{IsRising, at_instant, before_instant, from_instant, put_all, is_used, in_span, without_span, with_flag}
 use Rattle.readings.specs.Window.{is_of_day, of_day, inner}
 use Rattle.readings.specs.Equality.{same_flag, same_readings}
 use Rattle.readings.specs.Changes.{changed, changed_by, put_list, IsRisingChange}
@@ -27,10 +26,7 @@ use Rattle.readings.proofs.PuttingLemmas.{put_all_rises}
 use Rattle.readings.proofs.RunLemmas.{with_flag_rises}
 use Rattle.readings.proofs.Comparing.{differs_false, tell_other, tell_same}
 
--- a part of rising readings rises, and so do readings after a change
-pub day_rises : (a b : ℤ) (rs part : List Reading) → part ≡ of_day a b rs → IsRising rs → IsRising part
-day_rises a b rs part e h = subst IsRising (sym e) (filter_rises instant_of (is_of_day a b) rs h)
-
+-- readings after a change rise
 pub changed_rises : (change : Change) (rs : List Reading) → IsRisingChange change → IsRising rs → IsRising (changed change rs)
 changed_rises (Put list) rs h k = put_all_rises list.now rs k
 changed_rises (Drop from to) rs h k = without_rises from to rs k

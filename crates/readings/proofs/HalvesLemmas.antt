@@ -72,10 +72,6 @@ right_later at xs (y ∷ ys) r h e l =
     (All-weaker (IsAfter instant_of y.at) (IsAfter instant_of at) (λ x k. omega (arith, ints, far, k)) ys
     (rest_is_later instant_of y ys (right_rises xs (y ∷ ys) h)))
 
-pub right_empty : (at : ℤ) (ys : List Reading) → first ys ≡ None → All (IsAfter instant_of at) ys
-right_empty at [] e = All-nil (IsAfter instant_of at)
-right_empty at (y ∷ ys) e = absurd (cc)
-
 -- so a search in that one parts the whole
 both_lengths : (p : Reading → Bool) (xs ys : List Reading) (i j : ℕ) → length (filter p xs) ≡ i → length (filter p ys) ≡ j → length (filter p (xs ++ ys)) ≡ i + j
 both_lengths p xs ys i j e f = omega (arith, e, f, ap length (filter-append p xs ys), length-append (filter p xs) (filter p ys))

@@ -111,10 +111,3 @@ same_step : (x y : Reading) (xs ys : List Reading) → IsRising (x ∷ xs) → I
 same_step x y xs ys h k same rest (inl l) = absurd (not_earlier x y xs ys k l same)
 same_step x y xs ys h k same rest (inr (inl e)) = same_tails x y xs ys (same_first x y xs ys h k e same) h k same rest
 same_step x y xs ys h k same rest (inr (inr l)) = absurd (not_earlier y x ys xs h l (λ n. sym (same n)))
-
-pub same_by_here : (xs ys : List Reading) → IsRising xs → IsRising ys → ((n : ℤ) → here n xs ≡ here n ys) → xs ≡ ys
-same_by_here [] [] h k same = refl
-same_by_here [] (y ∷ ys) h k same = let i : [] ≡ y ∷ here y.at ys = same y.at ∙ here_first y.at y ys refl in absurd (cc)
-same_by_here (x ∷ xs) [] h k same = let i : x ∷ here x.at xs ≡ [] = sym (here_first x.at x xs refl) ∙ same x.at in absurd (cc)
-same_by_here (x ∷ xs) (y ∷ ys) h k same =
-    same_step x y xs ys h k same (same_by_here xs ys (rest_rises instant_of x xs h) (rest_rises instant_of y ys k)) (compared x.at y.at)

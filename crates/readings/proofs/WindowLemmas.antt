@@ -1,6 +1,6 @@
--- Windows for the layers above: which readings leave one, that it rises, what it is made of, when it is empty.
-use Rattle.std.specs.Prelude.{◌≡◌, true, false, List, [], ◌∷◌, ◌++◌, ℤ, pos, ◌<ℤ◌, ◌≤ℤ◌, ◌+ℤ◌, int_lt, int_le, find, reverse, Option, Some, None, option_to_list, MatchOption, All, ◌⊎◌, ◌↔◌}
-use Rattle.std.proofs.Common.{arith, refl, inl, inr}
+-- What holds of each reading holds with one put and of each of a window, and that both rise.
+use Rattle.std.specs.Prelude.{◌≡◌, true, false, List, [], ◌∷◌, ◌++◌, ℤ, ◌<ℤ◌, ◌≤ℤ◌, int_lt, int_le, find, reverse, Option, Some, None, option_to_list, MatchOption, All}
+use Rattle.std.proofs.Common.{arith}
 use Rattle.std.proofs.lemmas.Int.{ints, by_lt_z}
 use Rattle.std.proofs.lemmas.List.Elements.{All-head, All-append, All-weaker, All-filter, filter_passes}
 use Rattle.std.proofs.lemmas.List.Kept.{AllPairs-filter}
@@ -12,8 +12,7 @@ use Rattle.rising.proofs.Placing.{IsBefore, IsFrom, before_is_before}
 use Rattle.rising.proofs.Selecting.{All-reverse, AllPairs-append}
 use Rattle.readings.proofs.Selecting.{find_kept, find_passes}
 use Rattle.readings.specs.Window.{is_of_day, inner, neighbour_before, neighbour_after, with_neighbours, window}
-use Rattle.readings.proofs.WindowParts.{is_inner, is_early, is_late, both_true, lead_keeps, follow_keeps, option_kept, with_neighbours_keeps, no_inner}
-use Rattle.readings.proofs.FarReadings.{early_far_put, late_far_put}
+use Rattle.readings.proofs.WindowParts.{is_inner, is_early, is_late, both_true, lead_keeps, follow_keeps, option_kept, with_neighbours_keeps}
 
 -- what holds of each reading, and of the one put, holds of each after it
 pub put_keeps : (P : Reading → Type 0) (r : Reading) (rs : List Reading) → All P rs → P r → All P (put r rs)
@@ -80,22 +79,3 @@ window_rises a b gap rs h =
     (follow_keeps (IsFrom instant_of b) b gap (find (is_late b) rs)
     (found_weaker (λ r. is_late b r ≡ true) (IsFrom instant_of b) (find (is_late b) rs)
     (λ r k. yes_le b r.at (both_true (is_used r) (int_le b r.at) k)) (find_passes (is_late b) rs)))
-
-none_within : (n : Option Reading) (rs : List Reading) (m : Option Reading) → with_neighbours n rs m ≡ [] → rs ≡ []
-none_within n [] m h = refl
-none_within None (r ∷ rs) m h = absurd (cc)
-none_within (Some s) (r ∷ rs) m h = absurd (cc)
-
--- a window is empty exactly where its day has no reading of its own
-pub window_empty : (a b gap : ℤ) (rs : List Reading) → (window a b gap rs ≡ []) ↔ (inner a b rs ≡ [])
-window_empty a b gap rs =
-    (λ h. none_within (neighbour_before a gap rs) (inner a b rs) (neighbour_after b gap rs) h, λ h. no_inner a b gap rs h)
-
-pub window_nil : (a b gap : ℤ) → window a b gap [] ≡ []
-window_nil a b gap = refl
-
--- a reading put farther from the day than the gap leaves its window
-pub far_leaves : (a b gap : ℤ) (r : Reading) (rs : List Reading) → IsRising rs → pos 0 ≤ℤ gap → a ≤ℤ b
-    → ((r.at +ℤ gap) <ℤ a) ⊎ ((b +ℤ gap) <ℤ r.at) → window a b gap (put r rs) ≡ window a b gap rs
-far_leaves a b gap r rs h g o (inl far) = early_far_put a b gap r rs h o (omega (arith, ints)) (omega (arith, ints))
-far_leaves a b gap r rs h g o (inr far) = late_far_put a b gap r rs h o (omega (arith, ints)) (omega (arith, ints))

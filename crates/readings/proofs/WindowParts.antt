@@ -169,17 +169,6 @@ window_row a b gap rs left right e =
     (sym (append_assoc (filter is_used left) (filter is_used right) m) ∙ ap (λ (l : List Reading). l ++ m) own)
     ∙ in_row (neighbour_before a gap rs) (inner a b rs) (neighbour_after b gap rs)
 
--- the neighbours of a window are none already where they do not count
-kept_neighbours : (n : Option Reading) (xs : List Reading) (m : Option Reading) → with_neighbours (if_some xs n) xs (if_some xs m) ≡ with_neighbours n xs m
-kept_neighbours n [] m = refl
-kept_neighbours n (x ∷ xs) m = refl
-
-pub window_whole : (a b gap : ℤ) (rs left right : List Reading) (before after : Option Reading) → before ≡ window_before a b gap rs
-    → left ++ right ≡ of_day a b rs → after ≡ window_after a b gap rs → with_neighbours before (filter is_used (left ++ right)) after ≡ window a b gap rs
-window_whole a b gap rs left right before after e f g =
-    let own : filter is_used (left ++ right) ≡ inner a b rs = ap (filter is_used) f ∙ inner_found a b rs in
-    rw (e, own, g) (kept_neighbours (neighbour_before a gap rs) (inner a b rs) (neighbour_after b gap rs))
-
 pub window_joined : (a b gap : ℤ) (rs left right : List Reading) (before after : Option Reading) → before ≡ window_before a b gap rs
     → left ++ right ≡ of_day a b rs → after ≡ window_after a b gap rs
     → option_to_list before ++ (filter is_used (left ++ right) ++ option_to_list after) ≡ window a b gap rs

@@ -55,7 +55,7 @@ pub(crate) fn first_used_before(list: &[Reading], number: i64) -> Option<Reading
 pub(crate) fn count_used(list: &[Reading]) -> usize
     ensures { result ≡ length (filter is_used list.now) }
 {
-    // a sum without a branch takes several readings at a time
+    // summed without a branch, so that the compiler can take several readings at a time
     let mut count = 0;
     for reading in list {
         count += usize::from(is_usable(reading));

@@ -1,8 +1,8 @@
 -- The cells of one station replaced by those that it has after a change: what is said of each station, and the counts.
-use Rattle.std.specs.Prelude.{◌≡◌, ℕ, zero, suc, ◌+◌, ◌*◌, ◌<◌, ◌≤◌, min, Bool, true, false, not, ◌&&◌, cond, List, [], ◌∷◌, ◌++◌, length, set, take, drop, find, slice_get, count_by, filter, All, Option, Some, None, option_and_then, option_map, unwrap_or, is_none, IsSome, nat_lt, ℤ, pos, map}
+use Rattle.std.specs.Prelude.{◌≡◌, ℕ, zero, suc, ◌+◌, ◌*◌, ◌<◌, ◌≤◌, ◌^◌, min, Bool, true, false, not, ◌&&◌, cond, List, [], ◌∷◌, ◌++◌, length, set, take, drop, find, slice_get, count_by, filter, All, Option, Some, None, option_and_then, option_map, unwrap_or, is_none, IsSome, nat_lt, ℤ, pos, map}
 use Rattle.std.specs.List.{AllWithin, flat_map, insert}
 use Rattle.std.specs.Ordering.{int_eq}
-use Rattle.std.proofs.Common.{arith, refl, ap, sym, subst, ◌∙◌, get_or, inl, inr}
+use Rattle.std.proofs.Common.{rules, arith, refl, ap, sym, subst, ◌∙◌, get_or, inl, inr, Fits, w64}
 use Rattle.std.proofs.lemmas.Bool.{cases_lt, cases_eq, false≢true}
 use Rattle.std.proofs.lemmas.Bool.Decides.{Decides-int_eq}
 use Rattle.std.proofs.lemmas.List.{get_or-set_same, get_or-set_other, length-set, length-map, take-append-drop}
@@ -43,17 +43,21 @@ unfolding calendar
 waiting_most s = waiting_within s first_day days_of_calendar
 
 -- the totals are small
-pub pending_most : (stations : List KeptDays) → length stations ≤ most_stations → length (waiting stations) ≤ 4_294_967_296 * days_of_calendar
+pub pending_most : (stations : List KeptDays) → length stations ≤ most_stations → length (waiting stations) ≤ most_stations * days_of_calendar
 pending_most stations few =
     let a = length-flat_map waiting_of stations in
     let b = sum_by-le (λ s. length (waiting_of s)) days_of_calendar stations (λ k d l. waiting_most (get_or stations k d)) in
     omega (arith, a, b, few)
 
 pub cells_most : (stations : List KeptDays) → length stations ≤ most_stations → All (λ s. days_of s.span ≤ days_of_calendar) stations
-    → cell_count stations ≤ 4_294_967_296 * days_of_calendar
+    → cell_count stations ≤ most_stations * days_of_calendar
 cells_most stations few spans =
     let b = sum_by-le (λ s. days_of s.span) days_of_calendar stations spans in
     omega (arith, b, few)
+
+-- and one day span more fits 64 bits
+pub fits_small : (n : ℕ) → n ≤ most_stations * days_of_calendar + days_of_calendar → Fits w64 n
+fits_small n h = let l : n < 2 ^ 64 = omega arith in search rules
 
 -- a station's part of the totals
 pub pending_part : (stations : List KeptDays) (place : ℕ) (d : KeptDays) → place < length stations
@@ -289,10 +293,6 @@ some_edit (suc n) h = grind arith
 pub is_pending_there : (stations : List KeptDays) (site : SiteNumber) (day : ℤ) (old : KeptDays) → station_of stations site ≡ Some old
     → IsSome (awaited_in stations site day) → is_pending_on old day ≡ true
 is_pending_there stations site day old e h = some_edit (edit_on old day) (rw e at h)
-
-pub none_pending_there : (stations : List KeptDays) (site : SiteNumber) (day : ℤ) → station_of stations site ≡ None
-    → IsSome (awaited_in stations site day) → ⊥
-none_pending_there stations site day e h = false≢true (rw e at h)
 
 -- the cells of a station that is there
 nobody : SiteNumber → KeptDays

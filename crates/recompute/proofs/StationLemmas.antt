@@ -1,5 +1,5 @@
 -- Stations in the order of their sites: the first pending day of some, and one of them replaced.
-use Rattle.std.specs.Prelude.{◌≡◌, ℕ, zero, suc, ◌<◌, ◌≤◌, Bool, true, false, cond, List, [], ◌∷◌, ◌++◌, length, take, drop, find, slice_get, Some, None}
+use Rattle.std.specs.Prelude.{◌≡◌, ℕ, zero, suc, ◌<◌, ◌≤◌, Bool, true, false, cond, List, [], ◌∷◌, ◌++◌, length, take, drop, find, Some, None}
 use Rattle.std.proofs.Common.{arith, refl, ap, sym, ◌∙◌, get_or}
 use Rattle.std.proofs.lemmas.Bool.{false≢true}
 use Rattle.std.proofs.lemmas.Bool.Decides.{Decides-int_eq}
@@ -54,10 +54,6 @@ module _ (q : Waiting → Bool) where
   found_behind (s ∷ stations) (suc n) none =
       find_behind q (waiting_of s) (waiting stations) (none 0 s (omega arith) (omega arith))
       ∙ found_behind stations n (λ k z l m. none (suc k) z (omega arith) (omega arith))
-
-pub none_waiting : (ws : List Waiting) → slice_get ws 0 ≡ None → ws ≡ []
-none_waiting [] h = refl
-none_waiting (w ∷ ws) h = absurd (cc)
 
 -- two sites are one, or not
 pub site_yes : (a b : SiteNumber) → same_site a b ≡ true → site_place a ≡ site_place b

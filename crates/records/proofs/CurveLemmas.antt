@@ -134,10 +134,6 @@ abbrev pub with_front : List (ℤ × ℤ) → Option (List (ℤ × ℤ) × List 
 with_front points None = None
 with_front points (Some read) = Some (points ++ read.0, read.1)
 
-pub front_begun : (read : Option (List (ℤ × ℤ) × List ℕ)) → with_front [] read ≡ read
-front_begun None = refl
-front_begun (Some read) = refl
-
 front_moved : (points : List (ℤ × ℤ)) (point : ℤ × ℤ) (read : Option (List (ℤ × ℤ) × List ℕ)) → with_front points (behind point read) ≡ with_front (points ++ point ∷ []) read
 front_moved points point None = refl
 front_moved points point (Some read) =

@@ -33,10 +33,6 @@ pub guard_false : {A : Type 0} (b : Bool) (x y : A) → cond b None (Some x) ≡
 guard_false true x y e = absurd cc
 guard_false false x y e = (refl, cc)
 
-pub guard_true : {A : Type 0} (b : Bool) (x y : A) → cond b (Some x) None ≡ Some y → (b ≡ true) × (x ≡ y)
-guard_true true x y e = (refl, cc)
-guard_true false x y e = absurd cc
-
 pub some_is : {A : Type 0} (x y : A) → Some x ≡ Some y → x ≡ y
 some_is x y e = cc
 

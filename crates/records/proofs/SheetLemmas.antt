@@ -1,6 +1,6 @@
 -- Sheets and their bytes, both ways, and the sheets that an edit has.
 use Rattle.std.proofs.Common.{◌≡◌, ◌↔◌, ℕ, suc, ◌+◌, ◌-◌, ◌*◌, ◌^◌, ◌<◌, ◌≤◌, Bool, true, cond, List, [], ◌∷◌, ◌++◌, length, Option, Some, None, refl, sym, ap, subst, ◌∙◌, arith, append_assoc, length-append, inl, inr}
-use Rattle.std.specs.Prelude.{All, ℤ, pos, ◌+ℤ◌, ◌-ℤ◌, ◌<ℤ◌, IsSome, option_map, flat_map, nat_le, ◌&&◌}
+use Rattle.std.specs.Prelude.{All, IsSome, option_map, flat_map, nat_le, ◌&&◌}
 use Rattle.std.specs.Int.{w32, to_le_bytes}
 use Rattle.std.proofs.lemmas.Bool.Decides.{nat_tests}
 use Rattle.std.proofs.lemmas.Int.{ints}
@@ -11,7 +11,7 @@ use Rattle.edits.specs.Lawful.{IsLawful, most_reviewed_days}
 use Rattle.edits.specs.declared.content.What.{What}
 use Rattle.edits.specs.declared.content.What.TheVariants.{Decide}
 use Rattle.edits.specs.declared.decisions.Decision.TheVariants.{Approve}
-use Rattle.records.specs.Drafts.{AreSheets, HasSheets}
+use Rattle.records.specs.Drafts.{AreSheets}
 use Rattle.records.specs.Parsing.{number_at, front_at, sheet_at}
 use Rattle.records.specs.Payloads.{sheet_bytes}
 use Rattle.records.specs.Sheets.{most_sheet_bytes, IsSheet, AreSheetsOf}
@@ -67,14 +67,6 @@ spelled sheet sheets bytes e = e ∙ flat_map-cons sheet_bytes sheet sheets
 first_again : (sheet : List ℕ) (sheets : List (List ℕ)) (bytes : List ℕ) → All IsSheet (sheet ∷ sheets) → bytes ≡ flat_map sheet_bytes (sheet ∷ sheets) → sheet_at bytes ≡ Some (sheet, flat_map sheet_bytes sheets)
 first_again sheet sheets bytes each e =
     ap sheet_at (spelled sheet sheets bytes e) ∙ sheet_again sheet (flat_map sheet_bytes sheets) (All-head IsSheet sheet sheets each)
-
-no_sheets_told : (bytes : List ℕ) → AreSheets 0 bytes ↔ bytes ≡ []
-no_sheets_told bytes = (
-  λ are.
-      let none : are.sheets ≡ [] = nil_from_length are.sheets are.so_many in
-      are.bytes_are ∙ ap (flat_map sheet_bytes) none,
-  λ e. record { sheets = []; bytes_are = e; so_many = refl; each = All-nil IsSheet },
-)
 
 others_are : (count : ℕ) (bytes sheet rest : List ℕ) (sheets : List (List ℕ)) → sheet_at bytes ≡ Some (sheet, rest) → bytes ≡ flat_map sheet_bytes sheets → length sheets ≡ suc count → All IsSheet sheets → AreSheets count rest
 others_are count bytes sheet rest [] some e so_many each = absurd (omega (arith, so_many))
@@ -179,27 +171,10 @@ few_sheets (Decide from to Approve) sheets law are =
     omega (arith, ints)
 few_sheets _ sheets law none = omega (arith, ap length none)
 
--- an approval has as many sheets as days
-pub approved_told : (from to : ℤ) (count : ℕ) → pos count ≡ (to -ℤ from) +ℤ pos 1 → (sheets : List (List ℕ)) → AreSheetsOf (Decide from to Approve) sheets ↔ (length sheets ≡ count) × All IsSheet sheets
-approved_told from to count days sheets = (
-  λ are. (let one_a_day = are.one_a_day in omega (arith, ints), are.each),
-  λ h. record { one_a_day = ap pos h.0 ∙ days; each = h.1 },
-)
-
-pub none_approved : (from to : ℤ) → ((to -ℤ from) +ℤ pos 1) <ℤ pos 0 → (sheets : List (List ℕ)) → ¬ AreSheetsOf (Decide from to Approve) sheets
-none_approved from to below sheets are = let one_a_day = are.one_a_day in omega (arith, ints)
-
 pub none_told : (sheets : List (List ℕ)) → sheets ≡ [] ↔ (length sheets ≡ 0) × All IsSheet sheets
 none_told sheets = (
   λ none. (ap length none, subst (All IsSheet) (sym none) (All-nil IsSheet)),
   λ h. nil_from_length sheets h.0,
-)
-
--- whether bytes are an edit's sheets is told by how many it has
-pub sheets_told : (what : What) (count : ℕ) (bytes : List ℕ) → ((sheets : List (List ℕ)) → AreSheetsOf what sheets ↔ (length sheets ≡ count) × All IsSheet sheets) → AreSheets count bytes ↔ HasSheets what bytes
-sheets_told what count bytes told = (
-  λ are. record { sheets = are.sheets; bytes_are = are.bytes_are; are = (told are.sheets).1 (are.so_many, are.each) },
-  λ has. let counted = (told has.sheets).0 has.are in record { sheets = has.sheets; bytes_are = has.bytes_are; so_many = counted.0; each = counted.1 },
 )
 
 -- ---- lengths

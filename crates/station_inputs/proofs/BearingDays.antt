@@ -1,5 +1,5 @@
 -- The inputs of a day where a series of its station is changed: they stay exactly where the entries that bear on its window do.
-use Rattle.std.specs.Prelude.{◌≡◌, ℕ, Bool, true, false, not, cond, ◌==◌, ◌||◌, List, [], Option, Some, None, IfSome, ℤ, pos, ◌+ℤ◌, ◌≤ℤ◌}
+use Rattle.std.specs.Prelude.{◌≡◌, ℕ, Bool, true, false, not, cond, ◌==◌, ◌||◌, List, [], Option, Some, IfSome, ℤ, pos, ◌+ℤ◌, ◌≤ℤ◌}
 use Rattle.std.proofs.Common.{refl, ap, sym, subst, ◌∙◌}
 use Rattle.fixed_units.specs.declared.readings.Reading.{Reading}
 use Rattle.curves.specs.declared.entries.Entry.{Entry}
@@ -20,8 +20,8 @@ use Rattle.station_inputs.specs.Stations.{StationState, estimated_discharge, ser
 use Rattle.station_inputs.specs.declared.series.StationSeries.{StationSeries}
 use Rattle.station_inputs.specs.declared.series.StationSeries.TheVariants.{Correction, Shift}
 use Rattle.station_inputs.proofs.SeriesLemmas.{nothing_taken}
-use Rattle.station_inputs.proofs.StationLemmas.{same_of, told_by}
-use Rattle.station_inputs.proofs.WindowDays.{carried, carrying, with_ends, without_window}
+use Rattle.station_inputs.proofs.StationLemmas.{told_by}
+use Rattle.station_inputs.proofs.WindowDays.{carried, carrying, with_ends}
 
 -- the entries that a day's inputs carry
 abbrev in_first : DayInputs → List Entry
@@ -107,14 +107,6 @@ series_told s day which change lo hi e =
     ∙ ap (λ (x : DayInputs). same_inputs x (day_with s.gap s.stage_array s.discharge_array a b w q lo hi s.ratings c sh))
     (sym (with_ends s.gap s.stage_array s.discharge_array a b w q lo hi s.corrections s.shifts s.ratings e))
     ∙ ap (λ (x : DayInputs). same_inputs (station_day s day) x) (sym (with_ends s.gap s.stage_array s.discharge_array a b w q lo hi c sh s.ratings e))
-
--- a day without a window keeps them whatever is changed
-pub empty_told : (s : StationState) (day : ℤ) (which : StationSeries) (change : List Entry → List Entry) → window_ends (station_window s day) ≡ None
-    → true ≡ same_inputs (station_day s day) (station_day (with_series which change s) day)
-empty_told s day which change e =
-    sym (same_of (station_day s day) (station_day (with_series which change s) day)
-    (without_window s.gap s.stage_array s.discharge_array (day_start s day) (day_start s (day +ℤ pos 1)) (station_window s day) (estimated_discharge s day)
-    s.corrections (corrections_with which change s.corrections) s.shifts (shifts_with which change s.shifts) s.ratings s.ratings e))
 
 -- the window of a day goes from one instant to another, not before it
 pub record IsSpanned (s : StationState) (day lo hi : ℤ) : Type 0 where

@@ -188,10 +188,6 @@ estimated_span s f l k e g = (
   λ day d h. between_ends estimated_day day s.estimates f l k.estimates_are.rising e g (sym (some_discharge (found_at s day)) ∙ h),
 )
 
-pub no_estimates : (s : StationState) (estimates : List Estimate) → s.estimates ≡ estimates → first estimates ≡ None → IsSpanOf (is_estimated s) None
-no_estimates s [] e f day d = rw e refl
-no_estimates s (x ∷ xs) e f day d = absurd (cc)
-
 not_lt : (a b : ℤ) → int_lt a b ≡ false → b ≤ℤ a
 not_lt a b e = by_lt_z a b (λ l. absurd (let t = lt_yes a b l in cc)) (λ l. l)
 

@@ -9,11 +9,6 @@ use Rattle.station_loading.specs.Loading.{StatesNone, end_unstated}
 use Rattle.station_loading.specs.declared.loading.LoadingEnd.{LoadingEnd}
 use Rattle.station_loading.specs.declared.loading.LoadingEnd.TheVariants as loadings
 
--- nothing was taken yet, of a source that tells what it has
-pub taken_none : (l : Option (List ℕ)) → IsTaken l [] l
-taken_none None = tt
-taken_none (Some input) = refl
-
 -- a piece more was taken
 pub taken_more : (l0 l1 l2 : Option (List ℕ)) (text piece : List ℕ) → IsTaken l0 text l1 → IsTaken l1 piece l2 → IsTaken l0 (text ++ piece) l2
 taken_more None l1 l2 text piece first second = tt

@@ -53,10 +53,6 @@ pub has_head : (seen more : List ℕ) (found : Head) (head : RequestHead)
     → IsHeadAt (take 8192 seen) found head → HasHead (seen ++ more) head
 has_head seen more found head at = head_grows seen more head _ at.reads at.room
 
--- a head of the rest stays its head, whatever follows
-pub has_head_more : (rest more : List ℕ) (head : RequestHead) → HasHead rest head → HasHead (rest ++ more) head
-has_head_more rest more head h = head_grows rest more head h.0 h.1 h.2
-
 -- the rest is its head and then the bytes after it
 pub head_splits : (rest : List ℕ) (head : RequestHead)
     → HasHead rest head → rest ≡ print_request head ++ drop (length (print_request head)) rest
@@ -107,11 +103,6 @@ pub head_fits : (rest : List ℕ) (head : RequestHead) → HasHead rest head →
 head_fits rest head h =
     omega (arith, length-take 8192 rest, ap length h.1.1, length-append (print_request head) h.0)
 
--- and the rest
-pub head_within : (rest : List ℕ) (head : RequestHead) → HasHead rest head → length (print_request head) ≤ length rest
-head_within rest head h =
-    omega (arith, length-take 8192 rest, ap length h.1.1, length-append (print_request head) h.0)
-
 -- ---- one head
 
 -- there is at most one head
@@ -127,9 +118,6 @@ no_head_full seen more none full head h =
     (subst (λ (w : List ℕ). ReadsRequest w head h.0) (take-append-le 8192 seen more full) h.1)
 
 -- nor has a window that ends with the stream
-pub no_head_at_end : (seen : List ℕ) → HasNoRequest (take 8192 seen) → HasNoHead seen
-no_head_at_end seen none head h = none head h.0 h.1
-
 pub no_head_short : (seen : List ℕ) → HasNoRequest seen → length seen ≤ 8192 → HasNoHead seen
 no_head_short seen none short head h =
     none head h.0 (subst (λ (w : List ℕ). ReadsRequest w head h.0) (take_all 8192 seen short) h.1)

@@ -8,7 +8,7 @@ use Rattle.std.proofs.lemmas.List.Elements.{All-nil, All-append, All-from_get_or
 use Rattle.wire.specs.declared.limits.TheConstants.{BLOCK_BYTES}
 use Rattle.memchr.specs.Find.{IsFirstByte, is_byte}
 use Rattle.std.proofs.Math.Seq.{take-add, take-append_seam}
-use Rattle.std.proofs.lemmas.List.{length-take, take-take, take-append-le, take-append-drop, drop-append-le, drop-take, drop-drop}
+use Rattle.std.proofs.lemmas.List.{length-take, take-take, take-append-le, take-append-drop, drop-take, drop-drop}
 use Rattle.httparse.specs.Grammar.{RequestHead, HasNoRequest, MayBecomeRequest, print_request}
 use Rattle.wire.specs.declared.framing.Head.{Head}
 use Rattle.wire.specs.declared.looking.Front.TheVariants as fronts
@@ -20,13 +20,6 @@ use Rattle.wire.specs.Looking.{IsFramedAt, IsBlankWindow, Looks, HasGrown}
 use Rattle.wire.proofs.HeadLemmas.{has_head, found_splits, head_has_length, malformed_head, malformed_no_head, not_blank_more, blank_no_head, blank_full_no_head, no_head_short, no_head_without_line_feed}
 
 -- ---- a head that was found
-
--- a slice of the front is that of the whole
-slice-append : (xs ys : List ℕ) (i j : ℕ) → i ≤ j → j ≤ length xs → slice_range (xs ++ ys) i j ≡ slice_range xs i j
-slice-append xs ys i j le within =
-    let low : i ≤ length xs = omega arith in
-    let rest : j - i ≤ length (drop i xs) = omega (arith, length-drop i xs) in
-    ap (take (j - i)) (drop-append-le i xs ys low) ∙ take-append-le (j - i) (drop i xs) ys rest
 
 -- a slice of the window is that of the whole
 slice-take : (n : ℕ) (xs : List ℕ) (i j : ℕ) → i ≤ j → j ≤ n → slice_range (take n xs) i j ≡ slice_range xs i j
@@ -310,3 +303,36 @@ within_skipped offset now rest skipped ahead left splits count forward limit =
     let e : length rest ≡ length skipped + length (ahead ++ left) = ap length splits ∙ length-append skipped (ahead ++ left) in
     let f : length (ahead ++ left) ≡ length ahead + length left = length-append ahead left in
     omega arith
+
+-- ---- behind bytes that were passed
+
+-- what stands behind the bytes that were passed, where the source tells it
+abbrev pub IsRest : List ℕ → List ℕ → List ℕ → Option (List ℕ) → Option (List ℕ) → Type 0
+IsRest first bytes ahead before after = Told before after (λ b a. first ++ b ≡ bytes ++ (ahead ++ a))
+
+-- it is the same where nothing was taken
+pub rest_same : (first bytes ahead : List ℕ) (before between after : Option (List ℕ)) → IsRest first bytes ahead before between
+    → Told between after (λ m a. a ≡ m) → IsRest first bytes ahead before after
+rest_same first bytes ahead before between after rest same =
+    told_joins before between after (λ b m. first ++ b ≡ bytes ++ (ahead ++ m)) (λ m a. a ≡ m)
+    (λ b a. first ++ b ≡ bytes ++ (ahead ++ a))
+    (λ b m a p q. p ∙ ap (λ (xs : List ℕ). bytes ++ (ahead ++ xs)) (sym q)) rest same
+
+-- no more was taken than may be
+pub within_behind : (first bytes ahead : List ℕ) (before after : Option (List ℕ)) (offset now : ℕ) → now ≡ offset + length bytes
+    → now + length ahead ≤ 2 ^ 36 → IsRest first bytes ahead before after
+    → Told before after (λ b a. offset + length (first ++ b) ≤ 2 ^ 36 + length a)
+within_behind first bytes ahead before after offset now moved limit rest =
+    told_maps before after (λ b a. first ++ b ≡ bytes ++ (ahead ++ a)) (λ b a. offset + length (first ++ b) ≤ 2 ^ 36 + length a)
+    (λ b a p. within_skipped offset now (first ++ b) bytes ahead a p (omega (arith, moved)) (omega (arith, moved)) limit) rest
+
+-- bytes at hand behind those that were passed
+pub splits_ahead : (first bytes ahead b a : List ℕ) → first ++ b ≡ bytes ++ (ahead ++ a) → first ++ b ≡ (bytes ++ ahead) ++ a
+splits_ahead first bytes ahead b a splits = splits ∙ sym (append_assoc bytes ahead a)
+
+-- where these settle nothing, and no more was taken, they were needed
+pub needed_unsettled : (first bytes ahead : List ℕ) (before after : Option (List ℕ)) → IsUnsettled (bytes ++ ahead)
+    → IsRest first bytes ahead before after → Told before after (λ b a. IsNeeded (first ++ b) a)
+needed_unsettled first bytes ahead before after unsettled rest =
+    told_maps before after (λ b a. first ++ b ≡ bytes ++ (ahead ++ a)) _
+    (λ b a p. needed_unread (first ++ b) (bytes ++ ahead) a a (splits_ahead first bytes ahead b a p) refl unsettled) rest

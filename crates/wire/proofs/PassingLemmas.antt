@@ -1,5 +1,5 @@
 -- Messages that are passed: what is passed of a rest behind a head is its body.
-use Rattle.std.proofs.Common.{◌≡◌, ◌⊎◌, ℕ, ◌+◌, ◌-◌, ◌^◌, ◌<◌, ◌≤◌, Bool, true, false, List, [], ◌++◌, length, take, drop, Option, Some, None, IfSome, if◌then◌else◌, refl, sym, ap, ◌∙◌, subst, arith, inl, inr, ⊎_elim, append_assoc, append-nil, length-append}
+use Rattle.std.proofs.Common.{◌≡◌, ◌⊎◌, ℕ, ◌+◌, ◌-◌, ◌<◌, ◌≤◌, Bool, true, false, List, [], ◌++◌, length, take, drop, Option, Some, None, IfSome, if◌then◌else◌, refl, sym, ap, ◌∙◌, subst, arith, inl, inr, ⊎_elim, append_assoc, append-nil, length-append}
 use Rattle.std.proofs.lemmas.Bool.{true≢false}
 use Rattle.wire.specs.declared.limits.TheConstants.{BLOCK_BYTES}
 use Rattle.httparse.specs.Grammar.{RequestHead, print_request}
@@ -17,7 +17,7 @@ use Rattle.wire.specs.Incoming.{Held, AwaitsBody, IsUnsettled, IsNeeded, IsNext,
 use Rattle.wire.specs.Looking.{IsFramedAt, PassesBytes, PassesWhole, MovesBy, IsCaused, is_kept, told_kept, told_dropped, told_as}
 use Rattle.wire.proofs.HeadLemmas.{head_fits, take_within, malformed_cut}
 use Rattle.std.proofs.lemmas.List.{take-append-drop}
-use Rattle.wire.proofs.IncomingLemmas.{Told, told_self, told_maps, told_joins, within_skipped, needed_unread}
+use Rattle.wire.proofs.IncomingLemmas.{Told, told_joins, IsRest}
 use Rattle.wire.proofs.MessageLemmas.{whole_counts}
 
 -- ---- a head at the front
@@ -136,15 +136,6 @@ passes_whole ahead more offset found head at old new begun passes.Failed before 
       behind_head ahead more found head at ∙ ap (λ (xs : List ℕ). printed ++ xs) passed.1 ∙ sym (append_assoc printed seen left),
       awaits ahead seen found head at passed.2,
     )
-
--- the offset is behind both
-pub moves_behind : (len count : ℕ) (first old new : Held) (passed : Passed) → old.offset ≡ first.offset + len
-    → MovesBy count old passed new → MovesBy (len + count) first passed new
-moves_behind len count first old new passes.Kept begun moved = omega (arith, begun, moved)
-moves_behind len count first old new passes.Dropped begun moved = omega (arith, begun, moved)
-moves_behind len count first old new passes.End begun moved = tt
-moves_behind len count first old new passes.Long begun moved = tt
-moves_behind len count first old new passes.Failed begun moved = tt
 
 -- ---- what is told
 
@@ -274,64 +265,6 @@ passes_all true passed is count rest offset before text after left all len split
 passes_all false passed is count rest offset before text after left all len splits same =
     subst (λ (p : Passed). PassesBytes count rest offset before p text after left) (sym is) (all, len, splits)
 
--- what stands behind the bytes that were passed, where the source tells it
-abbrev pub IsRest : List ℕ → List ℕ → List ℕ → Option (List ℕ) → Option (List ℕ) → Type 0
-IsRest first bytes ahead before after = Told before after (λ b a. first ++ b ≡ bytes ++ (ahead ++ a))
-
--- it is the same where nothing was taken
-pub rest_same : (first bytes ahead : List ℕ) (before between after : Option (List ℕ)) → IsRest first bytes ahead before between
-    → Told between after (λ m a. a ≡ m) → IsRest first bytes ahead before after
-rest_same first bytes ahead before between after rest same =
-    told_joins before between after (λ b m. first ++ b ≡ bytes ++ (ahead ++ m)) (λ m a. a ≡ m)
-    (λ b a. first ++ b ≡ bytes ++ (ahead ++ a))
-    (λ b m a p q. p ∙ ap (λ (xs : List ℕ). bytes ++ (ahead ++ xs)) (sym q)) rest same
-
--- no more was taken than may be
-pub within_passed : (first bytes ahead : List ℕ) (before after : Option (List ℕ)) (offset now : ℕ) → now ≡ offset + length bytes
-    → now + length ahead ≤ 2 ^ 36 → IsRest first bytes ahead before after
-    → Told before after (λ b a. offset + length (first ++ b) ≤ 2 ^ 36 + length a)
-within_passed first bytes ahead before after offset now moved limit rest =
-    told_maps before after (λ b a. first ++ b ≡ bytes ++ (ahead ++ a)) (λ b a. offset + length (first ++ b) ≤ 2 ^ 36 + length a)
-    (λ b a p. within_skipped offset now (first ++ b) bytes ahead a p (omega (arith, moved)) (omega (arith, moved)) limit) rest
-
--- the bytes at hand were taken for what was missing behind those that were passed,
-pub needed_before : (count : ℕ) (first bytes ahead : List ℕ) (before after : Option (List ℕ)) → length bytes < count
-    → length ahead ≤ BLOCK_BYTES → IsRest first bytes ahead before after
-    → Told before after (λ b a. (b ≡ a)
-    ⊎ ((seen : List ℕ) × (piece : List ℕ) × (first ++ b ≡ seen ++ (piece ++ a)) × (length seen < count) × (length piece ≤ BLOCK_BYTES)))
-needed_before count first bytes ahead before after short block rest =
-    told_maps before after (λ b a. first ++ b ≡ bytes ++ (ahead ++ a)) _ (λ b a p. inr (bytes, ahead, p, short, block)) rest
-
--- and where they are not enough none were taken in vain
-pub needed_behind : (count : ℕ) (first bytes ahead : List ℕ) (before after : Option (List ℕ)) → length (bytes ++ ahead) < count
-    → IsRest first bytes ahead before after
-    → Told before after (λ b a. (b ≡ a)
-    ⊎ ((seen : List ℕ) × (piece : List ℕ) × (first ++ b ≡ seen ++ (piece ++ a)) × (length seen < count) × (length piece ≤ BLOCK_BYTES)))
-needed_behind count first bytes ahead before after short rest =
-    told_maps before after (λ b a. first ++ b ≡ bytes ++ (ahead ++ a)) _
-    (λ b a p. inr (bytes ++ ahead, [], p ∙ sym (append_assoc bytes ahead a), short, omega arith)) rest
-
--- nothing was taken
-pub needed_never : (count : ℕ) (first : List ℕ) (before after : Option (List ℕ)) → after ≡ before
-    → Told before after (λ b a. (b ≡ a)
-    ⊎ ((seen : List ℕ) × (piece : List ℕ) × (first ++ b ≡ seen ++ (piece ++ a)) × (length seen < count) × (length piece ≤ BLOCK_BYTES)))
-needed_never count first before after same =
-    subst (λ (o : Option (List ℕ)). Told before o (λ b a. (b ≡ a)
-    ⊎ ((seen : List ℕ) × (piece : List ℕ) × (first ++ b ≡ seen ++ (piece ++ a)) × (length seen < count) × (length piece ≤ BLOCK_BYTES))))
-    (sym same) (told_self before _ (λ b. inl refl))
-
--- the end was not found
-pub unended : (before now : ℕ) (left : Option (List ℕ)) (P : List ℕ → Type 0) → now ≡ before → IfSome left (λ b. (now ≡ before) ⊎ P b)
-unended before now None P same = tt
-unended before now (Some b) P same = inl same
-
--- or all of the rest is short
-pub ended_short : (count : ℕ) (first : List ℕ) (left after : Option (List ℕ)) (before now : ℕ)
-    → Told left after (λ b a. length (first ++ b) < count) → IfSome left (λ b. (now ≡ before) ⊎ (length (first ++ b) < count))
-ended_short count first None after before now told = tt
-ended_short count first (Some b) None before now told = absurd told
-ended_short count first (Some b) (Some a) before now told = inr told
-
 -- all of a rest is short whose last bytes are at hand, and nothing is left of it
 pub short_end : (count : ℕ) (first bytes ahead : List ℕ) (before between after : Option (List ℕ)) → length (bytes ++ ahead) < count
     → IsRest first bytes ahead before between → Told between after (λ m a. (m ≡ []) × (a ≡ []))
@@ -343,17 +276,6 @@ short_end count first bytes ahead before between after short rest end =
     let whole : first ++ b ≡ bytes ++ ahead =
     p ∙ ap (λ (xs : List ℕ). bytes ++ (ahead ++ xs)) q.0 ∙ ap (λ (xs : List ℕ). bytes ++ xs) (append-nil ahead) in
     (subst (λ (xs : List ℕ). length xs < count) (sym whole) short, q.1)) rest end
-
--- bytes at hand behind those that were passed
-pub splits_ahead : (first bytes ahead b a : List ℕ) → first ++ b ≡ bytes ++ (ahead ++ a) → first ++ b ≡ (bytes ++ ahead) ++ a
-splits_ahead first bytes ahead b a splits = splits ∙ sym (append_assoc bytes ahead a)
-
--- where these settle nothing, and no more was taken, they were needed
-pub needed_unsettled : (first bytes ahead : List ℕ) (before after : Option (List ℕ)) → IsUnsettled (bytes ++ ahead)
-    → IsRest first bytes ahead before after → Told before after (λ b a. IsNeeded (first ++ b) a)
-needed_unsettled first bytes ahead before after unsettled rest =
-    told_maps before after (λ b a. first ++ b ≡ bytes ++ (ahead ++ a)) _
-    (λ b a p. needed_unread (first ++ b) (bytes ++ ahead) a a (splits_ahead first bytes ahead b a p) refl unsettled) rest
 
 -- the end was found only where all of the rest settles nothing
 pub ended_rest : (ahead behind : List ℕ) (found : Head) (head : RequestHead) → IsFramedAt ahead found head

@@ -10,11 +10,13 @@ loop-other-preserved c =
     let first = c.earlier_of-first.ensures.first in
     let second = c.earlier_of-first.ensures.second in
     let low = c.loop-other.invariant.low in
+    let days = c.args.days.now in
+    let i = c.loop-other.other-index in
     let here = c.other-item.is in
     record {
       low = omega (arith, ints);
-      all = All-more (λ d. c.earlier_of-first.result ≤ℤ d) c.args.days.now c.loop-other.other-index c.other-item.result c.loop-other-test.true
-          (All-weaker (λ d. c.loop-other.first ≤ℤ d) (λ d. c.earlier_of-first.result ≤ℤ d) (λ d k. omega (arith, ints, k, first)) (take c.loop-other.other-index c.args.days.now) c.loop-other.invariant.all)
+      all = All-more (λ d. c.earlier_of-first.result ≤ℤ d) days i c.other-item.result c.loop-other-test.true
+          (All-weaker (λ d. c.loop-other.first ≤ℤ d) (λ d. c.earlier_of-first.result ≤ℤ d) (λ d k. omega (arith, ints, k, first)) (take i days) c.loop-other.invariant.all)
           (omega (arith, ints));
     }
 

@@ -10,11 +10,13 @@ loop-other-preserved c =
     let first = c.later_of-last.ensures.first in
     let second = c.later_of-last.ensures.second in
     let high = c.loop-other.invariant.high in
+    let days = c.args.days.now in
+    let i = c.loop-other.other-index in
     let here = c.other-item.is in
     record {
       high = omega (arith, ints);
-      all = All-more (λ d. d ≤ℤ c.later_of-last.result) c.args.days.now c.loop-other.other-index c.other-item.result c.loop-other-test.true
-          (All-weaker (λ d. d ≤ℤ c.loop-other.last) (λ d. d ≤ℤ c.later_of-last.result) (λ d k. omega (arith, ints, k, first)) (take c.loop-other.other-index c.args.days.now) c.loop-other.invariant.all)
+      all = All-more (λ d. d ≤ℤ c.later_of-last.result) days i c.other-item.result c.loop-other-test.true
+          (All-weaker (λ d. d ≤ℤ c.loop-other.last) (λ d. d ≤ℤ c.later_of-last.result) (λ d k. omega (arith, ints, k, first)) (take i days) c.loop-other.invariant.all)
           (omega (arith, ints));
     }
 

@@ -14,12 +14,12 @@ returns-in-Some-clause-edit c =
 pub returns-in-None-clause-edit : goal.returns-in-None-clause-edit
 returns-in-None-clause-edit c =
     let same = of_text c.args.body.now c.in-Ok.ensures.cases.1 ∙ ap (λ text. edit_of_value (read text)) (sym c.in-Ok.ensures.cases.0) in
-    subst (λ r. IfOk c.edit_of_tree.result (λ edit. r ≡ Ok (parts edit))) (sym same) c.edit_of_tree.ensures.edit
+    subst (λ r. IfOk c.edit_of_tokens.result (λ edit. r ≡ Ok (parts edit))) (sym same) c.edit_of_tokens.ensures.edit
 
 pub returns-in-None-clause-json : goal.returns-in-None-clause-json
 returns-in-None-clause-json c is =
-    of_text c.args.body.now c.in-Ok.ensures.cases.1 ∙ ap (λ text. edit_of_value (read text)) (sym c.in-Ok.ensures.cases.0) ∙ c.edit_of_tree.ensures.json is
+    of_text c.args.body.now c.in-Ok.ensures.cases.1 ∙ ap (λ text. edit_of_value (read text)) (sym c.in-Ok.ensures.cases.0) ∙ c.edit_of_tokens.ensures.json is
 
 pub returns-in-None-clause-member : goal.returns-in-None-clause-member
 returns-in-None-clause-member c which is =
-    of_text c.args.body.now c.in-Ok.ensures.cases.1 ∙ ap (λ text. edit_of_value (read text)) (sym c.in-Ok.ensures.cases.0) ∙ c.edit_of_tree.ensures.member which is
+    of_text c.args.body.now c.in-Ok.ensures.cases.1 ∙ ap (λ text. edit_of_value (read text)) (sym c.in-Ok.ensures.cases.0) ∙ c.edit_of_tokens.ensures.member which is

@@ -1,4 +1,4 @@
--- The station is written over with the same record and more room.
+-- The station is written over with the same state and more room.
 use Rattle.std.proofs.Common.{arith, ap, sym, ◌∙◌}
 use Rattle.std.proofs.lemmas.Result.{IfOk-weaker}
 use Rattle.fixed_units.specs.Quantities.{site_place}

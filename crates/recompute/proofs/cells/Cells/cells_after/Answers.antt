@@ -1,11 +1,7 @@
-use Rattle.std.specs.Prelude.{ℕ, ◌+◌, ◌*◌, ◌<◌, ◌≤◌, ◌^◌}
-use Rattle.std.proofs.Common.{rules, arith, Fits, w64}
-use Rattle.fixed_units.specs.Calendar.{days_of_calendar}
-use Rattle.recompute.proofs.ReplaceLemmas.{cells_most}
+use Rattle.std.specs.Prelude.{◌+◌}
+use Rattle.std.proofs.Common.{arith}
+use Rattle.recompute.proofs.ReplaceLemmas.{cells_most, fits_small}
 use Rattle.recompute.proofs.cells.Cells.cells_after.Goals as goal
-
-fits_small : (n : ℕ) → n ≤ 4_294_967_296 * days_of_calendar + days_of_calendar → Fits w64 n
-fits_small n h = let l : n < 2 ^ 64 = omega arith in search rules
 
 pub overflow_add-result : goal.overflow_add-result
 overflow_add-result c =

@@ -1,16 +1,12 @@
-use Rattle.std.specs.Prelude.{◌≡◌, ℕ, ◌+◌, ◌-◌, ◌*◌, ◌<◌, ◌≤◌, ◌^◌, not, length, find, slice_get, count_by, is_none, Some, None, option_and_then}
-use Rattle.std.proofs.Common.{rules, arith, ap, sym, ◌∙◌, add-zero, Fits, w64}
+use Rattle.std.specs.Prelude.{◌≡◌, ◌+◌, ◌-◌, not, length, find, slice_get, count_by, is_none, Some, None, option_and_then}
+use Rattle.std.proofs.Common.{arith, ap, sym, ◌∙◌, add-zero}
 use Rattle.std.proofs.lemmas.List.{get_or-set_same}
-use Rattle.fixed_units.specs.Calendar.{days_of_calendar}
 use Rattle.day_cells.specs.Spans.{days_of}
 use Rattle.day_cells.specs.KeptDays.{KeptDays, awaited_on, waiting_of}
 use Rattle.recompute.specs.Cells.{station_of, awaited_in, waiting, IsPlace, IsGap}
-use Rattle.recompute.proofs.ReplaceLemmas.{IsReplaced, pending_most, cells_most, pending_part, cells_part, was_there, pending_replaced, cells_replaced, keeps_replaced, marks, no_room, marks_none, fresh_days, first_back}
+use Rattle.recompute.proofs.ReplaceLemmas.{IsReplaced, pending_most, cells_most, fits_small, pending_part, cells_part, was_there, pending_replaced, cells_replaced, keeps_replaced, marks, no_room, marks_none, fresh_days, first_back}
 use Rattle.recompute.proofs.cells.Cells.mark.Goals as goal
 use Rattle.recompute.proofs.cells.Cells.mark.Goals.{After-mark}
-
-fits_small : (n : ℕ) → n ≤ 4_294_967_296 * days_of_calendar + days_of_calendar → Fits w64 n
-fits_small n h = let l : n < 2 ^ 64 = omega arith in search rules
 
 -- the cells of the station stand replaced by those that it has after the call
 replaced : (c : After-mark) → IsReplaced c.self.inside.stations.items c.args.site c.in-Ok.place c.index_mut.result.now c.mark.new.self

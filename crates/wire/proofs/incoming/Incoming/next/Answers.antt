@@ -1,7 +1,6 @@
 use Rattle.std.proofs.Common.{◌≡◌, ◌⊎◌, ℕ, ◌+◌, ◌^◌, ◌≤◌, List, [], ◌++◌, length, take, refl, sym, ap, ◌∙◌, subst, arith, append-nil, inl, inr, ⊎_elim}
 use Rattle.wire.specs.Incoming.{Held, IsNext, AwaitsHead, IsUnsettled, IsNeeded, IsStopped}
-use Rattle.wire.proofs.IncomingLemmas.{told_self, told_maps, told_joins, blank_unsettled, ended_behind, ended_never, ended_joins, was_unsettled, stopped_ahead, needed_unread, needed_ahead, within_rest}
-use Rattle.wire.proofs.PassingLemmas.{rest_same, within_passed, needed_unsettled}
+use Rattle.wire.proofs.IncomingLemmas.{told_self, told_maps, told_joins, blank_unsettled, ended_behind, ended_never, ended_joins, was_unsettled, stopped_ahead, needed_unread, needed_ahead, within_rest, rest_same, within_behind, needed_unsettled}
 use Rattle.wire.proofs.incoming.Incoming.next.Goals as goal
 
 pub loop-head-init : goal.loop-head-init
@@ -138,7 +137,7 @@ returns-in-Long-clause-within g c =
     let old = c.args.self.now in
     let now = c.loop-head.self in
     let left = g.S.Source.left in
-    within_passed old.ahead [] now.ahead (left c.args.source.now) (left c.fill.new.source) old.offset now.offset
+    within_behind old.ahead [] now.ahead (left c.args.source.now) (left c.fill.new.source) old.offset now.offset
     (omega (arith, c.loop-head.invariant.offset)) c.held.ensures.limit
     (rest_same old.ahead [] now.ahead (left c.args.source.now) (left c.loop-head.source) (left c.fill.new.source) c.loop-head.invariant.rest c.in-Long.ensures.kept)
 
@@ -147,7 +146,7 @@ returns-in-Failed-clause-within g c =
     let old = c.args.self.now in
     let now = c.loop-head.self in
     let left = g.S.Source.left in
-    within_passed old.ahead [] now.ahead (left c.args.source.now) (left c.fill.new.source) old.offset now.offset
+    within_behind old.ahead [] now.ahead (left c.args.source.now) (left c.fill.new.source) old.offset now.offset
     (omega (arith, c.loop-head.invariant.offset)) c.held.ensures.limit
     (rest_same old.ahead [] now.ahead (left c.args.source.now) (left c.loop-head.source) (left c.fill.new.source) c.loop-head.invariant.rest c.in-Failed.ensures.kept)
 

@@ -1,8 +1,8 @@
 use Rattle.std.proofs.Common.{◌≡◌, ℕ, ◌+◌, ◌^◌, ◌<◌, ◌≤◌, true, List, [], ◌++◌, length, take, drop, refl, sym, ap, ◌∙◌, arith, append_assoc, append-nil, length-append, inl, inr, ⊎_elim}
 use Rattle.std.proofs.lemmas.List.{length-take, take_all, drop_all}
 use Rattle.wire.specs.Incoming.{Held}
-use Rattle.wire.proofs.IncomingLemmas.{told_self, told_maps, told_joins}
-use Rattle.wire.proofs.PassingLemmas.{joins_front, passes_all, rest_same, short_end, splits_ahead}
+use Rattle.wire.proofs.IncomingLemmas.{told_self, told_maps, told_joins, rest_same, splits_ahead}
+use Rattle.wire.proofs.PassingLemmas.{joins_front, passes_all, short_end}
 use Rattle.wire.proofs.incoming.Incoming.pass_bytes.Goals as goal
 
 pub loop-missing-init : goal.loop-missing-init

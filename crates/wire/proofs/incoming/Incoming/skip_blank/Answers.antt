@@ -2,8 +2,7 @@ use Rattle.std.proofs.Common.{◌≡◌, ℕ, ◌+◌, ◌-◌, ◌^◌, ◌≤�
 use Rattle.std.proofs.lemmas.List.{length-take}
 use Rattle.wire.specs.Incoming.{Held, taken, IsNeeded, IsStopped}
 use Rattle.wire.specs.Messages.{is_blank, IsMalformed}
-use Rattle.wire.proofs.IncomingLemmas.{Told, told_self, told_maps, told_joins, blank-append, blank_window_more, blank_unsettled, ended_behind, ended_never, malformed_behind, needed_unread, stopped_blank, was_blank, within_skipped}
-use Rattle.wire.proofs.PassingLemmas.{IsRest, rest_same, within_passed, needed_unsettled}
+use Rattle.wire.proofs.IncomingLemmas.{Told, told_self, told_maps, told_joins, blank-append, blank_window_more, blank_unsettled, ended_behind, ended_never, malformed_behind, needed_unread, stopped_blank, was_blank, within_skipped, IsRest, rest_same, within_behind, needed_unsettled}
 use Rattle.wire.proofs.incoming.Incoming.skip_blank.Goals as goal
 
 -- the stream is stopped behind blank bytes, all of which were skipped
@@ -154,7 +153,7 @@ returns-in-Long-clause-within g c =
     let now = c.loop-self.self in
     let left = g.S.Source.left in
     let so_far = c.loop-self.invariant.skipped in
-    within_passed c.args.self.now.ahead so_far.0 now.ahead (left c.args.source.now) (left c.fill.new.source) c.args.self.now.offset now.offset
+    within_behind c.args.self.now.ahead so_far.0 now.ahead (left c.args.source.now) (left c.fill.new.source) c.args.self.now.offset now.offset
     (omega (arith, so_far.1, c.loop-self.invariant.forward)) c.loop-self.invariant.limit
     (rest_same _ so_far.0 now.ahead (left c.args.source.now) (left c.loop-self.source) (left c.fill.new.source) so_far.4 c.in-Long.ensures.kept)
 
@@ -163,7 +162,7 @@ returns-in-Failed-clause-within g c =
     let now = c.loop-self.self in
     let left = g.S.Source.left in
     let so_far = c.loop-self.invariant.skipped in
-    within_passed c.args.self.now.ahead so_far.0 now.ahead (left c.args.source.now) (left c.fill.new.source) c.args.self.now.offset now.offset
+    within_behind c.args.self.now.ahead so_far.0 now.ahead (left c.args.source.now) (left c.fill.new.source) c.args.self.now.offset now.offset
     (omega (arith, so_far.1, c.loop-self.invariant.forward)) c.loop-self.invariant.limit
     (rest_same _ so_far.0 now.ahead (left c.args.source.now) (left c.loop-self.source) (left c.fill.new.source) so_far.4 c.in-Failed.ensures.kept)
 

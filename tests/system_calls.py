@@ -205,6 +205,8 @@ def mend_of_a_gate(calls):
     record, sync, gate, _, _ = edit(2)
     mended = [record, sync, gate.replace("write 1", "write -1"), gate, sync, record, sync, gate, sync, "close"]
     expect("a gate in doubt: mended before the next edit", [*OPENING, sync, *mended], calls.seen())
+    gates = re.findall(r'pwrite64\([^"]*"([^"]*)", 1, ', pathlib.Path(calls.log).read_text())
+    expect("    by the byte 0, behind one 1 and before another", [r"\1", r"\0", r"\1"], gates)
 
 
 def streams_that_are_not_taken_up(calls):

@@ -96,7 +96,8 @@ impl<D: Disk> Office<D> {
 
     /// What is in force.
     pub fn inputs(&self) -> &Inputs
-        ensures { in_force result.now ≡ stations_at self.now.register.history.events }
+        ensures stations { in_force result.now ≡ stations_at self.now.register.history.events }
+        ensures limits { result.now.limits ≡ self.now.register.history.limits }
     {
         self.register.inputs()
     }

@@ -33,6 +33,7 @@ impl<D: Disk> Office<D> {
         ensures synced { IfOk result (λ office. SyncsFirst D.Disk disk office.disk (IsContent (D.content disk))) }
         ensures any_moment { IfOk result (λ office. LeavesOnly D.Disk disk office.disk (D.may_leave disk)) }
         ensures counted { IfOk result (λ office. D.faults disk ≤ D.faults office.disk) }
+        ensures done { IfOk result (λ office. D.faults office.disk ≡ D.faults disk) }
         ensures refused { IfErr result (λ refused. IsNotOpened (D.content disk) limits refused.fault (D.faults disk) (D.faults refused.disk)) }
         ensures refused_same { IfErr result (λ refused. IsUnchanged (D.content disk) (D.content refused.disk)) }
         ensures refused_any_moment { IfErr result (λ refused. LeavesOnly D.Disk disk refused.disk (D.may_leave disk)) }
@@ -67,6 +68,7 @@ pub(crate) fn read_all<D: Disk>(
     ensures ended { OnOk result (opening.new.ended ≡ true) }
     ensures refused { IfErr result (λ fault. IsReadFault (D.content opening.new.ahead.disk) register.old.history.limits fault (D.faults opening.old.ahead.disk) (D.faults opening.new.ahead.disk)) }
     ensures disk { OnlyReads D.Disk opening.old.ahead.disk opening.new.ahead.disk }
+    ensures done { OnOk result (D.faults opening.new.ahead.disk ≡ D.faults opening.old.ahead.disk) }
 {
     while read_next(alloc, opening, register)? {}
     Ok(())
@@ -85,6 +87,7 @@ fn read_next<D: Disk>(
     ensures within { result ≡ Ok true → opening.old.gate < 2 ^ 64 }
     ensures refused { IfErr result (λ fault. IsReadFault (D.content opening.new.ahead.disk) register.old.history.limits fault (D.faults opening.old.ahead.disk) (D.faults opening.new.ahead.disk)) }
     ensures disk { OnlyReads D.Disk opening.old.ahead.disk opening.new.ahead.disk }
+    ensures done { OnOk result (D.faults opening.new.ahead.disk ≡ D.faults opening.old.ahead.disk) }
 {
     a_history_is_legal(register);
     let Some(piece) = opening.next(alloc)? else {

@@ -1,6 +1,6 @@
 //! What is due: jobs for pending days, and the publication of their values.
 
-ghost use Rattle.std.specs.Prelude.{◌≡◌, ◌≢◌, not, None, Some, Ok, find, slice_get, option_map, IfOk, IfSome, OnErr};
+ghost use Rattle.std.specs.Prelude.{◌≡◌, ◌≢◌, not, None, Some, Ok, find, slice_get, option_map, IsSome, IfOk, IfSome, OnErr};
 ghost use Rattle.daily_values.specs.DayValue.{day_value};
 ghost use Rattle.office_inputs.specs.Kept.{in_force};
 ghost use Rattle.office_inputs.specs.Stations.{inputs_of_day};
@@ -71,6 +71,17 @@ impl Cells {
         }
         self.put_value(site, day, *done.value());
         Publish::Published
+    }
+
+    /// Publishes the value of a job of which the caller knows that its day still awaits its edit, on the inputs in force: nothing is
+    /// compared. It takes no memory.
+    pub fn publish_due(&mut self, done: Done)
+        requires { IsSome (awaited_in self.old done.job.site done.job.day) }
+        ensures published { Publishes self.old self.new done.job.site done.job.day done.value }
+        ensures value { done.value ≡ day_value done.job.inputs }
+    {
+        let job = done.job();
+        self.put_value(job.site(), job.day(), *done.value());
     }
 }
 

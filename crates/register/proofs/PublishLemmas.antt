@@ -1,23 +1,26 @@
 -- A publication: what was pending, and what is kept behind it.
-use Rattle.std.specs.Prelude.{◌≡◌, ℕ, ◌+◌, ◌<◌, ◌^◌, Bool, true, List, [], ◌∷◌, ◌++◌, length, map, Option, Some, None, is_some}
+use Rattle.std.specs.Prelude.{◌≡◌, ℕ, ◌+◌, ◌<◌, ◌^◌, Bool, true, false, List, [], ◌∷◌, ◌++◌, length, map, Option, Some, None, is_some, cond, ◌==◌}
 use Rattle.std.proofs.Common.{arith, refl, ap, sym, subst, ◌∙◌, length-append}
 use Rattle.daily_values.specs.DayValue.{day_value}
+use Rattle.day_inputs.specs.Equality.{same_inputs}
+use Rattle.day_inputs.proofs.EqualityLemmas.{Decides-same_inputs}
 use Rattle.daily_values.specs.declared.day_values.DayValue.{DayValue}
 use Rattle.approval.specs.Kept.{KeptSite}
 use Rattle.day_cells.specs.KeptDays.{KeptDays}
 use Rattle.day_cells.specs.Sites.{station_rank}
 use Rattle.fixed_units.specs.Quantities.{IsDay}
 use Rattle.history.specs.Accepted.{edit_of, stations_at}
-use Rattle.history.specs.Awaited.{is_pending, pending_days, value_at}
+use Rattle.history.specs.Awaited.{awaited, is_pending, pending_days, value_at}
 use Rattle.history.specs.Events.{Event, Published}
 use Rattle.history.proofs.EventLemmas.{accepted_published}
 use Rattle.office_inputs.specs.Kept.{InForce, AreStations, in_force}
 use Rattle.office_inputs.specs.Stations.{place_of, stations_of, inputs_of_day}
 use Rattle.station_inputs.specs.Stations.{StationState}
-use Rattle.recompute.specs.Cells.{Publishes, waiting}
+use Rattle.recompute.specs.Cells.{Publishes, awaited_in, waiting}
 use Rattle.recompute.specs.Jobs.{DayJob, outcome_by, outcome_of}
 use Rattle.recompute.specs.declared.jobs.Publish.TheVariants as publish
 use Rattle.records.specs.Sheets.{Record}
+use Rattle.register.specs.Asked.{outcome_at}
 use Rattle.register.specs.Keeping.{Keeps, Tells}
 use Rattle.register.specs.References.{Placed}
 use Rattle.register.specs.Registered.{registered}
@@ -31,6 +34,32 @@ use Rattle.rising.specs.Lists.{IsRising}
 pub published_awaits : (o : Option ℕ) (awaits : ℕ) (same : Bool) → outcome_by o awaits same ≡ publish.Published → is_some o ≡ true
 published_awaits None awaits same h = absurd (cc)
 published_awaits (Some edit) awaits same h = refl
+
+-- what is published is on the inputs in force
+none_other : (b : Bool) (edit : ℕ) → cond b publish.Foreign (publish.Superseded edit) ≡ publish.Published → ⊥
+none_other true edit h = (cc)
+none_other false edit h = (cc)
+
+published_same : (o : Option ℕ) (awaits : ℕ) (same : Bool) → outcome_by o awaits same ≡ publish.Published → same ≡ true
+published_same None awaits same h = absurd (cc)
+published_same (Some edit) awaits true h = refl
+published_same (Some edit) awaits false h = absurd (none_other (edit == awaits) edit h)
+
+pub due_inputs : (cells : List KeptDays) (stations : List StationState) (job : DayJob) → outcome_of cells stations job ≡ publish.Published
+    → job.inputs ≡ inputs_of_day stations job.site job.day
+due_inputs cells stations job h =
+    let now = inputs_of_day stations job.site job.day in
+    (Decides-same_inputs job.inputs now).0 (published_same (awaited_in cells job.site job.day) job.awaits (same_inputs job.inputs now) h)
+
+-- the cells and the inputs in force tell what becomes of a publication
+pub told_of_cells : (opened : ℕ) (inputs : InForce) (cells : List KeptDays) (places : List Placed) (statuses : List KeptSite) (spare : ℕ) (events : List Event)
+    (pieces : List Record) (count bytes : ℕ) → Keeps (registered opened inputs cells places statuses spare events) pieces count bytes
+    → (job : DayJob) → IsDay job.day → outcome_at events job ≡ publish.Published → outcome_of cells (in_force inputs) job ≡ publish.Published
+told_of_cells opened inputs cells places statuses spare events pieces count bytes kept job day due =
+    ap (λ (o : Option ℕ). outcome_by o job.awaits (same_inputs job.inputs (inputs_of_day (in_force inputs) job.site job.day)))
+    (kept.cells_tell.awaited_told job.site job.day day)
+    ∙ ap (λ (s : List StationState). outcome_by (awaited events job.site job.day) job.awaits (same_inputs job.inputs (inputs_of_day s job.site job.day))) kept.stations
+    ∙ due
 
 module _ (opened : ℕ) (inputs : InForce) (cells : List KeptDays) (places : List Placed) (statuses : List KeptSite) (spare : ℕ) (events : List Event)
     (pieces : List Record) (count bytes : ℕ) (kept : Keeps (registered opened inputs cells places statuses spare events) pieces count bytes)

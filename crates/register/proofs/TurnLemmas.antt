@@ -19,7 +19,6 @@ use Rattle.history.proofs.StationLemmas.{found_passes, places_equal}
 use Rattle.station_inputs.specs.Stations.{StationState}
 use Rattle.recompute.specs.Cells.{is_out_in}
 use Rattle.recompute.specs.Jobs.{DayJob}
-use Rattle.recompute.specs.declared.jobs.Publish.{Publish}
 use Rattle.recompute.specs.declared.jobs.Publish.TheVariants as publish
 use Rattle.recompute.proofs.OutcomeLemmas.{outcome_same, told_true}
 use Rattle.register.specs.Asked.{day_of, job_at, outcome_at}
@@ -55,35 +54,34 @@ pending_published events d h =
     outcome_same (awaited events d.site d.day) awaits awaits (same_inputs inputs inputs) (awaited_some (awaited events d.site d.day) h) refl
     ∙ ap (λ b. cond b publish.Published publish.Foreign) (told_true inputs inputs refl)
 
--- the first pending day that passes a test, whose job was published
-pub record IsTurn (events : List Event) (q : SiteDay → Bool) (job : DayJob) (told : Publish) (d : SiteDay) : Type 0 where
+-- the first pending day that passes a test, of which this is the job
+pub record IsTurn (events : List Event) (q : SiteDay → Bool) (job : DayJob) (d : SiteDay) : Type 0 where
   pub found : find q (pending_days events) ≡ Some d
   pub job_is : job ≡ job_at events d
-  pub published : told ≡ publish.Published
+  pub due : outcome_at events job ≡ publish.Published
 
-turn_step : (events : List Event) (q : SiteDay → Bool) (job : DayJob) (told : Publish) → told ≡ outcome_at events job
-    → (o : Option SiteDay) → find q (pending_days events) ≡ o → Some job ≡ option_map (job_at events) o → (d : SiteDay) × IsTurn events q job told d
-turn_step events q job told outcome None e h = absurd (cc)
-turn_step events q job told outcome (Some d) e h =
+turn_step : (events : List Event) (q : SiteDay → Bool) (job : DayJob) (o : Option SiteDay) → find q (pending_days events) ≡ o
+    → Some job ≡ option_map (job_at events) o → (d : SiteDay) × IsTurn events q job d
+turn_step events q job None e h = absurd (cc)
+turn_step events q job (Some d) e h =
     let own : job ≡ job_at events d = cc in
     let pending : IsPending events d = subst (λ o. IfSome o (IsPending events)) e (found_of_all (IsPending events) q (pending_days events) (all_pending events)) in
-    (d, record { found = e; job_is = own; published = outcome ∙ ap (outcome_at events) own ∙ pending_published events d pending })
+    (d, record { found = e; job_is = own; due = ap (outcome_at events) own ∙ pending_published events d pending })
 
-module _ (old claimed new : Registered) (q : SiteDay → Bool) (job : DayJob) (told : Publish) (same : claimed.history ≡ old.history)
-    (first : Some job ≡ option_map (job_at old.history.events) (find q (pending_days old.history.events)))
-    (outcome : told ≡ outcome_at claimed.history.events job)
-    (published : told ≡ publish.Published → new.history ≡ after_publications claimed.history (day_of job ∷ [])) where
-  pub turned : (d : SiteDay) × IsTurn old.history.events q job told d
-  turned =
-      turn_step old.history.events q job told (outcome ∙ ap (λ (h : History). outcome_at h.events job) same) (find q (pending_days old.history.events)) refl first
+pub turned : (events : List Event) (q : SiteDay → Bool) (job : DayJob) → Some job ≡ option_map (job_at events) (find q (pending_days events))
+    → (d : SiteDay) × IsTurn events q job d
+turned events q job first = turn_step events q job (find q (pending_days events)) refl first
 
-  pub turn_history : new.history ≡ after_publication old.history (find q (pending_days old.history.events))
-  turn_history =
-      let turn = turned.1 in
-      published turn.published
-      ∙ ap (λ (h : History). after_publications h (day_of job ∷ [])) same
-      ∙ ap (λ (j : DayJob). after_publications old.history (day_of j ∷ [])) turn.job_is
-      ∙ ap (after_publication old.history) (sym turn.found)
+-- the first pending day that passes a test was published, behind a claim or not
+pub turn_history : (old claimed new : Registered) (q : SiteDay → Bool) (job : DayJob) → claimed.history ≡ old.history
+    → Some job ≡ option_map (job_at old.history.events) (find q (pending_days old.history.events))
+    → new.history ≡ after_publications claimed.history (day_of job ∷ []) → new.history ≡ after_publication old.history (find q (pending_days old.history.events))
+turn_history old claimed new q job same first published =
+    let turn = (turned old.history.events q job first).1 in
+    published
+    ∙ ap (λ (h : History). after_publications h (day_of job ∷ [])) same
+    ∙ ap (λ (j : DayJob). after_publications old.history (day_of j ∷ [])) turn.job_is
+    ∙ ap (after_publication old.history) (sym turn.found)
 
 -- whether a claim is out hangs on the day, and on where the site stands
 pub out_by : (cells : List KeptDays) (own site : SiteNumber) (its day : ℤ) → is_day_of own its site day ≡ true → is_out_in cells site day ≡ is_out_in cells own its
@@ -108,26 +106,26 @@ turn_claims old claimed new job d found own taken ended site day =
     ∙ ap (λ b. cond (is_day_of job.site job.day site day) false b) (taken site day)
     ∙ claim_step old.cells job.site site job.day day (is_day_of job.site job.day site day) refl here
 
+-- of all pending days the first one is found
+found : (events : List Event) (job : DayJob) → Some job ≡ option_map (job_at events) (slice_get (pending_days events) 0)
+    → Some job ≡ option_map (job_at events) (find (λ d. true) (pending_days events))
+found events job first = first ∙ ap (λ o. option_map (job_at events) o) (first_found (pending_days events))
+
+pub next_due : (events : List Event) (job : DayJob) → Some job ≡ option_map (job_at events) (slice_get (pending_days events) 0)
+    → outcome_at events job ≡ publish.Published
+next_due events job first = (turned events (λ d. true) job (found events job first)).1.due
+
 -- the first pending day was published
-module _ (old new : Registered) (job : DayJob) (told : Publish)
-    (first : Some job ≡ option_map (job_at old.history.events) (slice_get (pending_days old.history.events) 0))
-    (outcome : told ≡ outcome_at old.history.events job)
-    (published : told ≡ publish.Published → new.history ≡ after_publications old.history (day_of job ∷ [])) where
-  found : Some job ≡ option_map (job_at old.history.events) (find (λ d. true) (pending_days old.history.events))
-  found = first ∙ ap (λ o. option_map (job_at old.history.events) o) (first_found (pending_days old.history.events))
-
-  pub next_turned : (d : SiteDay) × IsTurn old.history.events (λ d. true) job told d
-  next_turned = turned old old new (λ d. true) job told refl found outcome published
-
-  pub next_history : new.history ≡ after_turn old.history
-  next_history =
-      turn_history old old new (λ d. true) job told refl found outcome published
+module _ (old new : Registered) (job : DayJob) (first : Some job ≡ option_map (job_at old.history.events) (slice_get (pending_days old.history.events) 0)) where
+  pub next_history : new.history ≡ after_publications old.history (day_of job ∷ []) → new.history ≡ after_turn old.history
+  next_history published =
+      turn_history old old new (λ d. true) job refl (found old.history.events job first) published
       ∙ ap (after_publication old.history) (sym (first_found (pending_days old.history.events)))
 
   pub next_claims : EndsClaim old new job → IfSome (next_day old.history) (λ d. (site : SiteNumber) (day : ℤ)
       → is_out new site day ≡ cond (is_day_of d.site d.day site day) false (is_out old site day))
   next_claims ended =
-      let turn = next_turned.1 in
+      let turn = (turned old.history.events (λ d. true) job (found old.history.events job first)).1 in
       subst (λ o. IfSome o (λ d. (site : SiteNumber) (day : ℤ) → is_out new site day ≡ cond (is_day_of d.site d.day site day) false (is_out old site day)))
       (sym (first_found (pending_days old.history.events) ∙ turn.found))
       (λ site day. ended site day ∙ ap (λ (j : DayJob). cond (is_day_of j.site j.day site day) false (is_out old site day)) turn.job_is)

@@ -54,7 +54,19 @@ impl Register {
         ensures claims { result ≡ Publish.Published → EndsClaim self.old self.new done.job }
         ensures others { result ≢ Publish.Published → self.new ≡ self.old }
     {
-        self.publish_one(done)
+        let site = done.job().site();
+        let day = done.job().day();
+        day_is_in_range(day);
+        stations_keep_to_their_ranges(&self.inputs);
+        pending_days_stand_by_site(&self.cells);
+        let told = self.cells.publish(done, &self.inputs);
+        pending_days_stand_by_site(&self.cells);
+        let Publish::Published = told else {
+            return told;
+        };
+        self.events += 1;
+        record_publication(&mut self.past, site, day);
+        Publish::Published
     }
 
     /// Computes and publishes the first pending day by site, then day, whose claim is not out, and tells it. `None` exactly where there
@@ -81,27 +93,22 @@ impl Register {
         self.settle_counted::<Brand>(Blank::new(1))
     }
 
-    /// The same as a publication; where the value is published, one day less is pending.
-    fn publish_one(&mut self, done: Done) -> Publish
-        ensures outcome { result ≡ outcome_at self.old.history.events done.job }
-        ensures published { result ≡ Publish.Published → self.new.history ≡ after_publications self.old.history (day_of done.job ∷ []) }
-        ensures claims { result ≡ Publish.Published → EndsClaim self.old self.new done.job }
-        ensures pending { result ≡ Publish.Published → length (pending_days self.new.history.events) + 1 ≡ length (pending_days self.old.history.events) }
-        ensures others { result ≢ Publish.Published → self.new ≡ self.old }
+    /// Publishes a value of which it is known that its day awaits the job's edit, on the inputs in force. It takes no memory.
+    fn publish_due(&mut self, done: Done)
+        requires { outcome_at self.old.history.events done.job ≡ Publish.Published }
+        ensures published { self.new.history ≡ after_publications self.old.history (day_of done.job ∷ []) }
+        ensures claims { EndsClaim self.old self.new done.job }
+        ensures pending { length (pending_days self.new.history.events) + 1 ≡ length (pending_days self.old.history.events) }
     {
         let site = done.job().site();
         let day = done.job().day();
         day_is_in_range(day);
         stations_keep_to_their_ranges(&self.inputs);
         pending_days_stand_by_site(&self.cells);
-        let told = self.cells.publish(done, &self.inputs);
+        self.cells.publish_due(done);
         pending_days_stand_by_site(&self.cells);
-        let Publish::Published = told else {
-            return told;
-        };
         self.events += 1;
         record_publication(&mut self.past, site, day);
-        Publish::Published
     }
 
     /// The same as a turn, with a counter that nobody reads.
@@ -120,7 +127,7 @@ impl Register {
         };
         let mut steps = Steps::<L>::new(blank);
         let day = (job.site(), job.day());
-        self.publish_one(job.compute(&mut steps));
+        self.publish_due(job.compute(&mut steps));
         Ok(Some(day))
     }
 
@@ -152,7 +159,7 @@ impl Register {
         ensures err { OnErr result (self.new ≡ self.old) }
     {
         if let Some(job) = self.after(None)? {
-            self.publish_one(job.compute(steps));
+            self.publish_due(job.compute(steps));
         }
         Ok(())
     }

@@ -25,6 +25,7 @@ loop-preserved g c =
       read = (h.0 ++ next.0 ∷ [], of_limits _ _ (h.0 ++ next.0 ∷ []) _ _ (sym same) next.1);
       limits = same ∙ c.loop.invariant.limits;
       disk = reads_on g.D.Disk _ _ _ c.loop.invariant.disk c.in_ok-read_next.ensures.disk;
+      done = c.in_ok-read_next.ensures.done ∙ c.loop.invariant.done;
     }
 
 pub returns-clause-all : goal.returns-clause-all

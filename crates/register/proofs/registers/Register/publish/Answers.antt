@@ -1,13 +1,12 @@
 -- What is published was pending; behind it the cells tell what is read off the history, and one event more can be counted.
-use Rattle.std.proofs.Common.{◌≡◌, ◌+◌, ◌-◌, ◌<◌, ◌^◌, arith, ◌++◌, ◌∷◌, [], refl, sym, subst, ap, ◌∙◌, List, length}
+use Rattle.std.proofs.Common.{◌≡◌, ◌+◌, ◌-◌, ◌<◌, ◌^◌, arith, ◌++◌, ◌∷◌, [], refl, sym, subst, List}
 use Rattle.std.specs.Vec.{vec_capacity, vec_len}
 use Rattle.fixed_units.specs.Quantities.{IsDay}
-use Rattle.history.specs.Awaited.{pending_days}
 use Rattle.history.specs.Events.{Event, Published}
 use Rattle.register.specs.Keeping.{Keeps}
-use Rattle.register.specs.Registered.{Registered, registered}
-use Rattle.register.proofs.PublishLemmas.{room, kept_published, one_less}
-use Rattle.register.proofs.registers.Register.publish_one.Goals as goal
+use Rattle.register.specs.Registered.{registered}
+use Rattle.register.proofs.PublishLemmas.{room, kept_published}
+use Rattle.register.proofs.registers.Register.publish.Goals as goal
 
 pub overflow_add-self : goal.overflow_add-self
 overflow_add-self c =
@@ -28,13 +27,3 @@ invariant_of-self-2 c =
     (kept_published _ _ _ _ _ _ _ _ _ _ c.self.invariant c.stations_keep_to_their_ranges.ensures c.pending_days_stand_by_site.ensures.rising
     _ c.pending_days_stand_by_site-2.ensures.rising c.args.done.job c.args.done.value (subst IsDay same_day c.day_is_in_range.ensures)
     (sym c.in-Published.ensures.outcome) (c.in-Published.ensures.published refl) (c.in-Published.ensures.value refl))
-
-pub returns-clause-pending : goal.returns-clause-pending
-returns-clause-pending c e =
-    let same_day : c.day-day.result ≡ c.args.done.job.day = cc in
-    let more : c.record_publication.new.past ≡ c.self.inside.past ++ Published c.args.done.job.site c.args.done.job.day ∷ [] = cc in
-    ap (λ (events : List Event). length (pending_days events) + 1) more
-    ∙ one_less _ _ _ _ _ _ _ _ _ _ c.self.invariant c.stations_keep_to_their_ranges.ensures c.pending_days_stand_by_site.ensures.rising
-    _ c.pending_days_stand_by_site-2.ensures.rising c.args.done.job c.args.done.value (subst IsDay same_day c.day_is_in_range.ensures)
-    (sym c.in-Published.ensures.outcome) (c.in-Published.ensures.published refl) (c.in-Published.ensures.value refl)
-    ∙ ap (λ (r : Registered). length (pending_days r.history.events)) c.self.view_is

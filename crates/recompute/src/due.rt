@@ -1,6 +1,6 @@
 //! What is due: jobs for pending days, and the publication of their values.
 
-ghost use Rattle.std.specs.Prelude.{◌≡◌, ◌≢◌, not, None, Some, Ok, find, slice_get, option_map, IsSome, IfOk, IfSome, OnErr};
+ghost use Rattle.std.specs.Prelude.{◌≡◌, ◌≢◌, not, None, Some, Ok, find, slice_get, option_map, IfOk, IfSome, OnErr};
 ghost use Rattle.daily_values.specs.DayValue.{day_value};
 ghost use Rattle.office_inputs.specs.Kept.{in_force};
 ghost use Rattle.office_inputs.specs.Stations.{inputs_of_day};
@@ -69,14 +69,14 @@ impl Cells {
         if !inputs.is_day_inputs(site, day, job.inputs()) {
             return Publish::Foreign;
         }
-        self.put_value(site, day, *done.value());
+        self.publish_due(done);
         Publish::Published
     }
 
-    /// Publishes the value of a job of which the caller knows that its day still awaits its edit, on the inputs in force: nothing is
-    /// compared. It takes no memory.
+    /// Publishes the value of a job whose day still awaits its edit. Whether its inputs are those in force is not asked. It takes no
+    /// memory.
     pub fn publish_due(&mut self, done: Done)
-        requires { IsSome (awaited_in self.old done.job.site done.job.day) }
+        requires { awaited_in self.old done.job.site done.job.day ≡ Some done.job.awaits }
         ensures published { Publishes self.old self.new done.job.site done.job.day done.value }
         ensures value { done.value ≡ day_value done.job.inputs }
     {

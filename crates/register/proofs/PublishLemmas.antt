@@ -19,6 +19,7 @@ use Rattle.station_inputs.specs.Stations.{StationState}
 use Rattle.recompute.specs.Cells.{Publishes, awaited_in, waiting}
 use Rattle.recompute.specs.Jobs.{DayJob, outcome_by, outcome_of}
 use Rattle.recompute.specs.declared.jobs.Publish.TheVariants as publish
+use Rattle.recompute.proofs.OutcomeLemmas.{outcome_where_awaited}
 use Rattle.records.specs.Sheets.{Record}
 use Rattle.register.specs.Asked.{outcome_at}
 use Rattle.register.specs.Keeping.{Keeps, Tells}
@@ -35,11 +36,12 @@ pub published_awaits : (o : Option ℕ) (awaits : ℕ) (same : Bool) → outcome
 published_awaits None awaits same h = absurd (cc)
 published_awaits (Some edit) awaits same h = refl
 
--- what is published is on the inputs in force
+-- what is published is told as nothing else
 none_other : (b : Bool) (edit : ℕ) → cond b publish.Foreign (publish.Superseded edit) ≡ publish.Published → ⊥
 none_other true edit h = (cc)
 none_other false edit h = (cc)
 
+-- what is published is on the inputs in force, and its day awaits the job's edit
 published_same : (o : Option ℕ) (awaits : ℕ) (same : Bool) → outcome_by o awaits same ≡ publish.Published → same ≡ true
 published_same None awaits same h = absurd (cc)
 published_same (Some edit) awaits true h = refl
@@ -50,6 +52,13 @@ pub due_inputs : (cells : List KeptDays) (stations : List StationState) (job : D
 due_inputs cells stations job h =
     let now = inputs_of_day stations job.site job.day in
     (Decides-same_inputs job.inputs now).0 (published_same (awaited_in cells job.site job.day) job.awaits (same_inputs job.inputs now) h)
+
+pub due_awaits : (cells : List KeptDays) (stations : List StationState) (job : DayJob) → outcome_of cells stations job ≡ publish.Published
+    → awaited_in cells job.site job.day ≡ Some job.awaits
+due_awaits cells stations job h =
+    let same = same_inputs job.inputs (inputs_of_day stations job.site job.day) in
+    let o = awaited_in cells job.site job.day in
+    (outcome_where_awaited o job.awaits same (λ _. published_same o job.awaits same h)).0.0 h
 
 -- the cells and the inputs in force tell what becomes of a publication
 pub told_of_cells : (opened : ℕ) (inputs : InForce) (cells : List KeptDays) (places : List Placed) (statuses : List KeptSite) (spare : ℕ) (events : List Event)

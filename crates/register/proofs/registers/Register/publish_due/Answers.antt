@@ -12,9 +12,17 @@ use Rattle.recompute.specs.declared.jobs.Publish.TheVariants as publish
 use Rattle.register.specs.Asked.{outcome_at}
 use Rattle.register.specs.Keeping.{Keeps}
 use Rattle.register.specs.Registered.{Registered, registered}
-use Rattle.register.proofs.PublishLemmas.{told_of_cells, due_inputs, room, kept_published, one_less}
+use Rattle.register.proofs.PublishLemmas.{told_of_cells, due_awaits, due_inputs, room, kept_published, one_less}
 use Rattle.register.proofs.registers.Register.publish_due.Goals as goal
 use Rattle.register.proofs.registers.Register.publish_due.Goals.{After-pending_days_stand_by_site-2}
+
+-- what the history tells of the publication the cells tell too
+pub publish_due-requires : goal.publish_due-requires
+publish_due-requires c =
+    let same_day : c.day-day.result ≡ c.args.done.job.day = cc in
+    due_awaits c.self.inside.cells (in_force c.self.inside.inputs) c.args.done.job
+    (told_of_cells _ _ _ _ _ _ _ _ _ _ c.self.invariant c.args.done.job (subst IsDay same_day c.day_is_in_range.ensures)
+    (ap (λ (r : Registered). outcome_at r.history.events c.args.done.job) c.self.view_is ∙ c.requires))
 
 module _ (c : After-pending_days_stand_by_site-2) where
   its_day : IsDay c.args.done.job.day

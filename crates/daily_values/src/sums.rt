@@ -165,7 +165,7 @@ fn first_value(left: &(Second, Micro), right: &(Second, Micro), at: Second) -> M
     if at == left.0 {
         left.1
     } else {
-        value_between(left, right, at)
+        value_between(*left, *right, at)
     }
 }
 
@@ -180,18 +180,18 @@ fn last_value(left: &(Second, Micro), right: &(Second, Micro), at: Second) -> Mi
     if at == right.0 {
         right.1
     } else {
-        value_between(left, right, at)
+        value_between(*left, *right, at)
     }
 }
 
 /// The value at an instant on the line between two others.
 #[inline(never)]
-fn value_between(left: &(Second, Micro), right: &(Second, Micro), at: Second) -> Micro
-    requires rising { left.now.0 <ℤ right.now.0 }
-    requires from { left.now.0 ≤ℤ at }
-    requires until { at ≤ℤ right.now.0 }
-    ensures value { result ≡ lines.line_at left.now right.now at }
-    ensures between { (least greatest : ℤ) → IsWithin least greatest left.now.1 → IsWithin least greatest right.now.1 → IsWithin least greatest result }
+fn value_between(left: (Second, Micro), right: (Second, Micro), at: Second) -> Micro
+    requires rising { left.0 <ℤ right.0 }
+    requires from { left.0 ≤ℤ at }
+    requires until { at ≤ℤ right.0 }
+    ensures value { result ≡ lines.line_at left right at }
+    ensures between { (least greatest : ℤ) → IsWithin least greatest left.1 → IsWithin least greatest right.1 → IsWithin least greatest result }
 {
     line_at((left.0.get(), left.1), (right.0.get(), right.1), at.get())
 }

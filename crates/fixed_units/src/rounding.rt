@@ -9,8 +9,8 @@ const GREATEST_EXACT: u64 = 1 << 53;
 /// From this number of floating point on, 2^52, the next one is greater by 1: its fraction counts from it in ones.
 const WHOLE_NUMBERS_BEGIN: f64 = 4_503_599_627_370_496.0;
 
-/// The bits of the fraction of a number of floating point.
-const FRACTION: u64 = (1 << 52) - 1;
+/// The bits of that fraction that are looked at. A number of so few bits times twice a small `den` needs no test.
+const LOW_BITS: u64 = (1 << 31) - 1;
 
 /// The whole number nearest to `num / den`, of two equally near the one farther from zero. `num` is
 /// at most 10^37 either way, and `den` is above 0.
@@ -57,17 +57,20 @@ fn small_magnitude(num: u64, den: u64) -> u64
     let tried = near_quotient(num, den);
     let twice = 2 * num + den;
     let whole = 2 * den;
-    match tried.checked_mul(whole) {
-        Some(back) if back <= twice && twice - back < whole => tried,
-        _ => twice / whole,
+    let back = tried * whole;
+    if back <= twice && twice - back < whole {
+        tried
+    } else {
+        twice / whole
     }
 }
 
 /// A number near to `num / den`, by one division of floating point, which processors do faster than one of whole numbers of 64 bits.
-/// Nothing is promised of it, so it must be tested: it is 0 for a `num` above 2^53 and for 0 / 0, and far off for a quotient of 2^52 or
-/// more. Signed numbers of 64 bits are made doubles in one step, and both are small enough.
+/// Nothing is promised of it but that it is below 2^31, so it must be tested: it is 0 for a `num` above 2^53 and for 0 / 0, and far off for
+/// a quotient of 2^31 or more. Signed numbers of 64 bits are made doubles in one step, and both are small enough.
 fn near_quotient(num: u64, den: u64) -> u64
     requires { den ≤ 2 ^ 31 }
+    ensures { result < 2 ^ 31 }
 {
     if num > GREATEST_EXACT {
         return 0;
@@ -77,7 +80,7 @@ fn near_quotient(num: u64, den: u64) -> u64
     if shifted != shifted {
         return 0;
     }
-    shifted.to_bits() & FRACTION
+    shifted.to_bits() & LOW_BITS
 }
 
 /// How far that number is from zero.

@@ -194,15 +194,20 @@ impl<T: Copy> Gap<T> {
         self.cells.write(self.base, place, item);
     }
 
-    /// Puts values behind the last one.
+    /// Puts values behind the last one. Their number is kept apart until the last one is put, since the fields would be written and read
+    /// again for each of them.
     pub(crate) fn append(&mut self, items: &[T])
         requires { IsGap self.old × (self.old.len + length items.now ≤ self.old.capacity) }
         ensures { Becomes self.old self.new (gap_list self.old ++ items.now) [] }
     {
         self.move_to(self.len);
+        let mut place = self.front;
         for item in items {
-            self.put_front(*item);
+            self.cells.write(self.base, place, *item);
+            place += 1;
         }
+        self.front = place;
+        self.len = place;
     }
 
     /// The values from `from` on and before `to`, cut where the gap is.

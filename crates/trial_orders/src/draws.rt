@@ -37,6 +37,17 @@ impl Draws {
         }
     }
 
+    /// The same draws, to go on from without these.
+    pub(crate) fn copied(&self) -> Draws
+        ensures { result ≡ self.now }
+    {
+        Draws {
+            number: self.number,
+            made: self.made,
+            latest: self.latest,
+        }
+    }
+
     /// The next draw.
     pub fn next(&mut self) -> u32
         requires { self.old.made + 1 < 2 ^ 32 }

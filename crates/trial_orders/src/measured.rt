@@ -35,7 +35,8 @@ pub fn part_put(alloc: Global, draws: &mut Draws, station: u32, part: u32) -> Re
     })
 }
 
-/// Those readings.
+/// Those readings. The draws go on in a copy, which stays in registers; behind the reference each would be written and read again.
+#[inline(never)]
 fn part_readings(
     alloc: Global,
     draws: &mut Draws,
@@ -51,9 +52,11 @@ fn part_readings(
 {
     let mut readings = Vec::new(alloc);
     readings.reserve_exact(PART as usize)?;
+    let mut ahead = draws.copied();
     for place in PART * part..PART * part + PART {
-        readings.push(reading(draws, place))?;
+        readings.push(reading(&mut ahead, place))?;
     }
+    *draws = ahead;
     Ok(readings)
 }
 

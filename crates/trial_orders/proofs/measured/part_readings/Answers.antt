@@ -12,9 +12,9 @@ loop-place-preserved c =
     let good : is_ok c.push.result ≡ true = search rules in
     let items = rw good at c.push.ensures.items in
     let read = c.reading.ensures.reading c.args.station (ap (λ (d : Drawn). d.made) c.loop-place.invariant.1 ∙ omega arith) in
-    let number : c.loop-place.draws.number ≡ c.args.draws.now.number = ap (λ (d : Drawn). d.number) c.loop-place.invariant.1 in (
+    let number : c.loop-place.ahead.number ≡ c.args.draws.now.number = ap (λ (d : Drawn). d.number) c.loop-place.invariant.1 in (
       omega arith,
-      one_drawn c.args.draws.now.number (draws_before c.args.station c.args.part) (2400 * c.args.part) c.loop-place.place c.loop-place.draws c.reading.new.draws
+      one_drawn c.args.draws.now.number (draws_before c.args.station c.args.part) (2400 * c.args.part) c.loop-place.place c.loop-place.ahead c.reading.new.draws
           least c.loop-place.invariant.1 c.reading.ensures.draws,
       one_more (reading_of c.args.draws.now.number c.args.station) (2400 * c.args.part) c.loop-place.place _ c.loop-place.readings.items c.push.new.self.items least refl
           c.loop-place.invariant.2

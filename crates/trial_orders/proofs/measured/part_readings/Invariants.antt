@@ -7,5 +7,5 @@ use Rattle.trial_orders.proofs.measured.part_readings.Given as goal
 abbrev pub invariant-loop-place : goal.invariant-loop-place
 invariant-loop-place l =
     (2_400 * l.part ≤ l.place)
-    × (l.draws ≡ record { number = l.fn.draws.number; made = draws_before l.station l.part + (l.place - 2_400 * l.part) })
+    × (l.ahead ≡ record { number = l.fn.draws.number; made = draws_before l.station l.part + (l.place - 2_400 * l.part) })
     × (l.readings.items ≡ map (reading_of l.fn.draws.number l.station) (range_with_len (2_400 * l.part) (l.place - 2_400 * l.part)))

@@ -4,5 +4,5 @@ use Rattle.rating_tables.specs.Table.{IsTable}
 use Rattle.rating_tables.proofs.TableLemmas.{none_table}
 use Rattle.rating_tables.proofs.table.Table.from_vec.Goals as goal
 
-pub invariant_of-result : goal.invariant_of-result
-invariant_of-result c = subst IsTable c.as_slice.ensures.value (none_table c.as_slice.result.now (cc))
+pub of_rows-requires : goal.of_rows-requires
+of_rows-requires c = subst IsTable c.as_slice.ensures.value (none_table c.as_slice.result.now (cc))

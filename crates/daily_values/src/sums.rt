@@ -184,7 +184,7 @@ fn last_value(left: &(Second, Micro), right: &(Second, Micro), at: Second) -> Mi
     }
 }
 
-/// The value at an instant on the line between two others.
+/// The value at an instant on the line between two others. They come by value, so that pairs that no day cuts need no place in memory.
 #[inline(never)]
 fn value_between(left: (Second, Micro), right: (Second, Micro), at: Second) -> Micro
     requires rising { left.0 <ℤ right.0 }

@@ -9,7 +9,8 @@ const GREATEST_EXACT: u64 = 1 << 53;
 /// From this number of floating point on, 2^52, the next one is greater by 1: its fraction counts from it in ones.
 const WHOLE_NUMBERS_BEGIN: f64 = 4_503_599_627_370_496.0;
 
-/// The bits of that fraction that are looked at. A number of so few bits times twice a small `den` needs no test.
+/// The lowest bits of that fraction, which are all that is taken: a number below 2^31, whose product with twice a `den` of at most 2^31 is
+/// below 2^63.
 const LOW_BITS: u64 = (1 << 31) - 1;
 
 /// The whole number nearest to `num / den`, of two equally near the one farther from zero. `num` is

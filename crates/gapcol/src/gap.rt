@@ -194,8 +194,8 @@ impl<T: Copy> Gap<T> {
         self.cells.write(self.base, place, item);
     }
 
-    /// Puts values behind the last one. Their number is kept apart until the last one is put, since the fields would be written and read
-    /// again for each of them.
+    /// Puts values behind the last one. Where the next one goes is kept in a local variable: the fields would be written and read again for
+    /// each of them.
     pub(crate) fn append(&mut self, items: &[T])
         requires { IsGap self.old × (self.old.len + length items.now ≤ self.old.capacity) }
         ensures { Becomes self.old self.new (gap_list self.old ++ items.now) [] }

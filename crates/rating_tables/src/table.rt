@@ -19,8 +19,9 @@ pub const LEAST_ROWS: usize = 2;
 /// The greatest number of rows of a table.
 pub const MOST_ROWS: usize = 10_000;
 
-/// How many bits of a density stand behind the point: as many as leave room for the number of rows in 64 bits.
-const DENSITY_BITS: u32 = 48;
+/// How many bits stand behind the point of a number of rows for a millionth of a foot: so many that the greatest number of rows before
+/// them still fits in 64 bits.
+const FRACTION_BITS: u32 = 48;
 
 /// Why rows are no table.
 #[derive(Clone, Copy, Debug, PartialEq, Eq, Error)]
@@ -65,9 +66,9 @@ pub enum Rated {
 #[derive(Debug, Drop)]
 pub struct Table {
     rows: Vec<(Micro, Micro)>,
-    /// How many rows a millionth of a foot would have if they stood at even steps, times 2^48. It only says where the search of a stage
-    /// begins.
-    density: u64,
+    /// How many rows there would be for a millionth of a foot if all were as far apart, with `FRACTION_BITS` bits behind the point. It
+    /// only says where the search for a stage begins.
+    rows_per_millionth: u64,
 }
 
 impl Model for Table {
@@ -124,8 +125,11 @@ impl Table {
         requires { IsTable rows.items }
         ensures { result ≡ rows.items }
     {
-        let density = even_density(rows.as_slice());
-        Table { rows, density }
+        let rows_per_millionth = even_rows_per_millionth(rows.as_slice());
+        Table {
+            rows,
+            rows_per_millionth,
+        }
     }
 
     /// The rows, in order.
@@ -141,7 +145,7 @@ impl Table {
         ensures value { result ≡ tables.rated self.now stage }
         ensures cases { IsRated self.now stage result }
     {
-        find_discharge(self.rows.as_slice(), self.density, stage)
+        find_discharge(self.rows.as_slice(), self.rows_per_millionth, stage)
     }
 
     /// The stage of a discharge: that of the first row that has it, or the line's between two rows. `None` below the
@@ -161,21 +165,20 @@ pub fn is_rating_row(row: &(Micro, Micro)) -> bool
     is_stage(row.0.get()) && is_discharge(row.1.get())
 }
 
-/// The rated discharge of a stage by the rows of a table of some density. Most expanded ratings have a row at each step of some size,
-/// so the two rows are looked at first that would stand about the stage then.
-fn find_discharge(rows: &[(Micro, Micro)], density: u64, stage: Micro) -> Rated
+/// The rated discharge of a stage by the rows of a table. Most expanded ratings have a row at each step of some size, so the two rows are
+/// looked at first between which the stage would lie then.
+fn find_discharge(rows: &[(Micro, Micro)], rows_per_millionth: u64, stage: Micro) -> Rated
     requires { IsTable rows.now }
     ensures { result ≡ tables.rated rows.now stage }
 {
-    match discharge_behind(rows, even_place(rows, density, stage), stage) {
+    match discharge_behind(rows, even_place(rows, rows_per_millionth, stage), stage) {
         Some(discharge) => Rated::Value(discharge),
         None => search_discharge(rows, stage),
     }
 }
 
-/// How many rows a millionth of a foot would have if they stood at even steps, times 2^48: divided once, so that no stage that is rated
-/// needs a division to find its rows.
-fn even_density(rows: &[(Micro, Micro)]) -> u64
+/// How many rows there would be for a millionth of a foot: divided once, so that no rated stage needs a division to find its rows.
+fn even_rows_per_millionth(rows: &[(Micro, Micro)]) -> u64
     requires { IsTable rows.now }
 {
     let last = rows.len() - 1;
@@ -183,19 +186,20 @@ fn even_density(rows: &[(Micro, Micro)]) -> u64
     if whole <= 0 {
         return 0;
     }
-    ((last as u64) << DENSITY_BITS) / whole as u64
+    ((last as u64) << FRACTION_BITS) / whole as u64
 }
 
-/// The place of the last row up to a stage, or the one before it, if the rows stood at even steps, and any place where they do not.
+/// Where the search for a stage begins. From the first row to the last of a rating with even steps it is the last row up to the stage or
+/// the one before it; otherwise it is any place, which is tested.
 #[inline(always)]
-fn even_place(rows: &[(Micro, Micro)], density: u64, stage: Micro) -> usize
+fn even_place(rows: &[(Micro, Micro)], rows_per_millionth: u64, stage: Micro) -> usize
     requires { IsTable rows.now }
 {
     let gone = stage.get() - rows[0].0.get();
     if gone < 0 {
         return 0;
     }
-    ((gone as u64).wrapping_mul(density) >> DENSITY_BITS) as usize
+    ((gone as u64).wrapping_mul(rows_per_millionth) >> FRACTION_BITS) as usize
 }
 
 /// The discharge of a stage by the row in a place and the one behind it, where it is on one of them or between them.

@@ -37,8 +37,8 @@ impl Draws {
         }
     }
 
-    /// The same draws, to go on from without these.
-    pub(crate) fn copied(&self) -> Draws
+    /// Draws that go on as these do, while these stay.
+    pub(crate) fn duplicate(&self) -> Draws
         ensures { result ≡ self.now }
     {
         Draws {

@@ -1,6 +1,6 @@
 //! The readings of a trial, in parts.
 
-ghost use Rattle.std.specs.Prelude.{◌≡◌, ℕ, ◌+◌, ◌*◌, ◌-◌, ◌<◌, ◌≤◌, OnOk, IfOk};
+ghost use Rattle.std.specs.Prelude.{◌≡◌, ℕ, ◌+◌, ◌*◌, ◌-◌, ◌<◌, ◌≤◌, OnOk, OnErr, IfOk};
 ghost use Rattle.edits.specs.Lawful.{IsLawful};
 ghost use Rattle.trial_orders.specs.Questions as questions;
 ghost use Rattle.trial_orders.specs.Questions.{draws_before, part_readings, reading_of};
@@ -29,13 +29,14 @@ pub fn part_put(alloc: Global, draws: &mut Draws, station: u32, part: u32) -> Re
     ensures what { IfOk result (λ what. what ≡ questions.part_put draws.old.number station part) }
     ensures lawful { IfOk result IsLawful }
     ensures draws { OnOk result (draws.new ≡ record { number = draws.old.number; made = draws.old.made + 2_400 }) }
+    ensures kept { OnErr result (draws.new ≡ draws.old) }
 {
     Ok(What::PutReadings {
         readings: ReadingList::from_vec(part_readings(alloc, draws, station, part)?),
     })
 }
 
-/// Those readings. The draws go on in a copy, which stays in registers; behind the reference each would be written and read again.
+/// Those readings. The draws go on in a duplicate, and the loop is compiled apart from its callers: so the latest draw stays in a register.
 #[inline(never)]
 fn part_readings(
     alloc: Global,
@@ -49,10 +50,11 @@ fn part_readings(
     requires draws { draws.old.made ≡ draws_before station part }
     ensures readings { IfOk result (λ readings. readings.items ≡ part_readings draws.old.number station part) }
     ensures draws { OnOk result (draws.new ≡ record { number = draws.old.number; made = draws.old.made + 2_400 }) }
+    ensures kept { OnErr result (draws.new ≡ draws.old) }
 {
     let mut readings = Vec::new(alloc);
     readings.reserve_exact(PART as usize)?;
-    let mut ahead = draws.copied();
+    let mut ahead = draws.duplicate();
     for place in PART * part..PART * part + PART {
         readings.push(reading(&mut ahead, place))?;
     }

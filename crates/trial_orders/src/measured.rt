@@ -21,6 +21,10 @@ const PART: u32 = 2_400;
 const FIRST_READING: u32 = 1_672_704_000;
 
 /// Puts a part of the readings of a station, counted from 0, which come from the next draws.
+///
+/// # Errors
+///
+/// [`NoMemory`]: no draw was made then.
 pub fn part_put(alloc: Global, draws: &mut Draws, station: u32, part: u32) -> Result<What, NoMemory>
     requires first { 1 ≤ station }
     requires last { station ≤ 4 }

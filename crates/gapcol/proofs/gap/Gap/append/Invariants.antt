@@ -1,7 +1,6 @@
 -- The values that were put lie before the gap, which begins at the place, and none lies behind it.
 use Rattle.std.proofs.Common.{◌≡◌, ◌+◌, [], ◌++◌, take}
 use Rattle.gapcol.specs.Gaps.{gap_front, gap_back, gap_list, IsGap}
-use Rattle.gapcol.specs.declared.gap.Gap.{Gap}
 use Rattle.gapcol.proofs.gap.Gap.append.Given as goal
 
 abbrev pub invariant-loop-item : goal.invariant-loop-item

@@ -1,43 +1,13 @@
 //! Documents of stations: what each station's line tells, what stands in the journal then, and which ends a run has.
 
 use crate::dues::INPUT_FAULT;
+use crate::station_tables::{AGAIN, BY, ONE_RECORD, ONE_TABLE, POTOMAC, TWO_TABLES};
 use crate::ways::{BYTE_BY_BYTE, CUT_INPUT, NO_INPUT};
 use std::test::Fail;
 use whole_runs::{
-    Due, INIT, LongRun, MADE, NO_RECORDS, NOT_A_JOURNAL, Parts, Run, SILENT, STATIONS, Turn, WHOLE,
-    Ways, pass_in_turn, pass_long_runs, pass_runs,
+    Due, INIT, LongRun, MADE, NO_RECORDS, NOT_A_JOURNAL, Run, SILENT, STATIONS, Turn, WHOLE, Ways,
+    pass_in_turn, pass_long_runs, pass_runs,
 };
-
-/// The document of one station.
-const POTOMAC: &[u8] = b"by = \"AB\"\n\
-    [[station]]\n\
-    site = \"01646500\"\n\
-    ref = \"st-1\"\n\
-    name = \"POTOMAC\"\n\
-    zone = \"-05:00\"\n\
-    gap = 720\n\
-    stage_array = \"9999999992\"\n\
-    discharge_array = \"0222233332\"\n";
-
-/// A second table of the same station, under another reference.
-const AGAIN: &[u8] = b"[[station]]\n\
-    site = \"01646500\"\n\
-    ref = \"st-2\"\n\
-    name = \"POTOMAC\"\n\
-    zone = \"-05:00\"\n\
-    gap = 720\n\
-    stage_array = \"9999999992\"\n\
-    discharge_array = \"0222233332\"\n";
-
-/// A station whose number begins with more zeros, and has more digits.
-const LITTLE: &[u8] = b"[[station]]\n\
-    site = \"000000007\"\n\
-    ref = \"st-3\"\n\
-    name = \"LITTLE CREEK\"\n\
-    zone = \"EST5EDT,M3.2.0,M11.1.0\"\n\
-    gap = 60\n\
-    stage_array = \"9999999992\"\n\
-    discharge_array = \"0222233332\"\n";
 
 /// A table that is no station's: a gap tolerance of no minute.
 const NO_GAP: &[u8] = b"[[station]]\n\
@@ -70,14 +40,9 @@ const RENAMED: &[u8] = b"by = \"AB\"\n\
     stage_array = \"9999999992\"\n\
     discharge_array = \"0222233332\"\n";
 
-/// The journal of the first station alone.
-const KEPT: Parts = &[
-    b"STREAMOFFICE-J1\n\x01\x39\0\0\0\x01\x02AB\x04st-1\x08\xa4\x1f\x19\0\0\0\0\0\x07POTOMAC\x06-05:00\xd0\x02\0\099999999920222233332\0",
-];
-
 const ADDED: Due = Due {
     written: &[b"edit 1 01646500\n"],
-    left: Some(KEPT),
+    left: Some(ONE_RECORD),
     ..SILENT
 };
 
@@ -114,44 +79,44 @@ const CUT_OUTPUT: Ways = Ways {
 
 /// Documents over a journal without records, and over that of the station.
 const DOCUMENTS: [Run; 14] = [
-    (STATIONS, NO_RECORDS, &WHOLE, &[POTOMAC], &ADDED),
-    (STATIONS, NO_RECORDS, &BYTE_BY_BYTE, &[POTOMAC], &ADDED),
-    (STATIONS, KEPT, &WHOLE, &[POTOMAC], &ADDED),
-    (STATIONS, NO_RECORDS, &WHOLE, &[POTOMAC, AGAIN], &REFUSED),
-    (STATIONS, KEPT, &WHOLE, &[RENAMED], &REF_REUSED),
+    (STATIONS, NO_RECORDS, &WHOLE, ONE_TABLE, &ADDED),
+    (STATIONS, NO_RECORDS, &BYTE_BY_BYTE, ONE_TABLE, &ADDED),
+    (STATIONS, ONE_RECORD, &WHOLE, ONE_TABLE, &ADDED),
     (
         STATIONS,
         NO_RECORDS,
         &WHOLE,
-        &[POTOMAC, NO_GAP],
+        &[BY, POTOMAC, AGAIN],
+        &REFUSED,
+    ),
+    (STATIONS, ONE_RECORD, &WHOLE, &[RENAMED], &REF_REUSED),
+    (
+        STATIONS,
+        NO_RECORDS,
+        &WHOLE,
+        &[BY, POTOMAC, NO_GAP],
         &NO_DOCUMENT,
     ),
     (
         STATIONS,
         NO_RECORDS,
         &WHOLE,
-        &[POTOMAC, NO_ZONE],
+        &[BY, POTOMAC, NO_ZONE],
         &NO_DOCUMENT,
     ),
     (
         STATIONS,
         NO_RECORDS,
         &WHOLE,
-        &[POTOMAC, b"further = 1\n"],
+        &[BY, POTOMAC, b"further = 1\n"],
         &NO_DOCUMENT,
     ),
-    (
-        STATIONS,
-        NO_RECORDS,
-        &WHOLE,
-        &[b"by = \"AB\"\n", NO_GAP],
-        &NO_DOCUMENT,
-    ),
+    (STATIONS, NO_RECORDS, &WHOLE, &[BY, NO_GAP], &NO_DOCUMENT),
     (STATIONS, NO_RECORDS, &WHOLE, &[b"\xff"], &NO_DOCUMENT),
     (STATIONS, NO_RECORDS, &WHOLE, &[], &NO_DOCUMENT),
-    (STATIONS, NO_RECORDS, &NO_INPUT, &[POTOMAC], &INPUT_FAULT),
-    (STATIONS, NO_RECORDS, &CUT_INPUT, &[POTOMAC], &INPUT_FAULT),
-    (STATIONS, NO_RECORDS, &CUT_OUTPUT, BOTH, &CUT_SHORT),
+    (STATIONS, NO_RECORDS, &NO_INPUT, ONE_TABLE, &INPUT_FAULT),
+    (STATIONS, NO_RECORDS, &CUT_INPUT, ONE_TABLE, &INPUT_FAULT),
+    (STATIONS, NO_RECORDS, &CUT_OUTPUT, TWO_TABLES, &CUT_SHORT),
 ];
 
 #[test]
@@ -161,7 +126,7 @@ fn stations_are_added_in_order(rt: HostRuntime) -> Result<(), Fail> {
 
 /// Where there is no journal the input is not read, whatever it is.
 const NO_JOURNAL: [Run; 2] = [
-    (STATIONS, &[], &WHOLE, &[POTOMAC], &NOT_A_JOURNAL),
+    (STATIONS, &[], &WHOLE, ONE_TABLE, &NOT_A_JOURNAL),
     (STATIONS, &[], &WHOLE, &[b"\xff"], &NOT_A_JOURNAL),
 ];
 
@@ -176,13 +141,11 @@ const TWO: Due = Due {
     ..SILENT
 };
 
-const BOTH: Parts = &[POTOMAC, LITTLE];
-
 /// A journal is made, stations are added, and the same document again tells the same.
 const TURNS: [Turn; 3] = [
     (INIT, &[], &MADE),
-    (STATIONS, BOTH, &TWO),
-    (STATIONS, BOTH, &TWO),
+    (STATIONS, TWO_TABLES, &TWO),
+    (STATIONS, TWO_TABLES, &TWO),
 ];
 
 const BOTH_KEPT: &[u8] =
@@ -197,12 +160,12 @@ fn the_same_document_tells_the_same(rt: HostRuntime) -> Result<(), Fail> {
 const LONG: [LongRun; 2] = [
     (
         STATIONS,
-        &[(POTOMAC, 1), (b"#", 1), (b" ", 4_194_149)],
+        &[(BY, 1), (POTOMAC, 1), (b"#", 1), (b" ", 4_194_149)],
         &ADDED,
     ),
     (
         STATIONS,
-        &[(POTOMAC, 1), (b"#", 1), (b" ", 4_194_150)],
+        &[(BY, 1), (POTOMAC, 1), (b"#", 1), (b" ", 4_194_150)],
         &NO_DOCUMENT,
     ),
 ];
@@ -210,31 +173,4 @@ const LONG: [LongRun; 2] = [
 #[test]
 fn a_document_has_4_194_304_bytes_at_most(rt: HostRuntime) -> Result<(), Fail> {
     pass_long_runs(rt.alloc(), &LONG)
-}
-
-/// The disk fails in the first edit: in the write of its record, and in the sync behind that.
-const WRITE_FAILS: Ways = Ways {
-    disk: &[5],
-    ..WHOLE
-};
-
-const SYNC_FAILS: Ways = Ways {
-    disk: &[6],
-    ..WHOLE
-};
-
-/// The second station is asked all the same, and has the number that the first would have had.
-const SECOND_ALONE: Due = Due {
-    written: &[b"refused JournalFault 01646500\n", b"edit 1 000000007\n"],
-    ..SILENT
-};
-
-const FAULTS: [Run; 2] = [
-    (STATIONS, NO_RECORDS, &WRITE_FAILS, BOTH, &SECOND_ALONE),
-    (STATIONS, NO_RECORDS, &SYNC_FAILS, BOTH, &SECOND_ALONE),
-];
-
-#[test]
-fn the_next_station_is_asked_behind_a_fault(rt: HostRuntime) -> Result<(), Fail> {
-    pass_runs(rt.alloc(), &FAULTS)
 }

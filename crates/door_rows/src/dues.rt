@@ -1,6 +1,6 @@
 //! What is to come of runs.
 
-use whole_runs::{Due, SILENT};
+use whole_runs::{Due, SILENT, UNREAD};
 
 /// The counts of an office without an edit.
 pub const COUNTS: &[u8] =
@@ -39,4 +39,11 @@ pub const INPUT_FAULT: Due = Due {
     status: 2,
     told: b"streamoffice: input fault\n",
     ..SILENT
+};
+
+/// The cabinet or the disk fails before the input is read.
+pub const DISK_FAULT: Due = Due {
+    status: 4,
+    told: b"streamoffice: disk fault\n",
+    ..UNREAD
 };

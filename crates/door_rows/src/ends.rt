@@ -1,7 +1,9 @@
 //! The words of a run, and how it ends.
 
-use crate::dues::{COUNTED, INPUT_FAULT};
-use crate::ways::{BYTE_BY_BYTE, CUT_INPUT, NO_INPUT};
+use crate::dues::{COUNTED, DISK_FAULT, INPUT_FAULT};
+use crate::ways::{
+    BYTE_BY_BYTE, CUT_INPUT, FIRST_FAILS, FOURTH_FAILS, NO_INPUT, SECOND_FAILS, THIRD_FAILS,
+};
 use std::test::Fail;
 use whole_runs::{
     ADDED_RECORD, BATCH, CLOSED, Due, HEADER, INIT, JOURNAL_EXISTS, MADE, NO_RECORDS,
@@ -13,12 +15,6 @@ use whole_runs::{
 const USAGE: Due = Due {
     status: 1,
     told: b"streamoffice: usage: init, batch, serve, stations or trial\n",
-    ..UNREAD
-};
-
-const DISK_FAULT: Due = Due {
-    status: 4,
-    told: b"streamoffice: disk fault\n",
     ..UNREAD
 };
 
@@ -86,30 +82,34 @@ fn a_cabinet_fails(rt: HostRuntime) -> Result<(), Fail> {
     pass_in_turn(rt.alloc(), &[1, 2], &NO_DISK, None)
 }
 
-/// The first, the second and the third call of the disk fail.
-const FIRST_FAILS: Ways = Ways {
-    disk: &[1],
-    ..WHOLE
+/// No journal is begun where there was nothing; the first half of its 17 bytes is written; or all of them stand there, since they were
+/// written and not synced, or stood there before.
+const NOT_BEGUN: Due = Due {
+    left: Some(&[]),
+    ..DISK_FAULT
 };
 
-const SECOND_FAILS: Ways = Ways {
-    disk: &[2],
-    ..WHOLE
+const BEGUN: Due = Due {
+    left: Some(&[b"STREAMOF"]),
+    ..DISK_FAULT
 };
 
-const THIRD_FAILS: Ways = Ways {
-    disk: &[3],
-    ..WHOLE
+const STANDING: Due = Due {
+    left: Some(NO_RECORDS),
+    ..DISK_FAULT
 };
 
-/// Calls that fail before the input is read.
-const DISK_FAULTS: [Run; 6] = [
-    (INIT, &[], &FIRST_FAILS, &[STATUS], &DISK_FAULT),
-    (INIT, &[], &SECOND_FAILS, &[STATUS], &DISK_FAULT),
-    (INIT, &[], &THIRD_FAILS, &[STATUS], &DISK_FAULT),
-    (INIT, NO_RECORDS, &FIRST_FAILS, &[STATUS], &DISK_FAULT),
-    (BATCH, NO_RECORDS, &FIRST_FAILS, &[STATUS], &DISK_FAULT),
-    (BATCH, NO_RECORDS, &SECOND_FAILS, &[STATUS], &DISK_FAULT),
+/// Calls that fail before the input is read: of the making of a journal, of a look at one that is there, and of an opening.
+const DISK_FAULTS: [Run; 9] = [
+    (INIT, &[], &FIRST_FAILS, &[STATUS], &NOT_BEGUN),
+    (INIT, &[], &SECOND_FAILS, &[STATUS], &BEGUN),
+    (INIT, &[], &THIRD_FAILS, &[STATUS], &STANDING),
+    (INIT, NO_RECORDS, &FIRST_FAILS, &[STATUS], &STANDING),
+    (INIT, NO_RECORDS, &SECOND_FAILS, &[STATUS], &STANDING),
+    (BATCH, NO_RECORDS, &FIRST_FAILS, &[STATUS], &STANDING),
+    (BATCH, NO_RECORDS, &SECOND_FAILS, &[STATUS], &STANDING),
+    (BATCH, NO_RECORDS, &THIRD_FAILS, &[STATUS], &STANDING),
+    (BATCH, NO_RECORDS, &FOURTH_FAILS, &[STATUS], &STANDING),
 ];
 
 #[test]

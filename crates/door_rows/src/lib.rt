@@ -1,4 +1,5 @@
-//! Worked rows of words, messages, routes and bodies as whole runs of the program's call, over objects in memory. Every byte that is due was worked out by hand.
+//! Worked rows of words, messages, routes and bodies as whole runs of the program's call, over objects in memory. Every byte that is due was worked out by hand,
+//! but for the total of the trial, which an independent program computed.
 #![tactic(auto)]
 
 #[cfg(test)]
@@ -15,6 +16,10 @@ mod ends;
 mod members;
 #[cfg(test)]
 mod messages;
+#[cfg(test)]
+mod station_faults;
+#[cfg(test)]
+mod station_tables;
 #[cfg(test)]
 mod ways;
 #[cfg(test)]

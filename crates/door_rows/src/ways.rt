@@ -15,3 +15,24 @@ pub const CUT_INPUT: Ways = Ways {
     input: &[9],
     ..BYTE_BY_BYTE
 };
+
+/// One of the first four calls of the disk fails.
+pub const FIRST_FAILS: Ways = Ways {
+    disk: &[1],
+    ..WHOLE
+};
+
+pub const SECOND_FAILS: Ways = Ways {
+    disk: &[2],
+    ..WHOLE
+};
+
+pub const THIRD_FAILS: Ways = Ways {
+    disk: &[3],
+    ..WHOLE
+};
+
+pub const FOURTH_FAILS: Ways = Ways {
+    disk: &[4],
+    ..WHOLE
+};

@@ -2,7 +2,8 @@
 
 use std::test::Fail;
 use whole_runs::{
-    ADDED, ADDITION, CONFLICT, Exchange, FIRST, NEW, OK, Session, UNAVAILABLE, pass_sessions,
+    ADDED, ADDED_RECORD, ADDITION, CLOSED, CONFLICT, Exchange, FIRST, HEADER, NEW, OK, Parts,
+    Session, UNAVAILABLE, pass_sessions,
 };
 
 const IN_DOUBT: &str = r#"{"code":"JournalFault","in_doubt":true}"#;
@@ -81,72 +82,91 @@ const IN_THE_MEANTIME: [Exchange; 10] = [
     ("GET /status", "", OK, r#"{"edits":2,"pending":1}"#),
 ];
 
+/// The journal of the edit that was accepted in the end. The records of the three additions are of one length, so that nothing is left of
+/// those before it.
+const KEPT: Parts = &[HEADER, ADDED_RECORD, CLOSED];
+
+/// The record of the reading, behind its gate, which is open. What was written of it before is written anew.
+const READING_RECORD: &[u8] =
+    b"\x01\x25\0\0\0\x03\x02AB\x02a2\x08\xa4\x1f\x19\0\0\0\0\0\x01\0\0\0\xd0\x8c\x97\x65\0\0\0\0\x40\x42\x0f\0\0\0\0\0\0";
+
 /// An append makes four calls, and a mend two before it. Behind a fault at the third call the mend is the fourth and the fifth, an append
 /// behind it the sixth to the ninth.
 const FAULTS: [Session; 11] = [
     Session {
         failing: &[1],
         streams: &[&NOT_KEPT],
+        left: Some(KEPT),
         calls: Some(5),
         ..NEW
     },
     Session {
         failing: &[2],
         streams: &[&NOT_KEPT],
+        left: Some(KEPT),
         calls: Some(6),
         ..NEW
     },
     Session {
         failing: &[3],
         streams: &[&LEFT_IN_DOUBT],
+        left: Some(KEPT),
         calls: Some(9),
         ..NEW
     },
     Session {
         failing: &[4],
         streams: &[&LEFT_IN_DOUBT],
+        left: Some(KEPT),
         calls: Some(10),
         ..NEW
     },
     Session {
         failing: &[3, 4],
         streams: &[&SECOND_IN_DOUBT],
+        left: Some(KEPT),
         calls: Some(10),
         ..NEW
     },
     Session {
         failing: &[3, 5],
         streams: &[&SECOND_IN_DOUBT],
+        left: Some(KEPT),
         calls: Some(11),
         ..NEW
     },
     Session {
         failing: &[3, 6],
         streams: &[&SECOND_NOT_KEPT],
+        left: Some(KEPT),
         calls: Some(10),
         ..NEW
     },
     Session {
         failing: &[3, 7],
         streams: &[&SECOND_NOT_KEPT],
+        left: Some(KEPT),
         calls: Some(11),
         ..NEW
     },
     Session {
         failing: &[3, 8],
         streams: &[&SECOND_IN_DOUBT],
+        left: Some(KEPT),
         calls: Some(14),
         ..NEW
     },
     Session {
         failing: &[3, 9],
         streams: &[&SECOND_IN_DOUBT],
+        left: Some(KEPT),
         calls: Some(15),
         ..NEW
     },
     Session {
         failing: &[7],
         streams: &[&IN_THE_MEANTIME],
+        left: Some(&[HEADER, ADDED_RECORD, READING_RECORD, CLOSED]),
         calls: Some(13),
         ..NEW
     },
@@ -171,21 +191,25 @@ const OPENED_ANEW: [Session; 4] = [
     Session {
         failing: &[1],
         streams: &[&REFUSED, &AGAIN],
+        left: Some(KEPT),
         ..NEW
     },
     Session {
         failing: &[2],
         streams: &[&REFUSED, &AGAIN],
+        left: Some(KEPT),
         ..NEW
     },
     Session {
         failing: &[3],
         streams: &[&DOUBTED, &AGAIN],
+        left: Some(KEPT),
         ..NEW
     },
     Session {
         failing: &[4],
         streams: &[&DOUBTED, &FOUND],
+        left: Some(KEPT),
         ..NEW
     },
 ];

@@ -31,6 +31,15 @@ pub fn same<T: PartialEq + Debug>(row: usize, what: &str, came: &T, due: &T) -> 
     }
 }
 
+/// A row of which calls of the disk fail tells what the disk has then: it is seldom what it had.
+pub fn expect_told(row: usize, failing: &[u64], is_told: bool) -> Result<(), Fail> {
+    if failing.is_empty() || is_told {
+        Ok(())
+    } else {
+        Err(Fail::new(format_args!("row {row}: what the disk has behind its faults is not told")))
+    }
+}
+
 /// The bytes as a text, to be shown where they differ.
 pub fn shown(bytes: &[u8]) -> &str {
     str::from_utf8(bytes).unwrap_or("no text")

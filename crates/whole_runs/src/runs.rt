@@ -1,6 +1,8 @@
 //! Runs as rows of tables: the words, the journal before, the bytes of the input, and what is to come of them.
 
-use crate::objects::{self, Ran, cabinet, joined, left, repeated, same, shown, sink, source};
+use crate::objects::{
+    self, Ran, cabinet, expect_told, joined, left, repeated, same, shown, sink, source,
+};
 use devices::MemoryCabinet;
 use std::alloc::Global;
 use std::test::Fail;
@@ -64,7 +66,7 @@ pub struct Due {
     pub told: &'static [u8],
     /// Whether the input is asked for bytes.
     pub is_read: bool,
-    /// What the disk has then; `None` where it has what it had.
+    /// What the disk has then; `None` where it has what it had. It is told wherever a call of the disk fails.
     pub left: Option<Parts>,
 }
 
@@ -174,14 +176,10 @@ fn expect_over(
     expect(row, &ran, &written, due)
 }
 
-/// The disk has what is due, and as many faults.
+/// The disk has what is due, also where a call of it failed; and the cabinet has had so many faults.
 fn expect_left(row: usize, cabinet: &MemoryCabinet, due: &[u8], faults: u64) -> Result<(), Fail> {
     same(row, "faults", &cabinet.fault_count(), &faults)?;
-    if faults == 0 {
-        same(row, "left", &left(cabinet), &Some(due))
-    } else {
-        Ok(())
-    }
+    same(row, "left", &left(cabinet), &Some(due))
 }
 
 /// A run over a disk with this journal comes out as is due.
@@ -198,6 +196,7 @@ fn expect_run(
     let failing = ways.disk.to_vec(alloc)?;
     let mut cabinet = cabinet(alloc, before, failing)?;
     expect_over(row, alloc, &mut cabinet, words, input, ways, due)?;
+    expect_told(row, ways.disk, due.left.is_some())?;
     let left = joined(alloc, due.left.unwrap_or(journal))?;
     expect_left(row, &cabinet, &left, u64::from(!ways.disk.is_empty()))
 }

@@ -1,7 +1,7 @@
 //! Sessions as rows of tables: what is asked over a journal, and what is replied.
 
 use crate::messages::{Exchange, push_messages, reply};
-use crate::objects::{Ran, cabinet, call_count, joined, left, same, shown};
+use crate::objects::{Ran, cabinet, call_count, expect_told, joined, left, same, shown};
 use crate::runs::{BATCH, NO_RECORDS, Parts, WHOLE, run_over};
 use devices::MemoryCabinet;
 use fixed_units::{NoMemory, Text};
@@ -19,7 +19,7 @@ pub struct Session {
     pub before: &'static [Exchange],
     /// What is asked and replied.
     pub streams: &'static [&'static [Exchange]],
-    /// What the disk has then, where that is told.
+    /// What the disk has then, where that is told, as it is wherever a call of the disk fails.
     pub left: Option<Parts>,
     /// How many calls the disk has had behind the first opening, where that is told.
     pub calls: Option<u64>,
@@ -157,6 +157,7 @@ fn expect_disk(
     }
     let faults = u64::from(!session.failing.is_empty());
     same(row, "faults", &cabinet.fault_count(), &faults)?;
+    expect_told(row, session.failing, session.left.is_some())?;
     let Some(due) = session.left else {
         return Ok(());
     };

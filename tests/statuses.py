@@ -5,9 +5,9 @@ is not among them.
     python3 tests/statuses.py PROGRAM [--long]
 
 Each case states the status, what is on standard output, and the line on standard error; the script ends with status 1
-at the first that differs. The statuses of replies are among them. Standard streams that are closed, that can't be read
-or written, and a journal that another run has open are among the cases. It takes seconds; with --long also the status
-that comes after 2^36 bytes of input, which takes a minute or two.
+at the first that differs. The statuses of replies are among them. A name of the program that is no UTF-8, standard streams
+that are closed, that can't be read or written, and a journal that another run has open are among the cases. It takes
+seconds; with --long also the status that comes after 2^36 bytes of input, which takes a minute or two.
 """
 import json
 import os
@@ -48,11 +48,13 @@ class Place:
     def __init__(self, program, folder):
         self.program, self.journal = program, pathlib.Path(folder, "journal")
 
-    def run(self, words, data=b"", before=None, **streams):
+    def run(self, words, data=b"", before=None, name=None, **streams):
+        """Runs the program by these words, under another name where one is given."""
         pipes = {"stdout": subprocess.PIPE, "stderr": subprocess.PIPE, **streams}
         if "stdin" not in streams:
             pipes["input"] = data
-        done = subprocess.run([self.program, *words], preexec_fn=before, timeout=60, **pipes)
+        all_words = [self.program if name is None else name, *words]
+        done = subprocess.run(all_words, executable=self.program, preexec_fn=before, timeout=60, **pipes)
         return done.returncode, done.stdout or b"", done.stderr or b""
 
     def on_journal(self, command, content, data=b"", before=None, **streams):
@@ -97,6 +99,25 @@ def usage(place):
     ]:
         expect(f"{words}", (1, b"", USAGE), place.run(words, request(2)))
         expect("    no journal is made", None, place.content())
+
+
+def own_name(place):
+    """The program's own name is no word of a command: whatever bytes it has, the words behind it are asked as ever."""
+    journal, both = str(place.journal), reply(1) + reply(2)
+    again = document(("01646500", "s-1"))
+    for name in [b"\xff", b""]:
+        place.journal.unlink(missing_ok=True)
+        for words, data, wanted, after in [
+            ([], b"", (1, b"", USAGE), None),
+            ([b"init", b"--journal", b"\xff"], b"", (1, b"", USAGE), None),
+            (["init", "--journal", journal], b"", (0, b"", b""), EMPTY),
+            (["init", "--journal", journal], b"", (8, b"", EXISTS), EMPTY),
+            (["batch", "--journal", journal], requests([1, 2]), (0, both, b""), READING),
+            (["stations", "--journal", journal], again, (0, b"refused StationExists 01646500\n", b""), READING),
+            (["trial", "--number", "1"], b"", (0, figures(1), b""), READING),
+        ]:
+            expect(f"{words}, the program named {name}", wanted, place.run(words, data, name=name))
+            expect("    what is left", after, place.content())
 
 
 def ends(place):
@@ -342,7 +363,7 @@ def main():
     if len(sys.argv) not in (2, 3):
         raise SystemExit(__doc__)
     program = str(pathlib.Path(sys.argv[1]).resolve())
-    cases = [usage, ends, stations, trial, replies, closed_streams, failing_streams, another_run, little_memory]
+    cases = [usage, own_name, ends, stations, trial, replies, closed_streams, failing_streams, another_run, little_memory]
     for case in cases + [long_input] * ("--long" in sys.argv):
         with tempfile.TemporaryDirectory() as folder:
             case(Place(program, folder))

@@ -14,6 +14,9 @@ table of its days (some minutes).
 `stations`: its lines come, one of which may tell of no memory, or a status and no line; run again, it adds what is missing. And
 `trial --number 1`, for each of its first 300 allocations and then one in `--step`: its whole text comes, or a status and no text.
 
+A run that ends for want of memory, also of memory for its words, has the status 6, its line on standard error, and nothing on
+standard output. `init` may end with 4 and its line too, where the file could not be opened.
+
 It needs a C compiler (`cc`) for the few lines that stand before the system's allocator, and says so where there is none.
 """
 import argparse
@@ -161,6 +164,13 @@ def run(program, journal, requests, environment):
 
 
 NO_MEMORY = (507, b'{"code":"NoMemory"}')
+# The line on standard error that comes with a status, of those that one allocation less may bring.
+LINES = {0: b"", 4: b"streamoffice: disk fault\n", 6: b"streamoffice: out of memory\n"}
+
+
+def is_ended(ran, statuses):
+    """Whether a run ended by one of these statuses, with the line of that; and with nothing on standard output, if not by 0."""
+    return ran.returncode in statuses and ran.stderr == LINES[ran.returncode] and (ran.returncode == 0 or not ran.stdout)
 
 
 def is_told(requests, told, due):
@@ -180,12 +190,14 @@ def refused_run(program, shim, folder, requests, due, number):
     journal = os.path.join(folder, "journal-%d" % number)
     subprocess.run([program, "init", "--journal", journal], check=True)
     ran = run(program, journal, requests, {"LD_PRELOAD": shim, "REFUSED_ALLOCATION": str(number)})
-    if ran.returncode in (1, 6) and not ran.stdout:
-        came = (("status", ran.returncode),)
+    if not is_ended(ran, (0, 6)):
+        raise SystemExit("allocation %d: status %d, %d bytes, %r" % (number, ran.returncode, len(ran.stdout), ran.stderr))
+    if ran.returncode == 6:
+        came = (("status", 6),)
     else:
         told = replies(ran.stdout)
-        if ran.returncode != 0 or len(told) != len(requests):
-            raise SystemExit("allocation %d: status %d, %d replies, %r" % (number, ran.returncode, len(told), ran.stderr))
+        if len(told) != len(requests):
+            raise SystemExit("allocation %d: %d replies" % (number, len(told)))
         if not is_told(requests, told, due):
             raise SystemExit("allocation %d: a reply that is neither the one due nor 507" % number)
         came = tuple(sorted({status for status, _ in told if status != 200}))
@@ -223,8 +235,8 @@ def refused_init(program, shim, folder, number):
     words = [program, "init", "--journal", journal]
     ran = refused(words, shim, number)
     again = subprocess.run(words, capture_output=True)
-    if ran.returncode not in (0, 1, 4, 6) or again.returncode != (8 if ran.returncode == 0 else 0):
-        raise SystemExit("init, allocation %d: status %d, and then %d" % (number, ran.returncode, again.returncode))
+    if not is_ended(ran, (0, 4, 6)) or ran.stdout or again.returncode != (8 if ran.returncode == 0 else 0):
+        raise SystemExit("init, allocation %d: status %d, %r, and then %d" % (number, ran.returncode, ran.stderr, again.returncode))
     if subprocess.run([program, "batch", "--journal", journal], input=b"", capture_output=True).returncode != 0:
         raise SystemExit("init, allocation %d: no journal was made" % number)
     os.unlink(journal)
@@ -246,23 +258,23 @@ def refused_stations(program, shim, folder, document, number):
     kept = re.findall(r"edit \d+ (\d+)\n", told)
     due = station_lines(sites, kept) if ran.returncode == 0 else ""
     whole = station_lines(sites, kept + [site for site in sites if site not in kept])
-    if ran.returncode not in (0, 1, 6) or told != due or told.count("NoMemory") > 1 or again.stdout.decode() != whole:
-        raise SystemExit("stations, allocation %d: status %d, %r, and then %r" % (number, ran.returncode, told, again.stdout))
+    if not is_ended(ran, (0, 6)) or told != due or told.count("NoMemory") > 1 or again.stdout.decode() != whole:
+        raise SystemExit("stations, allocation %d: status %d, %r, %r, and then %r" % (number, ran.returncode, told, ran.stderr, again.stdout))
     return ran.returncode
 
 
 def refused_trial(program, shim, text, number):
     """Runs a trial with one allocation refused; its status."""
     ran = refused([program, "trial", "--number", "1"], shim, number)
-    if ran.stdout != (text if ran.returncode == 0 else b"") or ran.returncode not in (0, 1, 6):
-        raise SystemExit("trial, allocation %d: status %d, %d bytes" % (number, ran.returncode, len(ran.stdout)))
+    if not is_ended(ran, (0, 6)) or ran.stdout != (text if ran.returncode == 0 else b""):
+        raise SystemExit("trial, allocation %d: status %d, %d bytes, %r" % (number, ran.returncode, len(ran.stdout), ran.stderr))
     return ran.returncode
 
 
 def tell(name, statuses):
-    """Tells how often each status came. The words come first, so 1 comes before each 6, and some allocation is missed."""
+    """Tells how often each status came. The words come first, and none may be lost: the first status that is not 0 is 6."""
     statuses = list(statuses)
-    if 6 not in statuses or 1 in statuses[statuses.index(6) :]:
+    if next(filter(None, statuses), 0) != 6:
         raise SystemExit("%s: the statuses were %s" % (name, statuses))
     told = ", ".join("%d: %d" % (status, statuses.count(status)) for status in sorted(set(statuses)))
     print("%s with one allocation refused, by status: %s" % (name, told))

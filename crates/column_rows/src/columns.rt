@@ -63,7 +63,7 @@ fn a_value_goes_between(rt: HostRuntime) -> Result<(), Fail> {
 #[test]
 fn values_go_behind_the_last(rt: HostRuntime) -> Result<(), Fail> {
     let mut column = one_two_four(&rt)?;
-    column.reserve(3)?;
+    column.reserve(4)?;
     column.insert(2, 3);
     let spare = column.spare();
     column.append(&[5, 6]);
@@ -71,6 +71,12 @@ fn values_go_behind_the_last(rt: HostRuntime) -> Result<(), Fail> {
     column.append(&[]);
     assert!(rt; column.len() == 6);
     assert!(rt; lends(&column, 0, 6, &[1, 2, 3, 4, 5, 6]));
+    column.insert(3, 9);
+    assert!(rt; column.len() == 7);
+    assert!(rt; lends(&column, 0, 7, &[1, 2, 3, 9, 4, 5, 6]));
+    assert_eq!(rt; column.remove(5), 5);
+    assert!(rt; column.len() == 6);
+    assert!(rt; lends(&column, 0, 6, &[1, 2, 3, 9, 4, 6]));
     Ok(())
 }
 
@@ -96,6 +102,9 @@ fn values_of_no_size(rt: HostRuntime) -> Result<(), Fail> {
     assert_eq!(rt; column.remove(0), Mark);
     assert_eq!(rt; column.get(0), Mark);
     assert_eq!(rt; column.len(), 1);
+    column.append(&[Mark, Mark]);
+    assert_eq!(rt; column.get(2), Mark);
+    assert_eq!(rt; column.len(), 3);
     assert_eq!(rt; column.reserve(usize::MAX), Err(NoMemory));
     Ok(())
 }

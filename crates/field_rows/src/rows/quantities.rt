@@ -343,11 +343,39 @@ fn tests_of_ranges_end_where_they_say(rt: HostRuntime) {
     }
 }
 
+/// The run and the rise of a line from 0, how much of the run is gone, and what has risen then. 2^31 is the greatest run and rise by which a
+/// line is short.
+const LINES: [(i64, i64, i64, i64); 9] = [
+    // halves, which go away from zero
+    (2, 1, 1, 1),
+    (2, -1, 1, -1),
+    // a product above 2^53, and a quotient of 2^31
+    (2_147_483_648, 2_147_483_648, 2_147_483_647, 2_147_483_647),
+    (2_147_483_648, -2_147_483_648, 2_147_483_647, -2_147_483_647),
+    (2, 2_147_483_648, 2, 2_147_483_648),
+    // a rise above 2^31, either way, and a run
+    (2, 2_147_483_649, 1, 1_073_741_825),
+    (2, -2_147_483_649, 1, -1_073_741_825),
+    (2_147_483_649, 1, 1_073_741_824, 0),
+    (2_147_483_649, 1, 1_073_741_825, 1),
+];
+
+/// What the line from 0 to a point has where so much of its run is gone.
+fn risen(rt: &impl Abort, run: i64, rise: i64, gone: i64) -> i64 {
+    assert!(rt; 0 < run);
+    assert!(rt; 0 <= gone);
+    assert!(rt; gone <= run);
+    line_at((0, micro(rt, 0)), (run, micro(rt, rise)), gone).get()
+}
+
 #[test]
 fn a_line_is_rounded_once(rt: HostRuntime) {
     let (low, high) = (micro(&rt, -1), micro(&rt, 2));
     for (x, want) in [(0, -1), (1, 0), (2, 1), (3, 1), (4, 2)] {
         same(&rt, x, &line_at((0, low), (4, high), x).get(), &want);
+    }
+    for (run, rise, gone, want) in LINES {
+        same(&rt, rise, &risen(&rt, run, rise, gone), &want);
     }
     lines_meet_their_ends();
 }

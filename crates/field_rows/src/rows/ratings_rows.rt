@@ -44,6 +44,16 @@ const RATED: [(i64, Result<i64, Rated>); 6] = [
     (2_000_001, Err(Rated::Above)),
 ];
 
+/// By rows a millionth of a foot apart: one row for each millionth, which is 2^48 with 48 bits behind the point. 65,536 times that is 2^64,
+/// of which 64 bits keep nothing.
+const NEARLY_RATED: [(i64, Result<i64, Rated>); 5] = [
+    (-1, Err(Rated::Below)),
+    (0, Ok(5)),
+    (1, Ok(6)),
+    (2, Err(Rated::Above)),
+    (65_536, Err(Rated::Above)),
+];
+
 const STAGES: [(i64, Option<i64>); 5] = [
     (9_999_999, None),
     (10 * ONE, Some(ONE)),
@@ -60,6 +70,14 @@ fn tables(rt: HostRuntime) {
     }
     for (discharge, want) in STAGES {
         same(&rt, discharge, &stage_of(&rt, &table, discharge), &want);
+    }
+}
+
+#[test]
+fn tables_of_near_rows(rt: HostRuntime) {
+    let table = table(&rt, rt.alloc(), &[(0, 5), (1, 6)]);
+    for (stage, want) in NEARLY_RATED {
+        same(&rt, stage, &rated(&rt, &table, stage), &want);
     }
 }
 

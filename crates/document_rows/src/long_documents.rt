@@ -6,13 +6,15 @@ use fixed_units::Text;
 use station_documents::{MOST_BYTES, read_stations};
 use std::alloc::Global;
 
-/// How far the first gap tolerance and the first site are apart.
-const FIRST_SITE: u64 = 10_000_000;
+/// The number of the site that place 0 would have; the places of a document's stations are counted from 1.
+const SITE_OF_PLACE_ZERO: u64 = 10_000_000;
 
 /// A station of which the site, the reference and the gap tolerance tell the place.
 fn push_station(document: &mut Text, place: u32) -> Option<()> {
     document.push_slice(b"[[station]]\nsite = \"").ok()?;
-    document.push_number(FIRST_SITE + u64::from(place)).ok()?;
+    document
+        .push_number(SITE_OF_PLACE_ZERO + u64::from(place))
+        .ok()?;
     document.push_slice(b"\"\nref = \"st-").ok()?;
     document.push_number(u64::from(place)).ok()?;
     document.push_slice(b"\"\ngap = ").ok()?;
@@ -38,7 +40,7 @@ fn document_of(alloc: Global, count: u32) -> Option<Text> {
 fn adds(edit: &Edit, place: u32) -> bool {
     match edit.what {
         What::AddStation { gap, .. } => {
-            gap == place && edit.site.value() == FIRST_SITE + u64::from(place)
+            gap == place && edit.site.value() == SITE_OF_PLACE_ZERO + u64::from(place)
         }
         _ => false,
     }

@@ -8,7 +8,7 @@ use Rattle.history.specs.Events.{History}
 use Rattle.office.specs.Openings.{IsDamagedFor}
 use Rattle.wire.specs.declared.limits.TheConstants.{STREAM_BYTES}
 use Rattle.journal.specs.JournalBytes.{HasHeader, IsTaken, IsForeign}
-use Rattle.commands.specs.Statuses.{loading_status, session_status, status_of, trial_status}
+use Rattle.commands.specs.Statuses.{ending_of, loading_ending, session_ending, status_of, trial_ending}
 use Rattle.commands.specs.Making.{MakesOn, MakesAt, Makes, IsMakingEnd}
 use Rattle.commands.specs.Places.{HasKept, IfKept, bytes_found, images_found}
 use Rattle.commands.specs.RunEnds.{IsEarly, IsUnwritten, RunCause}
@@ -27,6 +27,19 @@ use Rattle.station_loading.specs.Loading.{IsLoaded, IsUnasked, LoadingCause}
 use Rattle.station_loading.specs.declared.loading.LoadingEnd.{LoadingEnd}
 use Rattle.station_loading.specs.declared.loading.LoadingEnd.TheVariants as loadings
 use Rattle.office_inputs.specs.Usual.{usual}
+
+-- the status with which each of these ends
+abbrev session_status : SessionEnd → ℕ
+session_status end = status_of (session_ending end)
+
+abbrev loading_status : LoadingEnd → ℕ
+loading_status end = status_of (loading_ending end)
+
+abbrev trial_status : TrialEnd → ℕ
+trial_status end = status_of (trial_ending end)
+
+abbrev run_status : RunEnd → ℕ
+run_status end = status_of (ending_of end)
 
 -- these statuses come before the input is read
 abbrev IsEarlyStatus : ℕ → Type 0
@@ -58,7 +71,7 @@ trial_early trials.Done h = (neither 0 h).0 refl
 trial_early trials.OutputFault h = (neither 3 h).1.1.0 refl
 trial_early trials.NoMemory h = (neither 6 h).1.1.1.0 refl
 
-pub early : (end : RunEnd) → IsEarlyStatus (status_of end) → IsEarly end
+pub early : (end : RunEnd) → IsEarlyStatus (run_status end) → IsEarly end
 early ends.Made h = tt
 early ends.Exists h = tt
 early (ends.Served end) h = absurd (session_early end h)
@@ -91,7 +104,7 @@ trial_memory trials.Done e = absurd (cc)
 trial_memory trials.OutputFault e = absurd (cc)
 trial_memory trials.NoMemory e = tt
 
-pub unwritten : (end : RunEnd) → status_of end ≡ 6 → IsUnwritten end
+pub unwritten : (end : RunEnd) → run_status end ≡ 6 → IsUnwritten end
 unwritten ends.Made e = tt
 unwritten ends.Exists e = tt
 unwritten (ends.Served end) e = subst (λ (x : SessionEnd). IsUnwritten (ends.Served x)) (sym (session_memory end e)) tt
@@ -105,7 +118,7 @@ unwritten ends.Usage e = tt
 
 pub unserved : {D : Type 0} (g : Ghosts D) (end : RunEnd)
     (name : List ℕ) (p0 p2 : Option (List ℕ → Place D)) (c0 c2 : ℕ) (l0 l w0 w : Option (List ℕ))
-    → ServesUnder g Session name end p0 p2 c0 c2 l0 l w0 w → status_of end ≡ 6 → IsEarly end
+    → ServesUnder g Session name end p0 p2 c0 c2 l0 l w0 w → run_status end ≡ 6 → IsEarly end
 unserved g ends.Made name p0 p2 c0 c2 l0 l w0 w h e = tt
 unserved g ends.Exists name p0 p2 c0 c2 l0 l w0 w h e = tt
 unserved g (ends.Served end) name p0 p2 c0 c2 l0 l w0 w h e = subst (λ (x : SessionEnd). IsEarly (ends.Served x)) (sym (session_memory end e)) tt
@@ -129,7 +142,7 @@ loading_unwritten loadings.NotADocument e = tt
 
 pub unwritten_loading : {D : Type 0} (g : Ghosts D) (end : RunEnd)
     (name : List ℕ) (p0 p2 : Option (List ℕ → Place D)) (c0 c2 : ℕ) (l0 l w0 w : Option (List ℕ))
-    → ServesUnder g Loading name end p0 p2 c0 c2 l0 l w0 w → (status_of end ≡ 2) ⊎ (status_of end ≡ 9) → IsUnwritten end
+    → ServesUnder g Loading name end p0 p2 c0 c2 l0 l w0 w → (run_status end ≡ 2) ⊎ (run_status end ≡ 9) → IsUnwritten end
 unwritten_loading g ends.Made name p0 p2 c0 c2 l0 l w0 w h e = tt
 unwritten_loading g ends.Exists name p0 p2 c0 c2 l0 l w0 w h e = tt
 unwritten_loading g (ends.Served end) name p0 p2 c0 c2 l0 l w0 w h e = absurd h.2
@@ -171,7 +184,7 @@ makes_there g end name (Some b) (Some a) makes room =
 -- so it is made, or the disk failed
 made_there : {D : Type 0} (g : Ghosts D) (end : RunEnd) (bytes : List ℕ)
     (images : List ℕ → Type 0) (disk : D) (c0 c2 : ℕ) → MakesOn g bytes images end disk
-    → (¬ IsTaken bytes) × (¬ IsForeign bytes) → IsMakingEnd end c0 c2 → ¬ (Rose c0 c2) → status_of end ≡ 0
+    → (¬ IsTaken bytes) × (¬ IsForeign bytes) → IsMakingEnd end c0 c2 → ¬ (Rose c0 c2) → run_status end ≡ 0
 made_there g ends.Made bytes images disk c0 c2 h room cause calm = refl
 made_there g ends.Exists bytes images disk c0 c2 h room cause calm = absurd (room.0 h.0)
 made_there g ends.NotAJournal bytes images disk c0 c2 h room cause calm = absurd (room.1 h.0)
@@ -186,14 +199,14 @@ made_there g ends.Usage bytes images disk c0 c2 h room cause calm = absurd h
 made_or_not : {D : Type 0} (g : Ghosts D) (end : RunEnd) (images : List ℕ → Type 0) (c0 c2 : ℕ)
     → ((end ≡ ends.DiskFault) ⊎ (end ≡ ends.NoMemory)) ⊎ ((bytes : List ℕ) × (disk : D)
     × MakesOn g bytes images end disk × ((¬ IsTaken bytes) × (¬ IsForeign bytes)))
-    → IsMakingEnd end c0 c2 → ¬ (Rose c0 c2) → (status_of end ≡ 0) ⊎ (status_of end ≡ 6)
+    → IsMakingEnd end c0 c2 → ¬ (Rose c0 c2) → (run_status end ≡ 0) ⊎ (run_status end ≡ 6)
 made_or_not g end images c0 c2 (inl (inl e)) cause calm = absurd (calm (subst (λ (x : RunEnd). IsMakingEnd x c0 c2) e cause))
-made_or_not g end images c0 c2 (inl (inr e)) cause calm = inr (ap status_of e)
+made_or_not g end images c0 c2 (inl (inr e)) cause calm = inr (ap run_status e)
 made_or_not g end images c0 c2 (inr h) cause calm = inl (made_there g end h.0 images h.1 c0 c2 h.2 h.3 cause calm)
 
 pub completes_init : {D : Type 0} (g : Ghosts D) (end : RunEnd) (name : List ℕ)
     (p0 p2 : Option (List ℕ → Place D)) (c0 c2 : ℕ)
-    → Makes g end name p0 p2 → IsMakingEnd end c0 c2 → HasRoom g name p0 → ¬ (Rose c0 c2) → (status_of end ≡ 0) ⊎ (status_of end ≡ 6)
+    → Makes g end name p0 p2 → IsMakingEnd end c0 c2 → HasRoom g name p0 → ¬ (Rose c0 c2) → (run_status end ≡ 0) ⊎ (run_status end ≡ 6)
 completes_init g end name p0 p2 c0 c2 makes h room calm =
     let there = makes_there g end name p0 p2 makes room in
     made_or_not g end there.0 c0 c2 there.1 h calm
@@ -272,7 +285,7 @@ loading_completes loadings.NoMemory h after l0 l w0 w a b c d loaded cause state
 opens_sound : {D : Type 0} (g : Ghosts D) (work : Work) (end : RunEnd)
     (name : List ℕ) (p0 p2 : Option (List ℕ → Place D)) (c0 c2 : ℕ) (l0 l w0 w : Option (List ℕ))
     → ServesUnder g work name end p0 p2 c0 c2 l0 l w0 w → HasSound g name p0 → ¬ (Rose c0 c2)
-    → ((h after : History) × IsWorked end work h after l0 l w0 w) ⊎ (status_of end ≡ 6)
+    → ((h after : History) × IsWorked end work h after l0 l w0 w) ⊎ (run_status end ≡ 6)
 opens_sound g work ends.Made name p0 p2 c0 c2 l0 l w0 w h sound quiet = absurd h
 opens_sound g work ends.Exists name p0 p2 c0 c2 l0 l w0 w h sound quiet = absurd h
 opens_sound g work (ends.Served end) name p0 p2 c0 c2 l0 l w0 w h sound quiet = inl (reopen usual h.0, h.1, h.2)
@@ -289,7 +302,7 @@ opens_sound g work ends.Usage name p0 p2 c0 c2 l0 l w0 w h sound quiet = absurd 
 session_worked : (end : RunEnd) (h after : History) (l0 l w0 w : Option (List ℕ)) (a b c d : ℕ)
     → IsWorked end Session h after l0 l w0 w → RunCause end a b c d
     → IsSomeAnd l0 IsWellFormed → IsSome w0 → ¬ (Rose a b) → ¬ (Rose c d)
-    → (status_of end ≡ 0) ⊎ (status_of end ≡ 6)
+    → (run_status end ≡ 0) ⊎ (run_status end ≡ 6)
 session_worked ends.Made h after l0 l w0 w a b c d worked cause formed told calm still = absurd worked
 session_worked ends.Exists h after l0 l w0 w a b c d worked cause formed told calm still = absurd worked
 session_worked (ends.Served end) h after l0 l w0 w a b c d worked cause formed told calm still =
@@ -305,7 +318,7 @@ session_worked ends.Usage h after l0 l w0 w a b c d worked cause formed told cal
 loading_worked : (end : RunEnd) (h after : History) (l0 l w0 w : Option (List ℕ)) (a b c d : ℕ)
     → IsWorked end Loading h after l0 l w0 w → RunCause end a b c d
     → IsSomeAnd l0 IsDocument → ¬ (Rose a b) → ¬ (Rose c d)
-    → (status_of end ≡ 0) ⊎ (status_of end ≡ 6)
+    → (run_status end ≡ 0) ⊎ (run_status end ≡ 6)
 loading_worked ends.Made h after l0 l w0 w a b c d worked cause stated calm still = absurd worked
 loading_worked ends.Exists h after l0 l w0 w a b c d worked cause stated calm still = absurd worked
 loading_worked (ends.Served end) h after l0 l w0 w a b c d worked cause stated calm still = absurd worked
@@ -322,7 +335,7 @@ module _ {D : Type 0} (g : Ghosts D) (end : RunEnd)
     (name : List ℕ) (p0 p2 : Option (List ℕ → Place D)) (c0 c2 : ℕ) (l0 l w0 w : Option (List ℕ)) (a b c d : ℕ) where
   pub completes : ServesUnder g Session name end p0 p2 c0 c2 l0 l w0 w → RunCause end a b c d → HasSound g name p0
       → IsSomeAnd l0 IsWellFormed → IsSome w0 → ¬ (Rose a b) → ¬ (Rose c d) → ¬ (Rose c0 c2)
-      → (status_of end ≡ 0) ⊎ (status_of end ≡ 6)
+      → (run_status end ≡ 0) ⊎ (run_status end ≡ 6)
   completes serves cause sound formed told calm still quiet =
       elim (opens_sound g Session end name p0 p2 c0 c2 l0 l w0 w serves sound quiet) [
         | inl h ↦ session_worked end h.0 h.1 l0 l w0 w a b c d h.2 cause formed told calm still
@@ -331,7 +344,7 @@ module _ {D : Type 0} (g : Ghosts D) (end : RunEnd)
 
   pub completes_loading : ServesUnder g Loading name end p0 p2 c0 c2 l0 l w0 w → RunCause end a b c d → HasSound g name p0
       → IsSomeAnd l0 IsDocument → ¬ (Rose a b) → ¬ (Rose c d) → ¬ (Rose c0 c2)
-      → (status_of end ≡ 0) ⊎ (status_of end ≡ 6)
+      → (run_status end ≡ 0) ⊎ (run_status end ≡ 6)
   completes_loading serves cause sound stated calm still quiet =
       elim (opens_sound g Loading end name p0 p2 c0 c2 l0 l w0 w serves sound quiet) [
         | inl h ↦ loading_worked end h.0 h.1 l0 l w0 w a b c d h.2 cause stated calm still
@@ -346,7 +359,7 @@ trial_completes trials.OutputFault a b c d cause still = absurd (still cause)
 trial_completes trials.NoMemory a b c d cause still = inr refl
 
 pub completes_trial : (end : RunEnd) (tried : TrialEnd) (a b c d : ℕ) → end ≡ ends.Tried tried → RunCause end a b c d → ¬ (Rose c d)
-    → (status_of end ≡ 0) ⊎ (status_of end ≡ 6)
+    → (run_status end ≡ 0) ⊎ (run_status end ≡ 6)
 completes_trial end tried a b c d is cause still =
-    subst (λ (e : RunEnd). (status_of e ≡ 0) ⊎ (status_of e ≡ 6)) (sym is)
+    subst (λ (e : RunEnd). (run_status e ≡ 0) ⊎ (run_status e ≡ 6)) (sym is)
     (trial_completes tried a b c d (subst (λ (e : RunEnd). RunCause e a b c d) is cause) still)

@@ -1,7 +1,8 @@
 -- The place of a journal in a cabinet, before a run and after it.
-use Rattle.std.specs.Prelude.{◌≡◌, ℕ, List, [], Option, Some, ⊤}
+use Rattle.std.specs.Prelude.{◌≡◌, ◌⊎◌, ℕ, List, [], Option, Some, None, IfSome, ⊤}
+use Rattle.command_words.specs.Words.{Asked, Init, Batch, Stations, Trial}
 use Rattle.devices.specs.declared.disks.Disk.{Ghosts}
-use Rattle.devices.specs.Cabinets.{Place, Free, Kept, Out}
+use Rattle.devices.specs.Cabinets.{Place, Free, Kept, Out, IsCounted}
 use Rattle.devices.specs.Disks.{IsUnchanged, NothingNew}
 use Rattle.journal.specs.Moments.{LeavesOnly}
 
@@ -27,6 +28,20 @@ abbrev pub images_found : {D : Type 0} → Ghosts D → Place D → List ℕ →
 images_found g Free image = image ≡ []
 images_found g (Kept disk) image = g.may_leave disk image
 images_found g Out image = image ≡ []
+
+-- Under the name is what was there; or a disk that was given back, for which the cabinet counts one fault more exactly where the disk has
+-- any.
+abbrev pub IsCountedUnder : {D : Type 0} → Ghosts D → List ℕ → Option (List ℕ → Place D) → Option (List ℕ → Place D) → ℕ → ℕ → Type 0
+IsCountedUnder g name places_before places_after before now =
+    IfSome places_before (λ b. IfSome places_after (λ a.
+    (a name ≡ b name) ⊎ HasKept (λ disk. IsCounted (g.faults disk) before now) (a name)))
+
+-- the name of the journal that is asked for, if one is
+abbrev pub journal_of : Asked → Option (List ℕ)
+journal_of (Init name) = Some name
+journal_of (Batch name) = Some name
+journal_of (Stations name) = Some name
+journal_of (Trial number) = None
 
 -- Nothing was written in a run: the disk has the same bytes, a stop may leave no more of them, and at any moment of the
 -- run it left what it might have left before.

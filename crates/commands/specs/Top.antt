@@ -8,11 +8,11 @@ use Rattle.office.specs.Openings.{IsDamagedFor}
 use Rattle.wire.specs.declared.limits.TheConstants.{STREAM_BYTES}
 use Rattle.wire.specs.Messages.{AreMessages, IsMalformed}
 use Rattle.wire.specs.declared.messages.Message.{Message}
-use Rattle.commands.specs.Places.{HasKept, bytes_found}
+use Rattle.commands.specs.Places.{HasKept, IsCountedUnder, bytes_found}
 use Rattle.devices.specs.Sinks.{IsCutShort}
 use Rattle.commands.specs.Making.{IsMakingEnd, Makes}
 use Rattle.commands.specs.Serving.{ServesUnder}
-use Rattle.commands.specs.Statuses.{status_of, line_of, trial_status, trial_line}
+use Rattle.commands.specs.Statuses.{ending_of, trial_ending, status_of, line_of}
 use Rattle.commands.specs.Trying.{IsTried}
 use Rattle.commands.specs.declared.runs.RunEnd.{RunEnd}
 use Rattle.commands.specs.declared.runs.Work.{Work}
@@ -27,35 +27,37 @@ IsReported line before after faults_before faults_now =
     IfSome before (λ b. IsSomeAnd after (λ a. (part : List ℕ) × (a ≡ b ++ part)
     × ((part ≡ line) ⊎ (IsCutShort part line × Rose faults_before faults_now))))
 
--- A run of `init`: how it ended, its status, its line, what is under the name then, and what a stop at any moment of the
--- run left there.
+-- A run of `init`: how it ended, its status, its line, what is under the name then and how the cabinet counts it, and what a stop at any
+-- moment of the run left there.
 pub record RunsInit {D : Type 0} (g : Ghosts D) (name : List ℕ) (status : ℕ)
     (places_before places_after : Option (List ℕ → Place D)) (before now : ℕ)
     (told_before told_after : Option (List ℕ)) (faults_before faults_now : ℕ) : Type 0 where
   pub end : RunEnd
-  pub status_is : status ≡ status_of end
-  pub line_is : IsReported (line_of end) told_before told_after faults_before faults_now
+  pub status_is : status ≡ status_of (ending_of end)
+  pub line_is : IsReported (line_of (ending_of end)) told_before told_after faults_before faults_now
   pub ends : IsMakingEnd end before now
   pub makes : Makes g end name places_before places_after
+  pub counted : IsCountedUnder g name places_before places_after before now
 
 -- A run over a journal, as that of `batch` or of `stations`: how it ended, its status, its line, what was read and written, what is
--- under the name then, and what a stop at any moment of the run left there.
+-- under the name then and how the cabinet counts it, and what a stop at any moment of the run left there.
 pub record RunsOver {D : Type 0} (g : Ghosts D) (work : Work)
     (name : List ℕ) (status : ℕ) (places_before places_after : Option (List ℕ → Place D)) (before now : ℕ)
     (left_before left_after written_before written_after : Option (List ℕ))
     (told_before told_after : Option (List ℕ)) (faults_before faults_now : ℕ) : Type 0 where
   pub end : RunEnd
-  pub status_is : status ≡ status_of end
-  pub line_is : IsReported (line_of end) told_before told_after faults_before faults_now
+  pub status_is : status ≡ status_of (ending_of end)
+  pub line_is : IsReported (line_of (ending_of end)) told_before told_after faults_before faults_now
   pub serves : ServesUnder g work name end places_before places_after before now
       left_before left_after written_before written_after
+  pub counted : IsCountedUnder g name places_before places_after before now
 
 -- A run of `trial`: how it ended, its status, its line, and what was written.
 pub record RunsTrial (number : ℕ) (status : ℕ) (written_before written_after : Option (List ℕ))
     (told_before told_after : Option (List ℕ)) (faults_before faults_now : ℕ) : Type 0 where
   pub end : TrialEnd
-  pub status_is : status ≡ trial_status end
-  pub line_is : IsReported (trial_line end) told_before told_after faults_before faults_now
+  pub status_is : status ≡ status_of (trial_ending end)
+  pub line_is : IsReported (line_of (trial_ending end)) told_before told_after faults_before faults_now
   pub tried : IsTried number end written_before written_after
 
 -- an input of fewer bytes than may be taken of a stream, in which no message is malformed

@@ -7,6 +7,7 @@ ghost use Rattle.journal.specs.Moments.{LeavesOnly};
 ghost use Rattle.journal.specs.declared.making.InitFault.{InitFault};
 ghost use Rattle.register.specs.Registered.{NoneOut};
 ghost use Rattle.commands.specs.Making.{MakesOn, IsLeftByMaking, IsMakingEnd, Makes};
+ghost use Rattle.commands.specs.Places.{IsCountedUnder};
 ghost use Rattle.commands.specs.Serving.{IsWorked, ServesDisk, ServesUnder};
 ghost use Rattle.commands.specs.RunEnds.{making_end, opening_end, IsEarly, IsUnwritten, RunCause};
 
@@ -58,6 +59,7 @@ pub enum RunEnd {
 pub(crate) fn make_journal<C: Cabinet>(cabinet: &mut C, name: &str) -> RunEnd
     ensures makes { Makes C.Disk.Disk result name.now (C.places cabinet.old) (C.places cabinet.new) }
     ensures ends { IsMakingEnd result (C.faults cabinet.old) (C.faults cabinet.new) }
+    ensures counted { IsCountedUnder C.Disk.Disk name.now (C.places cabinet.old) (C.places cabinet.new) (C.faults cabinet.old) (C.faults cabinet.new) }
 {
     match cabinet.open(name, true) {
         Opened::Disk(disk) => {
@@ -65,6 +67,7 @@ pub(crate) fn make_journal<C: Cabinet>(cabinet: &mut C, name: &str) -> RunEnd
             cabinet.keep(name, disk);
             end
         }
+        // a disk is made where there is none, so none is absent
         Opened::Absent | Opened::Failed => RunEnd::DiskFault,
     }
 }
@@ -107,6 +110,7 @@ pub(crate) fn work_under<C: Cabinet, S: Source, K: Sink>(
     ensures cause { RunCause result (S.faults input.old) (S.faults input.new) (K.faults output.old) (K.faults output.new) }
     ensures unserved { IsEarly result → (input.new ≡ input.old) × (output.new ≡ output.old) }
     ensures unwritten { IsUnwritten result → output.new ≡ output.old }
+    ensures counted { IsCountedUnder C.Disk.Disk name.now (C.places cabinet.old) (C.places cabinet.new) (C.faults cabinet.old) (C.faults cabinet.new) }
 {
     match cabinet.open(name, false) {
         Opened::Disk(disk) => {

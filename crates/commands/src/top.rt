@@ -1,12 +1,11 @@
 //! The call that the program makes.
 
-ghost use Rattle.std.specs.Prelude.{◌≡◌, ◌≢◌, ◌⊎◌, ◌≤◌, ◌++◌, ◌∷◌, [], true, false, ℕ, List, decimal, map, string_bytes, IsSome, IsSomeAnd};
+ghost use Rattle.std.specs.Prelude.{◌≡◌, ◌≢◌, ◌⊎◌, ℕ, List, map, string_bytes, IsSome, IsSomeAnd, IfSome};
 ghost use Rattle.devices.specs.Faults.{Rose};
-ghost use Rattle.commands.specs.Statuses as endings;
-ghost use Rattle.commands.specs.Statuses.{status_of, line_of, usage_line};
+ghost use Rattle.commands.specs.Places.{IsCountedUnder, journal_of};
+ghost use Rattle.commands.specs.Statuses.{ending_of, status_of, line_of};
 ghost use Rattle.commands.specs.Making.{IsMakingEnd, Makes};
 ghost use Rattle.commands.specs.RunEnds.{IsEarly, IsUnwritten, RunCause};
-ghost use Rattle.devices.specs.Sinks.{AreWritten};
 ghost use Rattle.commands.specs.Serving.{ServesUnder};
 ghost use Rattle.command_words.specs.Commands.{asked_by};
 ghost use Rattle.command_words.specs.Words.{Asked, Init, Batch, Stations, Trial, IsAsked};
@@ -14,12 +13,11 @@ ghost use Rattle.commands.specs.Top.{IsReported, RunsInit, RunsOver, RunsTrial, 
 ghost use Rattle.commands.specs.Trying.{IsTried};
 ghost use Rattle.commands.specs.declared.runs.Work.TheVariants.{Session, Loading};
 
+use crate::endings::Ending;
 use crate::runs::{RunEnd, Work, make_journal, work_under};
-use crate::trying::{TrialEnd, try_number};
+use crate::trying::{TrialEnd, write_trial};
 use command_words::{Command, WordsFault, read_words};
-use desk::SessionEnd;
-use devices::{Cabinet, Sink, Source, put_all};
-use station_loading::LoadingEnd;
+use devices::{Cabinet, Sink, Source};
 use std::alloc::Global;
 
 /// Runs the command that the words name: `init` makes a journal under a name of the cabinet, `batch` reads requests to the input's end
@@ -30,8 +28,8 @@ use std::alloc::Global;
 /// program: 0 where the command is done, for `batch` at the input's end; 1 exactly where the words are no command; 2 and 3 where
 /// the input or the output failed; 4 where the disk failed while the journal was made or opened; 5 where there is no
 /// journal, or a damaged one; 6 where there was no memory to begin, or for the trial; 8 where `init` finds a journal; 9 at what is no well
-/// framed request, or no document of stations; 10 where the input has more than 2^36 bytes. A line on `faults` names every status but 0; a
-/// sink of faults that fails changes nothing. A disk that fails at an edit ends nothing: the reply or line says so, and the run goes on.
+/// framed request, or where the whole input is no document of stations; 10 where 2^36 bytes of the input of `batch` were taken and more was
+/// needed. A line on `faults` names every status but 0; a sink of faults that fails changes nothing. A disk that fails at an edit ends nothing: the reply or line says so, and the run goes on.
 ///
 /// Each disk that the cabinet gave is under its name again, so its faults show in the cabinet's count.
 pub fn run_office<R, S: Source, K: Sink, E: Sink, C: Cabinet>(
@@ -46,7 +44,7 @@ pub fn run_office<R, S: Source, K: Sink, E: Sink, C: Cabinet>(
     ensures usage { result ≡ 1 → (asked : Asked) → ¬ (IsAsked (map string_bytes words.now) asked) }
     ensures unasked { ((asked : Asked) → ¬ (IsAsked (map string_bytes words.now) asked)) → result ≡ 1 }
     ensures untouched { result ≡ 1 → (input.new ≡ input.old) × (output.new ≡ output.old) × (cabinet.new ≡ cabinet.old) }
-    ensures usage_line { result ≡ 1 → IsReported usage_line (E.written faults.old) (E.written faults.new) (E.faults faults.old) (E.faults faults.new) }
+    ensures usage_line { result ≡ 1 → IsReported (line_of Ending.Usage) (E.written faults.old) (E.written faults.new) (E.faults faults.old) (E.faults faults.new) }
 
     ensures init { (name : List ℕ) → IsAsked (map string_bytes words.now) (Init name)
         → RunsInit C.Disk.Disk name result
@@ -107,11 +105,10 @@ pub fn run_office<R, S: Source, K: Sink, E: Sink, C: Cabinet>(
 
 /// The status of a run that ended so, whose line is put.
 fn finish<E: Sink>(end: RunEnd, faults: &mut E) -> u8
-    ensures status { result ≡ status_of end }
-    ensures line { IsReported (line_of end) (E.written faults.old) (E.written faults.new) (E.faults faults.old) (E.faults faults.new) }
+    ensures status { result ≡ status_of (ending_of end) }
+    ensures line { IsReported (line_of (ending_of end)) (E.written faults.old) (E.written faults.new) (E.faults faults.old) (E.faults faults.new) }
 {
-    report(end, faults);
-    status(end)
+    Ending::from(end).finish(faults)
 }
 
 /// Runs a command.
@@ -140,146 +137,13 @@ fn run_command<S: Source, K: Sink, C: Cabinet>(
     ensures disk_cause { result ≡ RunEnd.DiskFault → Rose (C.faults cabinet.old) (C.faults cabinet.new) }
     ensures unserved { IsEarly result → (input.new ≡ input.old) × (output.new ≡ output.old) }
     ensures unwritten { IsUnwritten result → output.new ≡ output.old }
+    ensures counted { IfSome (journal_of (asked_by command.entry)) (λ name. IsCountedUnder C.Disk.Disk name
+        (C.places cabinet.old) (C.places cabinet.new) (C.faults cabinet.old) (C.faults cabinet.new)) }
 {
     match command {
         Command::Init(name) => make_journal(cabinet, name),
         Command::Batch(name) => work_under(alloc, cabinet, name, Work::Session, input, output),
         Command::Stations(name) => work_under(alloc, cabinet, name, Work::Loading, input, output),
-        Command::Trial(number) => RunEnd::Tried(try_number(alloc, number, output)),
+        Command::Trial(number) => RunEnd::Tried(write_trial(alloc, number, output)),
     }
-}
-
-fn status(end: RunEnd) -> u8
-    ensures { result ≡ status_of end }
-{
-    match end {
-        RunEnd::Made => 0,
-        RunEnd::Served(end) => session_status(end),
-        RunEnd::Loaded(end) => loading_status(end),
-        RunEnd::Tried(end) => trial_status(end),
-        RunEnd::DiskFault => 4,
-        RunEnd::NotAJournal | RunEnd::Damaged(_) => 5,
-        RunEnd::NoMemory => 6,
-        RunEnd::Exists => 8,
-        RunEnd::Usage => 1,
-    }
-}
-
-fn session_status(end: SessionEnd) -> u8
-    ensures { result ≡ endings.session_status end }
-{
-    match end {
-        SessionEnd::End => 0,
-        SessionEnd::InputFault => 2,
-        SessionEnd::OutputFault => 3,
-        SessionEnd::NoMemory => 6,
-        SessionEnd::Malformed(_) => 9,
-        SessionEnd::Long => 10,
-    }
-}
-
-fn loading_status(end: LoadingEnd) -> u8
-    ensures { result ≡ endings.loading_status end }
-{
-    match end {
-        LoadingEnd::Done => 0,
-        LoadingEnd::InputFault => 2,
-        LoadingEnd::OutputFault => 3,
-        LoadingEnd::NoMemory => 6,
-        LoadingEnd::NotADocument => 9,
-    }
-}
-
-fn trial_status(end: TrialEnd) -> u8
-    ensures { result ≡ endings.trial_status end }
-{
-    match end {
-        TrialEnd::Done => 0,
-        TrialEnd::OutputFault => 3,
-        TrialEnd::NoMemory => 6,
-    }
-}
-
-/// Puts the line for the end of a run; a failure changes nothing.
-fn report<E: Sink>(end: RunEnd, faults: &mut E)
-    ensures { IsReported (line_of end) (E.written faults.old) (E.written faults.new) (E.faults faults.old) (E.faults faults.new) }
-{
-    let _told = match end {
-        RunEnd::Made => true,
-        RunEnd::Served(end) => return report_session(end, faults),
-        RunEnd::Loaded(end) => return report_loading(end, faults),
-        RunEnd::Tried(end) => return report_trial(end, faults),
-        RunEnd::DiskFault => put_all(faults, b"streamoffice: disk fault\n"),
-        RunEnd::NotAJournal => put_all(faults, b"streamoffice: not a journal\n"),
-        RunEnd::Damaged(at) => put_offset(faults, b"streamoffice: damaged at ", at),
-        RunEnd::NoMemory => put_all(faults, b"streamoffice: out of memory\n"),
-        RunEnd::Exists => put_all(faults, b"streamoffice: journal exists\n"),
-        RunEnd::Usage => put_all(
-            faults,
-            b"streamoffice: usage: init, batch, serve, stations or trial\n",
-        ),
-    };
-}
-
-/// Puts the line for the end of a session; a failure changes nothing.
-fn report_session<E: Sink>(end: SessionEnd, faults: &mut E)
-    ensures { IsReported (endings.session_line end) (E.written faults.old) (E.written faults.new) (E.faults faults.old) (E.faults faults.new) }
-{
-    let _told = match end {
-        SessionEnd::End => true,
-        SessionEnd::InputFault => put_all(faults, b"streamoffice: input fault\n"),
-        SessionEnd::OutputFault => put_all(faults, b"streamoffice: output fault\n"),
-        SessionEnd::NoMemory => put_all(faults, b"streamoffice: out of memory\n"),
-        SessionEnd::Malformed(at) => put_offset(faults, b"streamoffice: malformed at ", at),
-        SessionEnd::Long => put_all(faults, b"streamoffice: input too long\n"),
-    };
-}
-
-/// Puts the line for the end of a loading; a failure changes nothing.
-fn report_loading<E: Sink>(end: LoadingEnd, faults: &mut E)
-    ensures { IsReported (endings.loading_line end) (E.written faults.old) (E.written faults.new) (E.faults faults.old) (E.faults faults.new) }
-{
-    let _told = match end {
-        LoadingEnd::Done => true,
-        LoadingEnd::InputFault => put_all(faults, b"streamoffice: input fault\n"),
-        LoadingEnd::OutputFault => put_all(faults, b"streamoffice: output fault\n"),
-        LoadingEnd::NoMemory => put_all(faults, b"streamoffice: out of memory\n"),
-        LoadingEnd::NotADocument => put_all(faults, b"streamoffice: not a station document\n"),
-    };
-}
-
-/// Puts the line for the end of a trial; a failure changes nothing.
-fn report_trial<E: Sink>(end: TrialEnd, faults: &mut E)
-    ensures { IsReported (endings.trial_line end) (E.written faults.old) (E.written faults.new) (E.faults faults.old) (E.faults faults.new) }
-{
-    let _told = match end {
-        TrialEnd::Done => true,
-        TrialEnd::OutputFault => put_all(faults, b"streamoffice: output fault\n"),
-        TrialEnd::NoMemory => put_all(faults, b"streamoffice: out of memory\n"),
-    };
-}
-
-/// Puts words, an offset and the end of a line; whether the sink took them.
-fn put_offset<K: Sink>(sink: &mut K, words: &[u8], at: u64) -> bool
-    ensures written { AreWritten (K.written sink.old) (words.now ++ (decimal at ++ 10 ∷ [])) (K.written sink.new) result }
-    ensures counted { K.faults sink.old ≤ K.faults sink.new }
-    ensures cause { result ≡ false → Rose (K.faults sink.old) (K.faults sink.new) }
-{
-    let mut buffer = itoa::Buffer::new();
-    put_line(sink, words, buffer.format(at).as_bytes())
-}
-
-/// Puts words, digits and the end of a line; whether the sink took them.
-fn put_line<K: Sink>(sink: &mut K, words: &[u8], digits: &[u8]) -> bool
-    ensures written { AreWritten (K.written sink.old) (words.now ++ (digits.now ++ 10 ∷ [])) (K.written sink.new) result }
-    ensures counted { K.faults sink.old ≤ K.faults sink.new }
-    ensures cause { result ≡ false → Rose (K.faults sink.old) (K.faults sink.new) }
-{
-    if !put_all(sink, words) {
-        return false;
-    }
-    if !put_all(sink, digits) {
-        return false;
-    }
-    put_all(sink, b"\n")
 }

@@ -20,7 +20,7 @@ pub enum TrialEnd {
 }
 
 /// Runs the trial of a number, and writes its text. Nothing is written before the whole text is there.
-pub(crate) fn try_number<K: Sink>(alloc: Global, number: u32, sink: &mut K) -> TrialEnd
+pub(crate) fn write_trial<K: Sink>(alloc: Global, number: u32, sink: &mut K) -> TrialEnd
     ensures tried { IsTried number result (K.written sink.old) (K.written sink.new) }
     ensures cause { result ≡ TrialEnd.OutputFault → Rose (K.faults sink.old) (K.faults sink.new) }
     ensures unwritten { result ≡ TrialEnd.NoMemory → sink.new ≡ sink.old }

@@ -3,6 +3,7 @@
 ghost use Rattle.std.specs.Prelude.{◌≡◌, ◌≤◌, ◌+◌, ◌++◌, length};
 ghost use Rattle.arrayvec.specs.ArrayVec.{array_vec_len};
 ghost use Rattle.station_loading.specs.Lines as lines;
+ghost use Rattle.station_loading.specs.declared.lines.TheConstants.{LINE_BYTES};
 
 use arrayvec::ArrayVec;
 use fixed_units::Site;
@@ -11,7 +12,8 @@ use office::Accepted;
 use office_inputs::Refusal;
 use site_texts::site_digits;
 
-/// As many bytes as a line has at most: the longer of two words, a number or a code, a site number and what stands between them.
+/// As many bytes as a line has at most: `edit `, a number of 20 digits, a blank, a site number of 15 digits and LF. The longest code that
+/// stands behind `refused ` takes less.
 pub(crate) const LINE_BYTES: usize = 42;
 
 /// The line for a station of that number, by what the office answered. It takes no memory.
@@ -49,7 +51,7 @@ fn refused_line(site: Site, refusal: Refusal) -> ArrayVec<u8, LINE_BYTES>
 
 /// Adds the site number and the end of the line.
 fn add_site(line: &mut ArrayVec<u8, LINE_BYTES>, site: Site)
-    requires { array_vec_len line.old + 17 ≤ 42 }
+    requires { array_vec_len line.old + 17 ≤ LINE_BYTES }
     ensures { line.new.items ≡ line.old.items ++ lines.site_end site }
 {
     let digits = site_digits(site);
@@ -60,7 +62,7 @@ fn add_site(line: &mut ArrayVec<u8, LINE_BYTES>, site: Site)
 
 /// Adds bytes for which there is room.
 fn add(line: &mut ArrayVec<u8, LINE_BYTES>, bytes: &[u8])
-    requires { array_vec_len line.old + length bytes.now ≤ 42 }
+    requires { array_vec_len line.old + length bytes.now ≤ LINE_BYTES }
     ensures added { line.new.items ≡ line.old.items ++ bytes.now }
     ensures len { array_vec_len line.new ≡ array_vec_len line.old + length bytes.now }
 {

@@ -1,4 +1,4 @@
-use Rattle.commands.proofs.PlaceLemmas.{taken_out}
+use Rattle.commands.proofs.PlaceLemmas.{counts_absent, counts_failed, counts_kept, taken_out}
 use Rattle.commands.proofs.ServingLemmas.{serves_kept}
 use Rattle.commands.proofs.runs.work_under.Goals as goal
 
@@ -14,3 +14,14 @@ returns-in-Disk-clause-serves g c =
     (g.S.Source.left c.args.input.now) (g.S.Source.left c.work_on-end.new.input)
     (g.K.Sink.written c.args.output.now) (g.K.Sink.written c.work_on-end.new.output)
     c.in-Disk.ensures.opened c.keep.ensures.kept c.in-Disk.ensures.fresh c.in-Disk.ensures.counted c.keep.ensures.counted c.work_on-end.ensures.serves
+
+pub returns-in-Disk-clause-counted : goal.returns-in-Disk-clause-counted
+returns-in-Disk-clause-counted g c =
+    counts_kept g.C.Disk.Disk c.args.name.now _ _ _ _ c.in-Disk.disk c.work_on-end.result.1 _ _ _
+    c.in-Disk.ensures.opened c.keep.ensures.kept c.in-Disk.ensures.cause c.keep.ensures.counted
+
+pub returns-in-Absent-clause-counted : goal.returns-in-Absent-clause-counted
+returns-in-Absent-clause-counted g c = counts_absent g.C.Disk.Disk c.args.name.now _ _ _ _ _ c.in-Absent.ensures.opened
+
+pub returns-in-Failed-clause-counted : goal.returns-in-Failed-clause-counted
+returns-in-Failed-clause-counted g c = counts_failed g.C.Disk.Disk c.args.name.now _ _ _ _ _ c.in-Failed.ensures.opened

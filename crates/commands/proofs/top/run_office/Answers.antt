@@ -3,9 +3,10 @@ use Rattle.command_words.proofs.WordLemmas.{one_is_asked}
 use Rattle.command_words.specs.Commands.{asked_by}
 use Rattle.command_words.specs.Words.{Init, Batch, Stations, Trial}
 use Rattle.commands.proofs.MakingLemmas.{makes_nothing}
+use Rattle.commands.proofs.PlaceLemmas.{counted_under, counts_nothing}
 use Rattle.commands.proofs.ServingLemmas.{serves_nothing}
 use Rattle.commands.proofs.TopLemmas.{completes, completes_init, completes_loading, completes_trial, unserved, unwritten_loading}
-use Rattle.commands.specs.Statuses.{line_of, status_of}
+use Rattle.commands.specs.Statuses.{ending_of, line_of, status_of}
 use Rattle.commands.specs.Top.{IsReported}
 use Rattle.commands.specs.declared.runs.RunEnd.{RunEnd}
 use Rattle.commands.specs.declared.runs.RunEnd.TheVariants as ends
@@ -22,6 +23,9 @@ returns-in-Ok-clause-init g c = λ name is.
       line_is = c.finish.ensures.line;
       ends = c.run_command-end.ensures.ends name same;
       makes = c.run_command-end.ensures.makes name same;
+      counted = counted_under g.C.Disk.Disk (asked_by c.in-Ok.command) (Init name) name (g.C.Cabinet.places c.args.cabinet.now)
+          (g.C.Cabinet.places c.run_command-end.new.cabinet) (g.C.Cabinet.faults c.args.cabinet.now) (g.C.Cabinet.faults c.run_command-end.new.cabinet)
+          same refl c.run_command-end.ensures.counted;
     }
 
 pub returns-in-Ok-clause-batch : goal.returns-in-Ok-clause-batch
@@ -32,6 +36,9 @@ returns-in-Ok-clause-batch g c = λ name is.
       status_is = c.finish.ensures.status;
       line_is = c.finish.ensures.line;
       serves = c.run_command-end.ensures.serves name same;
+      counted = counted_under g.C.Disk.Disk (asked_by c.in-Ok.command) (Batch name) name (g.C.Cabinet.places c.args.cabinet.now)
+          (g.C.Cabinet.places c.run_command-end.new.cabinet) (g.C.Cabinet.faults c.args.cabinet.now) (g.C.Cabinet.faults c.run_command-end.new.cabinet)
+          same refl c.run_command-end.ensures.counted;
     }
 
 pub returns-in-Ok-clause-stations : goal.returns-in-Ok-clause-stations
@@ -42,6 +49,9 @@ returns-in-Ok-clause-stations g c = λ name is.
       status_is = c.finish.ensures.status;
       line_is = c.finish.ensures.line;
       serves = c.run_command-end.ensures.loads name same;
+      counted = counted_under g.C.Disk.Disk (asked_by c.in-Ok.command) (Stations name) name (g.C.Cabinet.places c.args.cabinet.now)
+          (g.C.Cabinet.places c.run_command-end.new.cabinet) (g.C.Cabinet.faults c.args.cabinet.now) (g.C.Cabinet.faults c.run_command-end.new.cabinet)
+          same refl c.run_command-end.ensures.counted;
     }
 
 pub returns-in-Ok-clause-unserved_batch : goal.returns-in-Ok-clause-unserved_batch
@@ -107,10 +117,10 @@ returns-in-Ok-clause-trial g c = λ number is.
     let tried = c.run_command-end.ensures.tries number same in
     record {
       end = tried.0;
-      status_is = c.finish.ensures.status ∙ ap status_of tried.1;
+      status_is = c.finish.ensures.status ∙ ap (λ (end : RunEnd). status_of (ending_of end)) tried.1;
       line_is =
           subst
-          (λ (end : RunEnd). IsReported (line_of end) (g.E.Sink.written c.args.faults.now) (g.E.Sink.written c.finish.new.faults)
+          (λ (end : RunEnd). IsReported (line_of (ending_of end)) (g.E.Sink.written c.args.faults.now) (g.E.Sink.written c.finish.new.faults)
           (g.E.Sink.faults c.args.faults.now) (g.E.Sink.faults c.finish.new.faults))
           tried.1 c.finish.ensures.line;
       tried = tried.2;
@@ -134,6 +144,7 @@ returns-in-Err-NoMemory-clause-init g c = λ name is. record {
   line_is = c.finish-in-Err-NoMemory.ensures.line;
   ends = tt;
   makes = makes_nothing g.C.Disk.Disk name (g.C.Cabinet.places c.args.cabinet.now);
+  counted = counts_nothing g.C.Disk.Disk name (g.C.Cabinet.places c.args.cabinet.now) _ _;
 }
 
 pub returns-in-Err-NoMemory-clause-batch : goal.returns-in-Err-NoMemory-clause-batch
@@ -145,6 +156,7 @@ returns-in-Err-NoMemory-clause-batch g c = λ name is.
       line_is = c.finish-in-Err-NoMemory.ensures.line;
       serves = serves_nothing g.C.Disk.Disk Session name (g.C.Cabinet.places c.args.cabinet.now) (g.C.Cabinet.faults c.args.cabinet.now)
           (g.S.Source.left c.args.input.now) (g.K.Sink.written c.args.output.now) only;
+      counted = counts_nothing g.C.Disk.Disk name (g.C.Cabinet.places c.args.cabinet.now) _ _;
     }
 
 pub returns-in-Err-NoMemory-clause-stations : goal.returns-in-Err-NoMemory-clause-stations
@@ -156,6 +168,7 @@ returns-in-Err-NoMemory-clause-stations g c = λ name is.
       line_is = c.finish-in-Err-NoMemory.ensures.line;
       serves = serves_nothing g.C.Disk.Disk Loading name (g.C.Cabinet.places c.args.cabinet.now) (g.C.Cabinet.faults c.args.cabinet.now)
           (g.S.Source.left c.args.input.now) (g.K.Sink.written c.args.output.now) only;
+      counted = counts_nothing g.C.Disk.Disk name (g.C.Cabinet.places c.args.cabinet.now) _ _;
     }
 
 pub returns-in-Err-NoMemory-clause-trial : goal.returns-in-Err-NoMemory-clause-trial

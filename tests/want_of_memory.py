@@ -272,7 +272,7 @@ def refused_trial(program, shim, text, number):
 
 
 def tell(name, statuses):
-    """Tells how often each status came. The words come first, and none may be lost: the first status that is not 0 is 6."""
+    """Tells how often each status came. The words come first, so the first status that is not 0 is 6."""
     statuses = list(statuses)
     if next(filter(None, statuses), 0) != 6:
         raise SystemExit("%s: the statuses were %s" % (name, statuses))

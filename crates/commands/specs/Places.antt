@@ -1,10 +1,12 @@
 -- The place of a journal in a cabinet, before a run and after it.
-use Rattle.std.specs.Prelude.{◌≡◌, ◌⊎◌, ℕ, List, [], Option, Some, None, IfSome, ⊤}
+use Rattle.std.specs.Prelude.{◌≡◌, ◌⊎◌, ℕ, List, [], Option, Some, None, IfSome, IsSomeAnd, ⊤}
 use Rattle.command_words.specs.Words.{Asked, Init, Batch, Stations, Trial}
 use Rattle.devices.specs.declared.disks.Disk.{Ghosts}
 use Rattle.devices.specs.Cabinets.{Place, Free, Kept, Out, IsCounted}
 use Rattle.devices.specs.Disks.{IsUnchanged, NothingNew}
 use Rattle.journal.specs.Moments.{LeavesOnly}
+use Rattle.commands.specs.declared.runs.RunEnd.{RunEnd}
+use Rattle.commands.specs.declared.runs.RunEnd.TheVariants.{DiskFault}
 
 -- a disk is under the name that has P
 abbrev pub HasKept : {D : Type 0} → (D → Type 0) → Place D → Type 0
@@ -29,12 +31,13 @@ images_found g Free image = image ≡ []
 images_found g (Kept disk) image = g.may_leave disk image
 images_found g Out image = image ≡ []
 
--- Under the name is what was there; or a disk that was given back, for which the cabinet counts one fault more exactly where the disk has
--- any.
-abbrev pub IsCountedUnder : {D : Type 0} → Ghosts D → List ℕ → Option (List ℕ → Place D) → Option (List ℕ → Place D) → ℕ → ℕ → Type 0
-IsCountedUnder g name places_before places_after before now =
-    IfSome places_before (λ b. IfSome places_after (λ a.
-    (a name ≡ b name) ⊎ HasKept (λ disk. IsCounted (g.faults disk) before now) (a name)))
+-- A disk was given back under the name, and the cabinet counts one fault more exactly where the disk has any; or what was there is there,
+-- and the cabinet counts no fault more unless it failed.
+abbrev pub IsCountedUnder : {D : Type 0} → Ghosts D → RunEnd → List ℕ → Option (List ℕ → Place D) → Option (List ℕ → Place D) → ℕ → ℕ → Type 0
+IsCountedUnder g end name places_before places_after before now =
+    IfSome places_before (λ b. IsSomeAnd places_after (λ a.
+    HasKept (λ disk. IsCounted (g.faults disk) before now) (a name)
+    ⊎ ((a name ≡ b name) × ((now ≡ before) ⊎ (end ≡ DiskFault)))))
 
 -- the name of the journal that is asked for, if one is
 abbrev pub journal_of : Asked → Option (List ℕ)

@@ -37,7 +37,7 @@ pub record RunsInit {D : Type 0} (g : Ghosts D) (name : List ℕ) (status : ℕ)
   pub line_is : IsReported (line_of (ending_of end)) told_before told_after faults_before faults_now
   pub ends : IsMakingEnd end before now
   pub makes : Makes g end name places_before places_after
-  pub counted : IsCountedUnder g name places_before places_after before now
+  pub counted : IsCountedUnder g end name places_before places_after before now
 
 -- A run over a journal, as that of `batch` or of `stations`: how it ended, its status, its line, what was read and written, what is
 -- under the name then and how the cabinet counts it, and what a stop at any moment of the run left there.
@@ -50,7 +50,7 @@ pub record RunsOver {D : Type 0} (g : Ghosts D) (work : Work)
   pub line_is : IsReported (line_of (ending_of end)) told_before told_after faults_before faults_now
   pub serves : ServesUnder g work name end places_before places_after before now
       left_before left_after written_before written_after
-  pub counted : IsCountedUnder g name places_before places_after before now
+  pub counted : IsCountedUnder g end name places_before places_after before now
 
 -- A run of `trial`: how it ended, its status, its line, and what was written.
 pub record RunsTrial (number : ℕ) (status : ℕ) (written_before written_after : Option (List ℕ))

@@ -1,6 +1,6 @@
 //! The status and the line with which the program ends.
 
-ghost use Rattle.std.specs.Prelude.{◌≡◌, ◌≤◌, ◌++◌, ◌∷◌, [], true, false, decimal};
+ghost use Rattle.std.specs.Prelude.{◌≡◌, ◌≤◌, ◌++◌, ◌∷◌, [], false, decimal};
 ghost use Rattle.commands.specs.Statuses.{line_of, status_of};
 ghost use Rattle.commands.specs.Top.{IsReported};
 ghost use Rattle.devices.specs.Faults.{Rose};

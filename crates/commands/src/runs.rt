@@ -59,7 +59,7 @@ pub enum RunEnd {
 pub(crate) fn make_journal<C: Cabinet>(cabinet: &mut C, name: &str) -> RunEnd
     ensures makes { Makes C.Disk.Disk result name.now (C.places cabinet.old) (C.places cabinet.new) }
     ensures ends { IsMakingEnd result (C.faults cabinet.old) (C.faults cabinet.new) }
-    ensures counted { IsCountedUnder C.Disk.Disk name.now (C.places cabinet.old) (C.places cabinet.new) (C.faults cabinet.old) (C.faults cabinet.new) }
+    ensures counted { IsCountedUnder C.Disk.Disk result name.now (C.places cabinet.old) (C.places cabinet.new) (C.faults cabinet.old) (C.faults cabinet.new) }
 {
     match cabinet.open(name, true) {
         Opened::Disk(disk) => {
@@ -110,7 +110,7 @@ pub(crate) fn work_under<C: Cabinet, S: Source, K: Sink>(
     ensures cause { RunCause result (S.faults input.old) (S.faults input.new) (K.faults output.old) (K.faults output.new) }
     ensures unserved { IsEarly result → (input.new ≡ input.old) × (output.new ≡ output.old) }
     ensures unwritten { IsUnwritten result → output.new ≡ output.old }
-    ensures counted { IsCountedUnder C.Disk.Disk name.now (C.places cabinet.old) (C.places cabinet.new) (C.faults cabinet.old) (C.faults cabinet.new) }
+    ensures counted { IsCountedUnder C.Disk.Disk result name.now (C.places cabinet.old) (C.places cabinet.new) (C.faults cabinet.old) (C.faults cabinet.new) }
 {
     match cabinet.open(name, false) {
         Opened::Disk(disk) => {

@@ -29,9 +29,10 @@ use std::alloc::Global;
 /// the input or the output failed; 4 where the disk failed while the journal was made or opened; 5 where there is no
 /// journal, or a damaged one; 6 where there was no memory to begin, or for the trial; 8 where `init` finds a journal; 9 at what is no well
 /// framed request, or where the whole input is no document of stations; 10 where 2^36 bytes of the input of `batch` were taken and more was
-/// needed. A line on `faults` names every status but 0; a sink of faults that fails changes nothing. A disk that fails at an edit ends nothing: the reply or line says so, and the run goes on.
+/// needed. A line on `faults` names every status but 0; a sink of faults that fails changes nothing. A disk that fails at an edit ends
+/// nothing: the reply or line says so, and the run goes on.
 ///
-/// Each disk that the cabinet gave is under its name again, so its faults show in the cabinet's count.
+/// Each disk that the cabinet gave is under its name again, and one that had faults is one fault more in the cabinet's count.
 pub fn run_office<R, S: Source, K: Sink, E: Sink, C: Cabinet>(
     _rt: &R,
     alloc: Global,
@@ -137,7 +138,7 @@ fn run_command<S: Source, K: Sink, C: Cabinet>(
     ensures disk_cause { result ≡ RunEnd.DiskFault → Rose (C.faults cabinet.old) (C.faults cabinet.new) }
     ensures unserved { IsEarly result → (input.new ≡ input.old) × (output.new ≡ output.old) }
     ensures unwritten { IsUnwritten result → output.new ≡ output.old }
-    ensures counted { IfSome (journal_of (asked_by command.entry)) (λ name. IsCountedUnder C.Disk.Disk name
+    ensures counted { IfSome (journal_of (asked_by command.entry)) (λ name. IsCountedUnder C.Disk.Disk result name
         (C.places cabinet.old) (C.places cabinet.new) (C.faults cabinet.old) (C.faults cabinet.new)) }
 {
     match command {

@@ -1,7 +1,7 @@
 //! Documents of stations: what each station's line tells, what stands in the journal then, and which ends a run has.
 
 use crate::dues::INPUT_FAULT;
-use crate::station_tables::{AGAIN, BY, ONE_RECORD, ONE_TABLE, POTOMAC, TWO_TABLES};
+use crate::station_tables::{AGAIN, BY, ONE_RECORD, ONE_TABLE, POTOMAC, TWO_RECORDS, TWO_TABLES};
 use crate::ways::{BYTE_BY_BYTE, CUT_INPUT, NO_INPUT};
 use std::test::Fail;
 use whole_runs::{
@@ -30,8 +30,7 @@ const NO_ZONE: &[u8] = b"[[station]]\n\
     discharge_array = \"0222233332\"\n";
 
 /// The document of the first station by another name, under the same reference.
-const RENAMED: &[u8] = b"by = \"AB\"\n\
-    [[station]]\n\
+const RENAMED: &[u8] = b"[[station]]\n\
     site = \"01646500\"\n\
     ref = \"st-1\"\n\
     name = \"OTHER\"\n\
@@ -89,7 +88,7 @@ const DOCUMENTS: [Run; 14] = [
         &[BY, POTOMAC, AGAIN],
         &REFUSED,
     ),
-    (STATIONS, ONE_RECORD, &WHOLE, &[RENAMED], &REF_REUSED),
+    (STATIONS, ONE_RECORD, &WHOLE, &[BY, RENAMED], &REF_REUSED),
     (
         STATIONS,
         NO_RECORDS,
@@ -148,12 +147,9 @@ const TURNS: [Turn; 3] = [
     (STATIONS, TWO_TABLES, &TWO),
 ];
 
-const BOTH_KEPT: &[u8] =
-    b"STREAMOFFICE-J1\n\x01\x39\0\0\0\x01\x02AB\x04st-1\x08\xa4\x1f\x19\0\0\0\0\0\x07POTOMAC\x06-05:00\xd0\x02\0\099999999920222233332\x01\x4e\0\0\0\x01\x02AB\x04st-3\x09\x07\0\0\0\0\0\0\0\x0cLITTLE CREEK\x16EST5EDT,M3.2.0,M11.1.0\x3c\0\0\099999999920222233332\0";
-
 #[test]
 fn the_same_document_tells_the_same(rt: HostRuntime) -> Result<(), Fail> {
-    pass_in_turn(rt.alloc(), &[], &TURNS, Some(BOTH_KEPT))
+    pass_in_turn(rt.alloc(), &[], &TURNS, Some(TWO_RECORDS))
 }
 
 /// A document of as many bytes as there may be, and of one more.

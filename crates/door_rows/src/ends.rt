@@ -68,7 +68,7 @@ const MAKING: [Turn; 4] = [
 
 #[test]
 fn a_journal_is_made_and_served(rt: HostRuntime) -> Result<(), Fail> {
-    pass_in_turn(rt.alloc(), &[], &MAKING, Some(b"STREAMOFFICE-J1\n\0"))
+    pass_in_turn(rt.alloc(), &[], &MAKING, Some(NO_RECORDS))
 }
 
 /// A cabinet that gives no disk.

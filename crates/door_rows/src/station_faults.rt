@@ -2,8 +2,8 @@
 
 use crate::dues::DISK_FAULT;
 use crate::station_tables::{
-    AGAIN, AGAIN_RECORD, BY, FAR, FAR_RECORD, LITTLE, LITTLE_RECORD, ONE_RECORD, ONE_TABLE, OPEN,
-    POTOMAC, POTOMAC_RECORD, TWO_RECORDS, TWO_TABLES,
+    AGAIN, AGAIN_PAYLOAD, BY, FAR, FAR_PAYLOAD, LITTLE, LITTLE_PAYLOAD, ONE_RECORD, ONE_TABLE,
+    OPEN, POTOMAC, POTOMAC_PAYLOAD, TWO_RECORDS, TWO_TABLES,
 };
 use crate::ways::{BYTE_BY_BYTE, FIRST_FAILS, FOURTH_FAILS, SECOND_FAILS, THIRD_FAILS};
 use std::test::Fail;
@@ -63,7 +63,7 @@ const SECOND_GATE_SYNC_FAILS: Ways = Ways {
 /// was begun, and is longer.
 const SECOND_ALONE: Due = Due {
     written: &[b"refused JournalFault 01646500\n", b"edit 1 000000007\n"],
-    left: Some(&[HEADER, OPEN, LITTLE_RECORD, CLOSED]),
+    left: Some(&[HEADER, OPEN, LITTLE_PAYLOAD, CLOSED]),
     ..SILENT
 };
 
@@ -74,7 +74,7 @@ const SHORTER_ALONE: Due = Due {
     left: Some(&[
         HEADER,
         OPEN,
-        AGAIN_RECORD,
+        AGAIN_PAYLOAD,
         CLOSED,
         b"99999999920222233332\0",
     ]),
@@ -88,7 +88,7 @@ const THIRD_ALONE: Due = Due {
         b"refused JournalFault 000000007\n",
         b"edit 1 01646501\n",
     ],
-    left: Some(&[HEADER, OPEN, FAR_RECORD, CLOSED]),
+    left: Some(&[HEADER, OPEN, FAR_PAYLOAD, CLOSED]),
     ..SILENT
 };
 
@@ -143,7 +143,7 @@ const CUT_RECORD: Due = Due {
 };
 
 /// The record is there behind a closed gate.
-const SHUT: Parts = &[HEADER, CLOSED, POTOMAC_RECORD, CLOSED];
+const SHUT: Parts = &[HEADER, CLOSED, POTOMAC_PAYLOAD, CLOSED];
 
 const SHUT_RECORD: Due = Due {
     left: Some(SHUT),
@@ -162,7 +162,7 @@ const SECOND_CUT: Due = Due {
     left: Some(&[
         HEADER,
         OPEN,
-        POTOMAC_RECORD,
+        POTOMAC_PAYLOAD,
         CLOSED,
         b"\x4e\0\0\0\x01\x02AB\x04st-3\x09\x07\0\0\0\0\0\0\0\x0cLITTLE CREEK\x16EST5E",
     ]),
@@ -170,7 +170,14 @@ const SECOND_CUT: Due = Due {
 };
 
 /// The second record is there behind a closed gate.
-const SECOND_SHUT_RECORDS: Parts = &[HEADER, OPEN, POTOMAC_RECORD, CLOSED, LITTLE_RECORD, CLOSED];
+const SECOND_SHUT_RECORDS: Parts = &[
+    HEADER,
+    OPEN,
+    POTOMAC_PAYLOAD,
+    CLOSED,
+    LITTLE_PAYLOAD,
+    CLOSED,
+];
 
 const SECOND_SHUT: Due = Due {
     left: Some(SECOND_SHUT_RECORDS),
@@ -218,7 +225,7 @@ const LAST_FAULTS: [Run; 7] = [
 ];
 
 #[test]
-fn the_last_station_stays_in_doubt(rt: HostRuntime) -> Result<(), Fail> {
+fn a_fault_at_the_last_station_stays(rt: HostRuntime) -> Result<(), Fail> {
     pass_runs(rt.alloc(), &LAST_FAULTS)
 }
 
@@ -230,7 +237,7 @@ const BOTH_ADDED: Due = Due {
     ..SILENT
 };
 
-const NEXT_RUNS: [Run; 4] = [
+const NEXT_RUNS: [Run; 3] = [
     (STATIONS, SHUT, &WHOLE, TWO_TABLES, &BOTH_ADDED),
     (STATIONS, ONE_RECORD, &WHOLE, TWO_TABLES, &BOTH_ADDED),
     (
@@ -240,7 +247,6 @@ const NEXT_RUNS: [Run; 4] = [
         TWO_TABLES,
         &BOTH_ADDED,
     ),
-    (STATIONS, TWO_RECORDS, &WHOLE, TWO_TABLES, &BOTH_ADDED),
 ];
 
 #[test]
@@ -258,11 +264,11 @@ const ALL_ADDED: Due = Due {
     left: Some(&[
         HEADER,
         OPEN,
-        POTOMAC_RECORD,
+        POTOMAC_PAYLOAD,
         OPEN,
-        LITTLE_RECORD,
+        LITTLE_PAYLOAD,
         OPEN,
-        FAR_RECORD,
+        FAR_PAYLOAD,
         CLOSED,
     ]),
     ..SILENT
@@ -328,7 +334,7 @@ const NO_DISK: [Turn; 2] = [(INIT, &[], &MADE), (STATIONS, TWO_TABLES, &DISK_FAU
 
 #[test]
 fn a_cabinet_fails_before_a_document_is_read(rt: HostRuntime) -> Result<(), Fail> {
-    pass_in_turn(rt.alloc(), &[2], &NO_DISK, Some(b"STREAMOFFICE-J1\n\0"))
+    pass_in_turn(rt.alloc(), &[2], &NO_DISK, Some(NO_RECORDS))
 }
 
 const DAMAGED_AT_16: Due = Due {
@@ -363,21 +369,21 @@ const DAMAGES: [Run; 6] = [
     ),
     (
         STATIONS,
-        &[HEADER, OPEN, POTOMAC_RECORD],
+        &[HEADER, OPEN, POTOMAC_PAYLOAD],
         &WHOLE,
         TWO_TABLES,
         &DAMAGED_AT_78,
     ),
     (
         STATIONS,
-        &[HEADER, OPEN, POTOMAC_RECORD, OPEN, POTOMAC_RECORD, CLOSED],
+        &[HEADER, OPEN, POTOMAC_PAYLOAD, OPEN, POTOMAC_PAYLOAD, CLOSED],
         &WHOLE,
         &[b"\xff"],
         &DAMAGED_AT_78,
     ),
     (
         STATIONS,
-        &[HEADER, OPEN, POTOMAC_RECORD, OPEN, AGAIN_RECORD, CLOSED],
+        &[HEADER, OPEN, POTOMAC_PAYLOAD, OPEN, AGAIN_PAYLOAD, CLOSED],
         &WHOLE,
         TWO_TABLES,
         &DAMAGED_AT_78,

@@ -31,7 +31,7 @@ pub fn same<T: PartialEq + Debug>(row: usize, what: &str, came: &T, due: &T) -> 
     }
 }
 
-/// A row of which calls of the disk fail tells what the disk has then: it is seldom what it had.
+/// A row in which calls of the disk fail must tell what the disk has then, which is seldom what it had.
 pub fn expect_told(row: usize, failing: &[u64], is_told: bool) -> Result<(), Fail> {
     if failing.is_empty() || is_told {
         Ok(())

@@ -248,16 +248,32 @@ pub fn pass_long_runs(alloc: Global, runs: &[LongRun]) -> Result<(), Fail> {
     Ok(())
 }
 
-/// The runs come out as is due, one behind another over one cabinet of which these calls fail; and what stands under `J` then.
+/// The runs come out as is due, one behind another over one cabinet of which these calls fail, each a fault; and so does what stands
+/// under `J` then.
 pub fn pass_in_turn(
     alloc: Global,
     failing: &[u64],
     turns: &[Turn],
-    due: Option<&[u8]>,
+    due: Option<Parts>,
 ) -> Result<(), Fail> {
     let mut cabinet = MemoryCabinet::new(alloc, failing.to_vec(alloc)?);
     take_turns(alloc, &mut cabinet, turns)?;
-    same(turns.len(), "left", &left(&cabinet), &due)
+    let row = turns.len();
+    match due {
+        Some(parts) => {
+            let bytes = joined(alloc, parts)?;
+            expect_left(row, &cabinet, &bytes, failing.len() as u64)
+        }
+        None => {
+            same(
+                row,
+                "faults",
+                &cabinet.fault_count(),
+                &(failing.len() as u64),
+            )?;
+            same(row, "left", &left(&cabinet), &None)
+        }
+    }
 }
 
 fn take_turns(alloc: Global, cabinet: &mut MemoryCabinet, turns: &[Turn]) -> Result<(), Fail> {

@@ -19,7 +19,7 @@ pub struct Session {
     pub before: &'static [Exchange],
     /// What is asked and replied.
     pub streams: &'static [&'static [Exchange]],
-    /// What the disk has then, where that is told, as it is wherever a call of the disk fails.
+    /// What the disk has then, where that is told; it is told wherever a call of the disk fails.
     pub left: Option<Parts>,
     /// How many calls the disk has had behind the first opening, where that is told.
     pub calls: Option<u64>,

@@ -1,5 +1,7 @@
+use Rattle.std.proofs.Common.{inl}
 use Rattle.commands.proofs.PlaceLemmas.{counts_absent, counts_failed, counts_kept, taken_out}
 use Rattle.commands.proofs.ServingLemmas.{serves_kept}
+use Rattle.commands.specs.declared.runs.RunEnd.TheVariants.{NotAJournal}
 use Rattle.commands.proofs.runs.work_under.Goals as goal
 
 pub keep-requires : goal.keep-requires
@@ -17,11 +19,11 @@ returns-in-Disk-clause-serves g c =
 
 pub returns-in-Disk-clause-counted : goal.returns-in-Disk-clause-counted
 returns-in-Disk-clause-counted g c =
-    counts_kept g.C.Disk.Disk c.args.name.now _ _ _ _ c.in-Disk.disk c.work_on-end.result.1 _ _ _
+    counts_kept g.C.Disk.Disk c.work_on-end.result.0 c.args.name.now _ _ _ _ c.in-Disk.disk c.work_on-end.result.1 _ _ _
     c.in-Disk.ensures.opened c.keep.ensures.kept c.in-Disk.ensures.cause c.keep.ensures.counted
 
 pub returns-in-Absent-clause-counted : goal.returns-in-Absent-clause-counted
-returns-in-Absent-clause-counted g c = counts_absent g.C.Disk.Disk c.args.name.now _ _ _ _ _ c.in-Absent.ensures.opened
+returns-in-Absent-clause-counted g c = counts_absent g.C.Disk.Disk NotAJournal c.args.name.now _ _ _ _ _ c.in-Absent.ensures.opened (inl c.in-Absent.ensures.cause)
 
 pub returns-in-Failed-clause-counted : goal.returns-in-Failed-clause-counted
 returns-in-Failed-clause-counted g c = counts_failed g.C.Disk.Disk c.args.name.now _ _ _ _ _ c.in-Failed.ensures.opened

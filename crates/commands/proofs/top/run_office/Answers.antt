@@ -23,7 +23,7 @@ returns-in-Ok-clause-init g c = λ name is.
       line_is = c.finish.ensures.line;
       ends = c.run_command-end.ensures.ends name same;
       makes = c.run_command-end.ensures.makes name same;
-      counted = counted_under g.C.Disk.Disk (asked_by c.in-Ok.command) (Init name) name (g.C.Cabinet.places c.args.cabinet.now)
+      counted = counted_under g.C.Disk.Disk c.run_command-end.result (asked_by c.in-Ok.command) (Init name) name (g.C.Cabinet.places c.args.cabinet.now)
           (g.C.Cabinet.places c.run_command-end.new.cabinet) (g.C.Cabinet.faults c.args.cabinet.now) (g.C.Cabinet.faults c.run_command-end.new.cabinet)
           same refl c.run_command-end.ensures.counted;
     }
@@ -36,7 +36,7 @@ returns-in-Ok-clause-batch g c = λ name is.
       status_is = c.finish.ensures.status;
       line_is = c.finish.ensures.line;
       serves = c.run_command-end.ensures.serves name same;
-      counted = counted_under g.C.Disk.Disk (asked_by c.in-Ok.command) (Batch name) name (g.C.Cabinet.places c.args.cabinet.now)
+      counted = counted_under g.C.Disk.Disk c.run_command-end.result (asked_by c.in-Ok.command) (Batch name) name (g.C.Cabinet.places c.args.cabinet.now)
           (g.C.Cabinet.places c.run_command-end.new.cabinet) (g.C.Cabinet.faults c.args.cabinet.now) (g.C.Cabinet.faults c.run_command-end.new.cabinet)
           same refl c.run_command-end.ensures.counted;
     }
@@ -49,7 +49,7 @@ returns-in-Ok-clause-stations g c = λ name is.
       status_is = c.finish.ensures.status;
       line_is = c.finish.ensures.line;
       serves = c.run_command-end.ensures.loads name same;
-      counted = counted_under g.C.Disk.Disk (asked_by c.in-Ok.command) (Stations name) name (g.C.Cabinet.places c.args.cabinet.now)
+      counted = counted_under g.C.Disk.Disk c.run_command-end.result (asked_by c.in-Ok.command) (Stations name) name (g.C.Cabinet.places c.args.cabinet.now)
           (g.C.Cabinet.places c.run_command-end.new.cabinet) (g.C.Cabinet.faults c.args.cabinet.now) (g.C.Cabinet.faults c.run_command-end.new.cabinet)
           same refl c.run_command-end.ensures.counted;
     }
@@ -144,7 +144,7 @@ returns-in-Err-NoMemory-clause-init g c = λ name is. record {
   line_is = c.finish-in-Err-NoMemory.ensures.line;
   ends = tt;
   makes = makes_nothing g.C.Disk.Disk name (g.C.Cabinet.places c.args.cabinet.now);
-  counted = counts_nothing g.C.Disk.Disk name (g.C.Cabinet.places c.args.cabinet.now) _ _;
+  counted = counts_nothing g.C.Disk.Disk ends.NoMemory name (g.C.Cabinet.places c.args.cabinet.now) _;
 }
 
 pub returns-in-Err-NoMemory-clause-batch : goal.returns-in-Err-NoMemory-clause-batch
@@ -156,7 +156,7 @@ returns-in-Err-NoMemory-clause-batch g c = λ name is.
       line_is = c.finish-in-Err-NoMemory.ensures.line;
       serves = serves_nothing g.C.Disk.Disk Session name (g.C.Cabinet.places c.args.cabinet.now) (g.C.Cabinet.faults c.args.cabinet.now)
           (g.S.Source.left c.args.input.now) (g.K.Sink.written c.args.output.now) only;
-      counted = counts_nothing g.C.Disk.Disk name (g.C.Cabinet.places c.args.cabinet.now) _ _;
+      counted = counts_nothing g.C.Disk.Disk ends.NoMemory name (g.C.Cabinet.places c.args.cabinet.now) _;
     }
 
 pub returns-in-Err-NoMemory-clause-stations : goal.returns-in-Err-NoMemory-clause-stations
@@ -168,7 +168,7 @@ returns-in-Err-NoMemory-clause-stations g c = λ name is.
       line_is = c.finish-in-Err-NoMemory.ensures.line;
       serves = serves_nothing g.C.Disk.Disk Loading name (g.C.Cabinet.places c.args.cabinet.now) (g.C.Cabinet.faults c.args.cabinet.now)
           (g.S.Source.left c.args.input.now) (g.K.Sink.written c.args.output.now) only;
-      counted = counts_nothing g.C.Disk.Disk name (g.C.Cabinet.places c.args.cabinet.now) _ _;
+      counted = counts_nothing g.C.Disk.Disk ends.NoMemory name (g.C.Cabinet.places c.args.cabinet.now) _;
     }
 
 pub returns-in-Err-NoMemory-clause-trial : goal.returns-in-Err-NoMemory-clause-trial

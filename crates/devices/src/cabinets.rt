@@ -18,7 +18,7 @@ pub enum Opened<D> {
 
 /// Disks under names.
 pub trait Cabinet {
-    type Disk: Disk;
+    type Disk: Disk + Send + 'static;
 
     /// What is under each name, where the cabinet tells it.
     ghost places: { Self → Option (List ℕ → Place Self.Disk) };

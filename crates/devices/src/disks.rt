@@ -15,7 +15,7 @@ pub struct DiskFailed;
 ///
 /// Each call's clauses speak of every moment since its start, by a clock of the disk's own: `left_since` is what a stop
 /// at some moment since then might have left, during a call or between two.
-pub trait Disk: Send {
+pub trait Disk {
     /// The bytes that a read gives, where the disk tells them; no clause can say what a real file has.
     ghost content: { Self → Option (List ℕ) };
 

@@ -17,7 +17,7 @@ returns-in-Station-clause-answered g c =
 
 pub returns-in-Station-clause-passed : goal.returns-in-Station-clause-passed
 returns-in-Station-clause-passed g c =
-    let only = (g.met.D.Disk g.world.𝓛 g.world.𝓜 g.world.𝓡 ((λ s x. x), (λ x. x), (λ x. x), λ x. x)).only_now in
+    let only = g.met.D.Disk.only_now in
     let h = c.args.office.now.register.history in
     passes_published g.D.Disk h h c.args.office.now.disk (only c.args.office.now.disk) c.an_office_stands_on_its_disk.ensures.images (publishes_none h)
 
@@ -29,7 +29,7 @@ returns-in-DayOf-clause-answered g c =
 
 pub returns-in-DayOf-clause-passed : goal.returns-in-DayOf-clause-passed
 returns-in-DayOf-clause-passed g c =
-    let only = (g.met.D.Disk g.world.𝓛 g.world.𝓜 g.world.𝓡 ((λ s x. x), (λ x. x), (λ x. x), λ x. x)).only_now in
+    let only = g.met.D.Disk.only_now in
     let h = c.args.office.now.register.history in
     passes_published g.D.Disk h h c.args.office.now.disk (only c.args.office.now.disk) c.an_office_stands_on_its_disk.ensures.images (publishes_none h)
 
@@ -41,7 +41,7 @@ returns-in-SheetOf-clause-answered g c =
 
 pub returns-in-SheetOf-clause-passed : goal.returns-in-SheetOf-clause-passed
 returns-in-SheetOf-clause-passed g c =
-    let only = (g.met.D.Disk g.world.𝓛 g.world.𝓜 g.world.𝓡 ((λ s x. x), (λ x. x), (λ x. x), λ x. x)).only_now in
+    let only = g.met.D.Disk.only_now in
     let h = c.args.office.now.register.history in
     passes_published g.D.Disk h h c.args.office.now.disk (only c.args.office.now.disk) c.an_office_stands_on_its_disk.ensures.images (publishes_none h)
 
@@ -53,7 +53,7 @@ returns-in-Daily-clause-answered g c =
 
 pub returns-in-Daily-clause-passed : goal.returns-in-Daily-clause-passed
 returns-in-Daily-clause-passed g c =
-    let only = (g.met.D.Disk g.world.𝓛 g.world.𝓜 g.world.𝓡 ((λ s x. x), (λ x. x), (λ x. x), λ x. x)).only_now in
+    let only = g.met.D.Disk.only_now in
     let h = c.args.office.now.register.history in
     passes_published g.D.Disk h h c.args.office.now.disk (only c.args.office.now.disk) c.an_office_stands_on_its_disk.ensures.images (publishes_none h)
 
@@ -65,7 +65,7 @@ returns-in-Measurement-clause-answered g c =
 
 pub returns-in-Measurement-clause-passed : goal.returns-in-Measurement-clause-passed
 returns-in-Measurement-clause-passed g c =
-    let only = (g.met.D.Disk g.world.𝓛 g.world.𝓜 g.world.𝓡 ((λ s x. x), (λ x. x), (λ x. x), λ x. x)).only_now in
+    let only = g.met.D.Disk.only_now in
     let h = c.args.office.now.register.history in
     passes_published g.D.Disk h h c.args.office.now.disk (only c.args.office.now.disk) c.an_office_stands_on_its_disk.ensures.images (publishes_none h)
 
@@ -77,7 +77,7 @@ returns-in-Turns-clause-answered g c =
 
 pub returns-in-Turns-clause-passed : goal.returns-in-Turns-clause-passed
 returns-in-Turns-clause-passed g c =
-    let only = (g.met.D.Disk g.world.𝓛 g.world.𝓜 g.world.𝓡 ((λ s x. x), (λ x. x), (λ x. x), λ x. x)).only_now in
+    let only = g.met.D.Disk.only_now in
     let h = c.args.office.now.register.history in
     let after = c.take_turns.new.office.register.history in
     let days = published_by_turns c.take_turns.result h after c.in-Turns.count c.take_turns.ensures.history c.take_turns.ensures.left in
@@ -92,7 +92,7 @@ returns-in-Settle-clause-answered g c =
 
 pub returns-in-Settle-clause-passed : goal.returns-in-Settle-clause-passed
 returns-in-Settle-clause-passed g c =
-    let only = (g.met.D.Disk g.world.𝓛 g.world.𝓜 g.world.𝓡 ((λ s x. x), (λ x. x), (λ x. x), λ x. x)).only_now in
+    let only = g.met.D.Disk.only_now in
     let h = c.args.office.now.register.history in
     let after = c.settle.new.office.register.history in
     let days = published_by_settlement c.settle.result h after c.settle.ensures.history c.settle.ensures.left in
@@ -107,6 +107,6 @@ returns-in-Counts-clause-answered g c =
 
 pub returns-in-Counts-clause-passed : goal.returns-in-Counts-clause-passed
 returns-in-Counts-clause-passed g c =
-    let only = (g.met.D.Disk g.world.𝓛 g.world.𝓜 g.world.𝓡 ((λ s x. x), (λ x. x), (λ x. x), λ x. x)).only_now in
+    let only = g.met.D.Disk.only_now in
     let h = c.args.office.now.register.history in
     passes_published g.D.Disk h h c.args.office.now.disk (only c.args.office.now.disk) c.an_office_stands_on_its_disk.ensures.images (publishes_none h)

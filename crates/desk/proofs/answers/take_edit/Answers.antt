@@ -10,7 +10,7 @@ use Rattle.http_api.specs.declared.replies.Reply.TheVariants as replies
 -- there was no memory for the reply, and the office was not asked
 pub returns-then-is_err-clause-passed : goal.returns-then-is_err-clause-passed
 returns-then-is_err-clause-passed g c =
-    let only = (g.met.D.Disk g.world.𝓛 g.world.𝓜 g.world.𝓡 ((λ s x. x), (λ x. x), (λ x. x), λ x. x)).only_now in
+    let only = g.met.D.Disk.only_now in
     let h = c.args.office.now.register.history in
     passes_published g.D.Disk h h c.args.office.now.disk (only c.args.office.now.disk) c.an_office_stands_on_its_disk.ensures.images (publishes_none h)
 

@@ -18,7 +18,7 @@ mends_not P pieces last journal (Err failed) is holds = holds
 -- the write or the sync failed
 pub returns-in_err-write_and_sync-clause-mended : goal.returns-in_err-write_and_sync-clause-mended
 returns-in_err-write_and_sync-clause-mended g c pieces last holds =
-    let laws = g.met.D.Disk g.world.𝓛 g.world.𝓜 g.world.𝓡 ((λ s x. x), (λ x. x), (λ x. x), λ x. x) in
+    let laws = g.met.D.Disk in
     let images = mend_images pieces last c.args.self.now.gate _ _ holds.gate_is holds.images c.write_and_sync.ensures.images in
     mends_not _ pieces last _ c.from_residual.result c.from_residual.ensures.1
     (record {
@@ -42,7 +42,7 @@ returns-clause-any_moment g c pieces last holds =
 
 pub returns-clause-mended : goal.returns-clause-mended
 returns-clause-mended g c pieces last holds =
-    let laws = g.met.D.Disk g.world.𝓛 g.world.𝓜 g.world.𝓡 ((λ s x. x), (λ x. x), (λ x. x), λ x. x) in
+    let laws = g.met.D.Disk in
     let written = c.in_ok-write_and_sync.ensures.written in
     let images = mend_done pieces last c.args.self.now.gate _ _ _ holds.gate_is holds.told holds.now written in (
       record {

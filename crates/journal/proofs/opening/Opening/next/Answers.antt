@@ -4,7 +4,7 @@ use Rattle.journal.proofs.opening.Opening.next.Goals as goal
 -- the end was reached before: nothing is done
 pub returns-then-self-clause-any_moment : goal.returns-then-self-clause-any_moment
 returns-then-self-clause-any_moment g c =
-    let laws = g.met.D.Disk g.world.𝓛 g.world.𝓜 g.world.𝓡 ((λ s x. x), (λ x. x), (λ x. x), λ x. x) in
+    let laws = g.met.D.Disk in
     started g.D.Disk c.args.self.now.ahead.disk (g.D.Disk.may_leave c.args.self.now.ahead.disk) (laws.only_now c.args.self.now.ahead.disk)
 
 -- what was read on leaves the disk

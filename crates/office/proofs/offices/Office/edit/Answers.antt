@@ -18,21 +18,21 @@ returns-in-Ok-Repeated-clause-any_moment g c =
     subst (λ (o : Officed g.row.D.Denot). IsSome (g.D.Disk.content o.disk) → LeavesOnly g.D.Disk o.disk o.disk (IsLeftBetween o.register.history o.register.history))
     c.self.view_is
     (leaves_unasked c.self.inside.register.history c.self.inside.doubt c.self.inside.journal c.self.invariant
-    (g.met.D.Disk g.world.𝓛 g.world.𝓜 g.world.𝓡 ((λ s x. x), (λ x. x), (λ x. x), λ x. x)).only_now c.self.inside.register.history refl)
+    g.met.D.Disk.only_now c.self.inside.register.history refl)
 
 pub returns-in-Ok-Refused-clause-any_moment : goal.returns-in-Ok-Refused-clause-any_moment
 returns-in-Ok-Refused-clause-any_moment g c =
     subst (λ (o : Officed g.row.D.Denot). IsSome (g.D.Disk.content o.disk) → LeavesOnly g.D.Disk o.disk o.disk (IsLeftBetween o.register.history o.register.history))
     c.self.view_is
     (leaves_unasked c.self.inside.register.history c.self.inside.doubt c.self.inside.journal c.self.invariant
-    (g.met.D.Disk g.world.𝓛 g.world.𝓜 g.world.𝓡 ((λ s x. x), (λ x. x), (λ x. x), λ x. x)).only_now c.self.inside.register.history refl)
+    g.met.D.Disk.only_now c.self.inside.register.history refl)
 
 pub returns-in-Err-clause-any_moment : goal.returns-in-Err-clause-any_moment
 returns-in-Err-clause-any_moment g c =
     subst (λ (o : Officed g.row.D.Denot). IsSome (g.D.Disk.content o.disk) → LeavesOnly g.D.Disk o.disk o.disk (IsLeftBetween o.register.history o.register.history))
     c.self.view_is
     (leaves_unasked c.self.inside.register.history c.self.inside.doubt c.self.inside.journal c.self.invariant
-    (g.met.D.Disk g.world.𝓛 g.world.𝓜 g.world.𝓡 ((λ s x. x), (λ x. x), (λ x. x), λ x. x)).only_now c.self.inside.register.history refl)
+    g.met.D.Disk.only_now c.self.inside.register.history refl)
 
 -- the steps of the search
 pub returns-in-Ok-Repeated-clause-steps : goal.returns-in-Ok-Repeated-clause-steps

@@ -18,14 +18,14 @@ returns-in_default-clause-any_moment g c =
     subst (λ (o : Officed g.row.D.Denot). IsSome (g.D.Disk.content o.disk) → LeavesOnly g.D.Disk o.disk o.disk (IsLeftBetween o.register.history o.register.history))
     c.self.view_is
     (leaves_unasked c.self.inside.register.history c.self.inside.doubt c.self.inside.journal c.self.invariant
-    (g.met.D.Disk g.world.𝓛 g.world.𝓜 g.world.𝓡 ((λ s x. x), (λ x. x), (λ x. x), λ x. x)).only_now c.self.inside.register.history refl)
+    g.met.D.Disk.only_now c.self.inside.register.history refl)
 
 pub returns-then-is_err-clause-any_moment : goal.returns-then-is_err-clause-any_moment
 returns-then-is_err-clause-any_moment g c =
     subst (λ (o : Officed g.row.D.Denot). IsSome (g.D.Disk.content o.disk) → LeavesOnly g.D.Disk o.disk c.self.inside.journal.disk (IsLeftBetween o.register.history c.prepare.new.self.history))
     c.self.view_is
     (leaves_unasked c.self.inside.register.history c.self.inside.doubt c.self.inside.journal c.self.invariant
-    (g.met.D.Disk g.world.𝓛 g.world.𝓜 g.world.𝓡 ((λ s x. x), (λ x. x), (λ x. x), λ x. x)).only_now c.prepare.new.self.history c.prepare.ensures.history)
+    g.met.D.Disk.only_now c.prepare.new.self.history c.prepare.ensures.history)
 
 pub returns-then-is_err-clause-calls : goal.returns-then-is_err-clause-calls
 returns-then-is_err-clause-calls g c =

@@ -17,5 +17,5 @@ pub returns-in-Err-clause-refused_any_moment : goal.returns-in-Err-clause-refuse
 returns-in-Err-clause-refused_any_moment g c =
     rw c.give_up.ensures
     (reads_behind g.D.Disk c.args.disk c.in_ok-opening.opening.ahead.disk c.read_all.new.opening.ahead.disk
-    (g.met.D.Disk g.world.𝓛 g.world.𝓜 g.world.𝓡 ((λ s x. x), (λ x. x), (λ x. x), λ x. x)).counts_now c.in_ok-opening.ensures.any_moment
+    g.met.D.Disk.counts_now c.in_ok-opening.ensures.any_moment
     c.in-Err.ensures.disk)

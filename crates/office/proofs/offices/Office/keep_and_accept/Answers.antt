@@ -17,7 +17,7 @@ use Rattle.records.specs.Sheets.{Record}
 use Rattle.office.proofs.offices.Office.keep_and_accept.Goals as goal
 
 pub keep-requires-clause-fits : goal.keep-requires-clause-fits
-keep-requires-clause-fits g c κs within =
+keep-requires-clause-fits g c =
     let made : c.args.piece ≡ record_of c.self.inside.register.history c.args.piece.edit =
     subst (λ (o : Officed g.row.D.Denot). c.args.piece ≡ record_of o.register.history c.args.piece.edit) (sym c.self.view_is) c.requires.made in
     does_fit c.self.inside.register.history c.self.inside.doubt c.self.inside.journal c.self.invariant c.args.piece.edit c.args.bytes.now

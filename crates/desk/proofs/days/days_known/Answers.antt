@@ -18,7 +18,7 @@ loop-number-init g c =
     (ap (map row_of) (c.reserve_exact.ensures.items ∙ c.new-days.ensures.items))
 
 pub known_on-requires-clause-day : goal.known_on-requires-clause-day
-known_on-requires-clause-day g c κs outlives =
+known_on-requires-clause-day g c =
     (on_the_way first_day c.args.to _ _ (omega (arith, ints)) c.loop-number.invariant.low c.get-number-end.ensures.range c.get-number-end.ensures.value c.loop-number-test.true).day
 
 pub loop-number-preserved : goal.loop-number-preserved

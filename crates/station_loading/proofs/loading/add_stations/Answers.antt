@@ -1,4 +1,4 @@
-use Rattle.std.proofs.Common.{◌++◌, ◌∷◌, [], arith}
+use Rattle.std.proofs.Common.{◌++◌, ◌∷◌, [], arith, rules, refl}
 use Rattle.desk.proofs.SessionLemmas.{wrote_reply}
 use Rattle.desk.proofs.StretchLemmas.{passes_more}
 use Rattle.station_loading.proofs.LineLemmas.{added_more}
@@ -49,3 +49,19 @@ loop-edit-preserved g c =
         output_counted = omega (arith, kept.output_counted, c.add_station.ensures.output_counted);
       },
     )
+
+pub loop-edit-init : goal.loop-edit-init
+loop-edit-init g c = (
+  tt,
+  tt,
+  record {
+    whole = search rules;
+    count = search rules;
+    lines = [];
+    added = refl;
+    wrote = search rules;
+    passed = c.stands_still.ensures;
+    disk_counted = omega arith;
+    output_counted = omega arith;
+  },
+)

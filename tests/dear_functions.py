@@ -13,57 +13,21 @@ dearest. The status is 1 where one is over 10 seconds, and 2 where the crate was
 leaves it: a second call there takes over the libraries that the first one built.
 """
 import argparse
-import os
 import pathlib
 import re
 import resource
 import shutil
-import subprocess
 import sys
 import tempfile
 import time
+
+import copies
 
 LISTED, MOST = 5.0, 10.0
 # What the checker calls the modules that it makes of a function or a type.
 KINDS = """Code Mir Lts Given View Tie Goals Answers Proof Key Layout Reads Kinds Met Named Statement Symbol TheLink TheLaws TheImpl TheInside
 TheReach TheSendSync Destruct++none Invariants decls""".split()
 MODULE = re.compile(r"Rattle-\w+[-.](?:proofs|specs)\.(.+)\.oantt")
-
-
-def link_or_copy(one, other):
-    try:
-        os.link(one, other)
-    except OSError:
-        shutil.copy2(one, other)
-
-
-def copied(top, to):
-    """Copies what checks read, and the libraries that are built. A library's files are replaced, never written into, so links will do."""
-    for name in ("crates.txt", "HANDLES"):
-        if (top / name).is_file():
-            shutil.copy2(top / name, to / name)
-    for crate in sorted((top / "crates").iterdir()):
-        for part in ("src", "specs", "proofs"):
-            if (crate / part).is_dir():
-                shutil.rmtree(to / "crates" / crate.name / part, ignore_errors=True)
-                shutil.copytree(crate / part, to / "crates" / crate.name / part)
-        built = to / "crates" / crate.name / "out" / "rlib"
-        if (crate / "out" / "rlib" / "stamp").is_file() and not built.exists():
-            built.parent.mkdir(exist_ok=True)
-            shutil.copytree(crate / "out" / "rlib", built, copy_function=link_or_copy)
-
-
-def libraries(top, crate):
-    """The crates of the repository that a crate names."""
-    named = {}
-    for line in (top / "crates.txt").read_text().splitlines():
-        words = re.split(r"[\s,]+", line.partition("#")[0].strip())
-        if words[0]:
-            of, _, rest = line.partition("#")[0].partition(":")
-            named[of.split()[0]] = re.split(r"[\s,]+", rest.strip())
-    if crate not in named:
-        sys.exit(f"{crate} is no crate of crates.txt")
-    return [it for it in named[crate] if it in named]
 
 
 def owner(module):
@@ -81,21 +45,20 @@ def owner(module):
     return ".".join(parts) or "the crate", True
 
 
-def ran(words, folder):
-    return subprocess.run(words, cwd=folder, stdout=subprocess.PIPE, stderr=subprocess.STDOUT, text=True, errors="replace")
-
-
 def processor_seconds():
     used = resource.getrusage(resource.RUSAGE_CHILDREN)
     return used.ru_utime + used.ru_stime
 
 
-def measure(top, crate, to):
+def measure(crate, to):
     """The seconds of each module, in the order of their checks, the processor seconds of the check, those of the base, and the rest."""
-    copied(top, to)
+    libraries = copies.libraries()
+    if crate not in libraries:
+        sys.exit(f"{crate} is no crate of crates.txt")
+    copies.copied(to)
     folder = to / "crates" / crate
-    for below in libraries(top, crate):
-        built = ran(["rt", "lib", "--jobs", "1"], to / "crates" / below)
+    for below in libraries[crate]:
+        built = copies.ran(["rt", "lib", "--jobs", "1"], to / "crates" / below)
         if built.returncode:
             print(built.stdout[-2000:])
             sys.exit(f"{below}, below {crate}, is not proved")
@@ -105,7 +68,7 @@ def measure(top, crate, to):
     shutil.rmtree(folder / "out" / "incremental", ignore_errors=True)
     (folder / "out" / "incremental").mkdir(parents=True)
     used, begun = processor_seconds(), time.time()
-    check = ran(["rt", "check", "--jobs", "1"], folder)
+    check = copies.ran(["rt", "check", "--jobs", "1"], folder)
     used, ended = processor_seconds() - used, time.time()
     if check.returncode or "begins with what a check kept" in check.stdout:
         print(check.stdout[-2000:])
@@ -113,9 +76,9 @@ def measure(top, crate, to):
         sys.exit(2)
     written = []
     for file in (folder / "out" / "incremental").rglob("*.oantt"):
-        named = MODULE.search(file.name.replace(".decls.oantt", ".oantt"))
-        if named:
-            written.append((file.stat().st_mtime, named[1]))
+        module = MODULE.search(file.name.replace(".decls.oantt", ".oantt"))
+        if module:
+            written.append((file.stat().st_mtime, module[1]))
     written.sort()
     scale = used / (ended - begun)
     gaps = [(module, (at - before) * scale) for (before, _), (at, module) in zip(written, written[1:])]
@@ -128,13 +91,12 @@ def main():
     words.add_argument("number", metavar="N", nargs="?", type=int, help="list the N dearest, in place of those over 5 seconds")
     words.add_argument("--keep", metavar="FOLDER", type=pathlib.Path, help="work in this folder, and leave it")
     given = words.parse_args()
-    top = pathlib.Path(__file__).resolve().parent.parent
     if given.keep:
         given.keep.mkdir(parents=True, exist_ok=True)
-        gaps, used, base, rest = measure(top, given.crate, given.keep.resolve())
+        gaps, used, base, rest = measure(given.crate, given.keep.resolve())
     else:
         with tempfile.TemporaryDirectory(prefix="dear-") as folder:
-            gaps, used, base, rest = measure(top, given.crate, pathlib.Path(folder))
+            gaps, used, base, rest = measure(given.crate, pathlib.Path(folder))
     functions, by_hand, links = {}, {}, 0.0
     for module, seconds in gaps:
         name, is_made = owner(module)

@@ -1,12 +1,11 @@
 //! Plays rows of calls: each line of a file of `data/` is a call of a library, and the text that is due of it.
 #![tactic(auto)]
 
-mod days;
-mod numbers;
 mod rows;
 
 use fixed_units::Text;
-use rows::{Ended, parted, play_rows};
+use row_lines::{Ended, parted};
+use rows::play_rows;
 use std::{fs, io};
 
 /// The file that names the files of rows, one a line, each behind its subject.

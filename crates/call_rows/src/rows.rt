@@ -1,22 +1,22 @@
-//! What a row is: the word of a call, its arguments, ` -> `, and the text that is due. Lines that are empty or begin with `#` are none.
+//! Plays the rows of a file, each by the crate that knows its subject.
 
-use crate::{days, numbers};
 use fixed_units::{NoMemory, Text};
+use row_lines::{Ended, is_row, parted};
 use std::alloc::Global;
-
-/// How the rows of a file ended.
-#[derive(Clone, Copy)]
-pub enum Ended<'a> {
-    /// So many rows came as due.
-    AsDue(u64),
-    /// The first row of which something else came.
-    Otherwise(&'a str),
-    /// There was no memory for a row.
-    NoMemory,
-}
 
 /// Plays each row. What came of the last one is left in `came`.
 pub fn play_rows<'a>(alloc: Global, subject: &str, text: &'a str, came: &mut Text) -> Ended<'a> {
+    if office_rows::are_blocks(subject) {
+        office_rows::play_blocks(alloc, subject, text, came)
+    } else if device_rows::are_of(subject) {
+        device_rows::play_blocks(alloc, subject, text, came)
+    } else {
+        play_lines(alloc, subject, text, came)
+    }
+}
+
+/// Plays each line that is a row.
+fn play_lines<'a>(alloc: Global, subject: &str, text: &'a str, came: &mut Text) -> Ended<'a> {
     let mut rows = 0_u64;
     for line in text.lines() {
         if is_row(line) {
@@ -30,10 +30,6 @@ pub fn play_rows<'a>(alloc: Global, subject: &str, text: &'a str, came: &mut Tex
     Ended::AsDue(rows)
 }
 
-fn is_row(line: &str) -> bool {
-    !line.is_empty() && !line.starts_with('#')
-}
-
 /// Whether what comes of a row is due. A line without ` -> ` is a row that never is.
 fn play_row(alloc: Global, subject: &str, row: &str, came: &mut Text) -> Result<bool, NoMemory> {
     came.truncate(0);
@@ -45,11 +41,6 @@ fn play_row(alloc: Global, subject: &str, row: &str, came: &mut Text) -> Result<
     Ok(came.as_slice() == due.as_bytes())
 }
 
-/// The text before the first blank, and behind it.
-pub fn parted(text: &str) -> (&str, &str) {
-    text.split_once(' ').unwrap_or((text, ""))
-}
-
 /// Writes what comes of a call on a subject.
 fn answer(
     alloc: Global,
@@ -58,9 +49,12 @@ fn answer(
     rest: &str,
     came: &mut Text,
 ) -> Result<(), NoMemory> {
-    match subject {
-        "days" => days::answer(alloc, word, rest, came),
-        "numbers" => numbers::answer(word, rest, came),
-        _ => came.push_slice(b"no such subject"),
+    if field_rows::answer(alloc, subject, word, rest, came)?
+        || edit_rows::answer(alloc, subject, word, rest, came)?
+        || device_rows::answer(alloc, subject, word, rest, came)?
+    {
+        Ok(())
+    } else {
+        came.push_slice(b"no such subject")
     }
 }

@@ -1,123 +1,109 @@
-//! What no clause says of disks: that calls succeed, and what a real file does.
+//! Disks in memory, which fail on command.
 
-use crate::fixtures::{Act, Acts, Told, act_on_file, disk, play};
-use devices::{Cabinet, FileCabinet, FileDisk, MemoryDisk, Opened};
+ghost use Rattle.std.specs.Prelude.{◌+◌, ◌^◌, ◌<◌, ◌≤◌, length, IfSome};
+
+use crate::act_blocks::given;
+use crate::escapes::{push_counted, push_shown};
+use crate::memory::{bytes_of, disk, push_calls};
+use devices::{Disk, DiskFailed, MemoryDisk};
+use fixed_units::{NoMemory, Text};
+use row_lines::parted;
 use std::alloc::Global;
-use std::fs;
 
-/// Bytes of a disk, its calls that fail, what is done to it, and how many calls and faults it has had then.
-type Row = (&'static [u8], &'static [u64], Acts, (u64, u64));
-
-/// Why a row fails.
-#[derive(Clone, Copy, Debug)]
-enum Wrong {
-    /// At this place, from 0 on.
-    Act(usize),
-    /// There were so many calls and faults.
-    Counts(u64, u64),
-    /// There is no room to list calls.
-    Stuck,
-    /// There is no disk.
-    NoDisk,
+/// Does all of a block to a disk of the bytes behind `disk`, whose calls behind `failing` fail, and writes what comes of each row, and
+/// what the disk holds then.
+pub fn answer(alloc: Global, block: &str, came: &mut Text) -> Result<(), NoMemory> {
+    let bytes = bytes_of(alloc, given(block, "disk "))?;
+    let mut made = disk(alloc, bytes.as_slice(), given(block, "failing "))?;
+    act_all(&mut made, block, came)
 }
 
-/// The second and the fifth call fail, and leave the first half of their bytes.
-static WRITES: Row = (
-    b"",
-    &[2, 5],
-    &[
-        (Act::Write(0, "stage"), Told::Done, "stage"),
-        (Act::Write(5, " 9.50"), Told::Failed, "stage 9"),
-        (Act::Write(5, " 9.50"), Told::Done, "stage 9.50"),
-        (Act::Write(0, "S"), Told::Done, "Stage 9.50"),
-        (Act::Write(1, "TAGE"), Told::Failed, "STAge 9.50"),
-        (Act::Write(10, ""), Told::Done, "STAge 9.50"),
-    ],
-    (6, 2),
-);
-
-static FAILURES: Row = (
-    b"stage 9",
-    &[2, 4, 6],
-    &[
-        (Act::Length, Told::Length(7), "stage 9"),
-        (Act::Length, Told::Failed, "stage 9"),
-        (Act::Read(2, b"age 9"), Told::Done, "stage 9"),
-        (Act::Read(2, b"age 9"), Told::Failed, "stage 9"),
-        (Act::Sync, Told::Done, "stage 9"),
-        (Act::Sync, Told::Failed, "stage 9"),
-    ],
-    (6, 3),
-);
-
-fn play_on(disk: &mut MemoryDisk, row: &Row) -> Result<(), Wrong> {
-    if let Err(place) = play(disk, row.2) {
-        return Err(Wrong::Act(place));
-    }
-    if disk.is_stuck() {
-        return Err(Wrong::Stuck);
-    }
-    let counts = (disk.call_count(), disk.fault_count());
-    if counts != row.3 {
-        return Err(Wrong::Counts(counts.0, counts.1));
+fn act_all(made: &mut MemoryDisk, block: &str, came: &mut Text) -> Result<(), NoMemory> {
+    for line in block.lines() {
+        if let Some((call, _)) = line.split_once(" -> ") {
+            act(made, call, came)?;
+            push_content(made, came)?;
+        }
     }
     Ok(())
 }
 
-fn play_row(alloc: Global, row: &Row) -> Result<(), Wrong> {
-    match disk(alloc, row.0, row.1) {
-        Ok(mut disk) => play_on(&mut disk, row),
-        Err(_) => Err(Wrong::NoDisk),
+fn push_content(made: &MemoryDisk, came: &mut Text) -> Result<(), NoMemory> {
+    came.push_slice(b"; ")?;
+    push_shown(made.bytes(), came)?;
+    came.push_slice(b"\n")
+}
+
+fn act(made: &mut MemoryDisk, call: &str, came: &mut Text) -> Result<(), NoMemory> {
+    let (word, rest) = parted(call);
+    match word {
+        "length" => push_length(made, came),
+        "read" => read(made, rest.parse().unwrap_or(0), came),
+        "write" => came.push_slice(write(made, rest)),
+        "sync" => came.push_slice(told(made.sync())),
+        "calls" => push_counts(made, came),
+        _ => came.push_slice(b"no such call"),
     }
 }
 
-#[test]
-fn writes_of_a_disk_in_memory(rt: HostRuntime) -> Result<(), Wrong> {
-    play_row(rt.alloc(), &WRITES)
-}
-
-#[test]
-fn a_disk_in_memory_fails_on_command(rt: HostRuntime) -> Result<(), Wrong> {
-    play_row(rt.alloc(), &FAILURES)
-}
-
-const FILE: &str = "rows_disk";
-
-/// What is done to a file that is made, and what is told of each.
-static ON_A_FILE: [(Act, Told); 8] = [
-    (Act::Length, Told::Length(0)),
-    (Act::Write(0, "stage 9.50"), Told::Done),
-    (Act::Write(1, "TAG"), Told::Done),
-    (Act::Sync, Told::Done),
-    (Act::Read(0, b"sTAGe"), Told::Done),
-    (Act::Length, Told::Length(10)),
-    (Act::Read(5, b" 9.50"), Told::Done),
-    (Act::Read(6, b"9.50\0"), Told::Failed),
-];
-
-fn play_on_file(disk: &mut FileDisk) -> Result<(), Wrong> {
-    for (place, (act, due)) in ON_A_FILE.iter().enumerate() {
-        if act_on_file(disk, *act) != *due {
-            return Err(Wrong::Act(place));
-        }
-    }
-    match disk.fault_count() {
-        1 => Ok(()),
-        faults => Err(Wrong::Counts(8, faults)),
+fn told(came: Result<(), DiskFailed>) -> &'static [u8] {
+    match came {
+        Ok(()) => b"done",
+        Err(DiskFailed) => b"failed",
     }
 }
 
-fn play_file(cabinet: &mut FileCabinet) -> Result<(), Wrong> {
-    match cabinet.open(FILE, true) {
-        Opened::Disk(mut disk) => play_on_file(&mut disk),
-        _ => Err(Wrong::NoDisk),
+fn push_length(made: &mut MemoryDisk, came: &mut Text) -> Result<(), NoMemory> {
+    match made.len() {
+        Ok(count) => push_counted(b"", count, came),
+        Err(DiskFailed) => came.push_slice(b"failed"),
     }
 }
 
-#[test]
-fn a_file_as_a_disk(rt: HostRuntime) -> Result<(), Wrong> {
-    let _ = fs::remove_file(&rt, FILE);
-    let went = play_file(&mut FileCabinet::new(rt));
-    let _ = fs::remove_file(&rt, FILE);
-    went
+/// `read AT`: the five bytes from an offset on, if they stand within the content.
+fn read(made: &mut MemoryDisk, at: u64, came: &mut Text) -> Result<(), NoMemory> {
+    let count = made.bytes().len() as u64;
+    if count < 5 || at > count - 5 {
+        return came.push_slice(b"outside");
+    }
+    read_five(made, at, came)
+}
+
+fn read_five<D: Disk>(made: &mut D, at: u64, came: &mut Text) -> Result<(), NoMemory>
+    requires { IfSome (D.content made.old) (λ bytes. at + 5 ≤ length bytes) }
+{
+    let mut room = [0; 5];
+    match made.read_at(at, &mut room) {
+        Ok(()) => push_shown(&room, came),
+        Err(DiskFailed) => came.push_slice(b"failed"),
+    }
+}
+
+/// `write AT TEXT`: the text is written from an offset on, if that stands within the content.
+fn write(made: &mut MemoryDisk, rest: &str) -> &'static [u8] {
+    let (at, text) = parted(rest);
+    write_at(made, at.parse().unwrap_or(0), text.as_bytes())
+}
+
+fn write_at(made: &mut MemoryDisk, at: u64, bytes: &[u8]) -> &'static [u8] {
+    if at > made.bytes().len() as u64 || bytes.len() > 100 {
+        return b"outside";
+    }
+    write_within(made, at, bytes)
+}
+
+fn write_within<D: Disk>(made: &mut D, at: u64, bytes: &[u8]) -> &'static [u8]
+    requires begins { IfSome (D.content made.old) (λ old. at ≤ length old) }
+    requires ends { at + length bytes.now < 2 ^ 64 }
+{
+    told(made.write_at(at, bytes))
+}
+
+/// `calls`: how many calls and faults the disk had, and whether there is no room to list calls.
+fn push_counts(made: &MemoryDisk, came: &mut Text) -> Result<(), NoMemory> {
+    push_calls(made.call_count(), made.fault_count(), came)?;
+    if made.is_stuck() {
+        came.push_slice(b", stuck")?;
+    }
+    Ok(())
 }

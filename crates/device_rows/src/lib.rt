@@ -1,11 +1,41 @@
-//! Worked rows of devices: what no clause says of disks, cabinets and streams, over objects in memory and over real files.
+//! Calls on words, documents, messages, journals and devices in memory, by the words of rows.
 #![tactic(auto)]
 
-#[cfg(test)]
+mod act_blocks;
+mod appends;
 mod cabinets;
-#[cfg(test)]
 mod disks;
-#[cfg(test)]
-mod fixtures;
-#[cfg(test)]
+mod documents;
+mod escapes;
+mod journals;
+mod memory;
+mod messages;
+mod reads;
+mod replies;
 mod streams;
+mod words;
+mod written;
+
+pub use act_blocks::{are_of, play_blocks};
+use fixed_units::{NoMemory, Text};
+use std::alloc::Global;
+
+/// Writes what comes of a call on a subject of this crate; whether it is one.
+pub fn answer(
+    alloc: Global,
+    subject: &str,
+    word: &str,
+    rest: &str,
+    came: &mut Text,
+) -> Result<bool, NoMemory> {
+    match subject {
+        "documents" => documents::answer(alloc, word, rest, came)?,
+        "journals" => journals::answer(alloc, word, rest, came)?,
+        "messages" => messages::answer(alloc, word, rest, came)?,
+        "replies" => replies::answer(alloc, word, rest, came)?,
+        "streams" => streams::answer(alloc, word, rest, came)?,
+        "words" => words::answer(alloc, word, rest, came)?,
+        _ => return Ok(false),
+    }
+    Ok(true)
+}

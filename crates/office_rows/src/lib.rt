@@ -1,37 +1,20 @@
-//! Worked rows of edits, days, limits, zones, faults and journals as whole runs of the program's call, over objects in memory. Every byte that is due was worked out by hand.
+//! Acts on the inputs in force, on reviews, on the days that await an edit, and on an office over a disk in memory, by the words of
+//! rows that stand in blocks.
 #![tactic(auto)]
 
-#[cfg(test)]
-mod approval_journals;
-#[cfg(test)]
-mod approved_days;
-#[cfg(test)]
-mod bulk_days;
-#[cfg(test)]
-mod corrections;
-#[cfg(test)]
-mod days;
-#[cfg(test)]
-mod faults;
-#[cfg(test)]
-mod journals;
-#[cfg(test)]
-mod limits;
-#[cfg(test)]
-mod logger_year;
-#[cfg(test)]
-mod measured;
-#[cfg(test)]
-mod rated_days;
-#[cfg(test)]
-mod repeats;
-#[cfg(test)]
+mod blocks;
+mod cells;
+mod compared;
+mod counted;
+mod inputs;
+mod many;
+mod office_acts;
+mod offices;
+mod readmitted;
 mod reviews;
-#[cfg(test)]
-mod sheets_of_days;
-#[cfg(test)]
-mod tables;
-#[cfg(test)]
-mod two_days;
-#[cfg(test)]
-mod zones;
+mod sent;
+mod sent_changes;
+mod sent_readings;
+mod told;
+
+pub use blocks::{are_blocks, play_blocks};

@@ -1,4 +1,0 @@
-use Rattle.field_rows.proofs.rows.day_values.value_of.Given as goal
-
-abbrev pub ghosts-counted : goal.ghosts-counted
-ghosts-counted a = record { name = a.blank.name; parts = a.blank.parts }

@@ -1,0 +1,251 @@
+//! The rows of a file played, and whether each came out as due.
+
+use crate::objects::{Ran, cabinet_of, ran_over};
+use crate::rows::{asked_in, says, told, unknown_line};
+use crate::streams::{Side, push_stream};
+use crate::texts::{At, push_bytes, push_shown, push_text};
+use devices::MemoryCabinet;
+use fixed_units::{NoMemory, Text};
+use std::alloc::Global;
+
+/// How the runs of a file ended.
+#[derive(Clone, Copy)]
+pub enum Ended<'a> {
+    /// So many runs came as due, by so many lines of requests.
+    AsDue(u64, u64),
+    /// The first row that did not, and what of it.
+    Otherwise(&'a str, &'static str),
+    /// There was no memory for a run.
+    NoMemory,
+}
+
+/// Texts that each run writes anew.
+#[derive(Drop)]
+pub struct Room {
+    /// What is due and what came in its place.
+    pub told: Text,
+    due: Text,
+    body: Text,
+    runs: u64,
+}
+
+impl Room {
+    /// Room of no bytes.
+    pub fn new(alloc: Global) -> Room {
+        Room {
+            told: Text::new(alloc),
+            due: Text::new(alloc),
+            body: Text::new(alloc),
+            runs: 0,
+        }
+    }
+}
+
+/// Plays each row of a file.
+pub fn play_cases<'a>(alloc: Global, file: &'a str, room: &mut Room) -> Ended<'a> {
+    let unknown = unknown_line(file);
+    if !unknown.is_empty() {
+        return Ended::Otherwise(unknown, "a line is");
+    }
+    for row in file.split("\n==").skip(1) {
+        match play_case(alloc, file, row, room) {
+            Ok("") => {}
+            Ok(what) => return Ended::Otherwise(row, what),
+            Err(NoMemory) => return Ended::NoMemory,
+        }
+    }
+    Ended::AsDue(room.runs, asked_in(file))
+}
+
+/// What of a row is not as due; an empty text where all is.
+fn play_case(
+    alloc: Global,
+    file: &str,
+    row: &str,
+    room: &mut Room,
+) -> Result<&'static str, NoMemory> {
+    let flaw = flaw_of(row);
+    if !flaw.is_empty() {
+        return Ok(flaw);
+    }
+    let mut cabinet = cabinet_of(alloc, file, row)?;
+    let what = play_runs(alloc, file, row, &mut cabinet, room)?;
+    if what.is_empty() {
+        judge_cabinet(file, row, &cabinet, room)
+    } else {
+        Ok(what)
+    }
+}
+
+/// What a row lacks. One in which calls of the disk fail must tell what the disk has then, which is seldom what it had.
+fn flaw_of(row: &str) -> &'static str {
+    if !row.contains("\nrun") {
+        return "without a run, it is";
+    }
+    if told(row, "fail disk ").is_empty() || !told(row, "left ").is_empty() {
+        ""
+    } else {
+        "without what is left, it is"
+    }
+}
+
+/// What of the runs over a cabinet is not as due.
+fn play_runs(
+    alloc: Global,
+    file: &str,
+    row: &str,
+    cabinet: &mut MemoryCabinet,
+    room: &mut Room,
+) -> Result<&'static str, NoMemory> {
+    for run in row.split("\nrun").skip(1) {
+        let what = play_run(alloc, file, run, cabinet, room)?;
+        if !what.is_empty() {
+            return Ok(what);
+        }
+        room.runs = room.runs.saturating_add(1);
+    }
+    Ok("")
+}
+
+fn play_run(
+    alloc: Global,
+    file: &str,
+    run: &str,
+    cabinet: &mut MemoryCabinet,
+    room: &mut Room,
+) -> Result<&'static str, NoMemory> {
+    let ran = ran_over(alloc, file, run, cabinet, &mut room.body)?;
+    judge(file, run, &ran, room)
+}
+
+/// What of what a run wrote, told and answered is not as due.
+fn judge(file: &str, run: &str, ran: &Ran, room: &mut Room) -> Result<&'static str, NoMemory> {
+    room.due.truncate(0);
+    push_text(At { file, round: 0 }, told(run, "told "), &mut room.due)?;
+    if !is_same(ran.faults.bytes(), room)? {
+        return Ok("what is told is");
+    }
+    room.due.truncate(0);
+    push_stream(file, run, Side::Replied, &mut room.body, &mut room.due)?;
+    if !is_same(ran.output.bytes(), room)? {
+        return Ok("what is written is");
+    }
+    judge_end(run, ran, room)
+}
+
+fn judge_end(run: &str, ran: &Ran, room: &mut Room) -> Result<&'static str, NoMemory> {
+    if !is_number(u64::from(ran.status), told(run, "status "), room)? {
+        return Ok("the status is");
+    }
+    if says(run, "unread") == (ran.reads == 0) {
+        Ok("")
+    } else {
+        Ok("whether the input is read is")
+    }
+}
+
+/// What of what the cabinet has and counted is not as due.
+fn judge_cabinet(
+    file: &str,
+    row: &str,
+    cabinet: &MemoryCabinet,
+    room: &mut Room,
+) -> Result<&'static str, NoMemory> {
+    if !is_number(cabinet.fault_count(), faults_of(row), room)? {
+        return Ok("the count of faults is");
+    }
+    if !is_as_called(row, cabinet, room)? {
+        return Ok("the count of calls is");
+    }
+    if is_left(file, row, cabinet, room)? {
+        Ok("")
+    } else {
+        Ok("what is left is")
+    }
+}
+
+/// The count of faults that is due.
+fn faults_of(row: &str) -> &str {
+    let faults = told(row, "faults ");
+    if faults.is_empty() { "0" } else { faults }
+}
+
+/// Whether the disk had as many calls as are due, where that is told.
+fn is_as_called(row: &str, cabinet: &MemoryCabinet, room: &mut Room) -> Result<bool, NoMemory> {
+    let calls = told(row, "calls ");
+    if calls.is_empty() {
+        return Ok(true);
+    }
+    match cabinet.disk("J") {
+        Some(disk) => is_number(disk.call_count(), calls, room),
+        None => Ok(false),
+    }
+}
+
+/// Whether what is due stands under `J`, where that is told.
+fn is_left(
+    file: &str,
+    row: &str,
+    cabinet: &MemoryCabinet,
+    room: &mut Room,
+) -> Result<bool, NoMemory> {
+    let left = told(row, "left ");
+    match cabinet.disk("J") {
+        _ if left.is_empty() => Ok(true),
+        None => Ok(left == "nothing"),
+        Some(_) if left == "nothing" => Ok(false),
+        Some(disk) => {
+            room.due.truncate(0);
+            push_bytes(file, left, &mut room.due)?;
+            is_same(disk.bytes(), room)
+        }
+    }
+}
+
+/// Whether a number is the one of these digits.
+fn is_number(came: u64, digits: &str, room: &mut Room) -> Result<bool, NoMemory> {
+    room.due.truncate(0);
+    room.due.push_slice(digits.as_bytes())?;
+    room.body.truncate(0);
+    room.body.push_number(came)?;
+    if room.body.as_slice() == room.due.as_slice() {
+        return Ok(true);
+    }
+    tell_both(&room.due, room.body.as_slice(), 0, &mut room.told)?;
+    Ok(false)
+}
+
+/// Whether bytes are those that are due; else both are told, from a little before where they differ.
+fn is_same(came: &[u8], room: &mut Room) -> Result<bool, NoMemory> {
+    if came == room.due.as_slice() {
+        return Ok(true);
+    }
+    let from = first_difference(came, room.due.as_slice()).saturating_sub(40);
+    tell_both(&room.due, came, from, &mut room.told)?;
+    Ok(false)
+}
+
+fn first_difference(came: &[u8], due: &[u8]) -> usize {
+    let mut same = 0_usize;
+    for (one, other) in came.iter().zip(due) {
+        if one != other {
+            return same;
+        }
+        same = same.saturating_add(1);
+    }
+    same
+}
+
+fn tell_both(due: &Text, came: &[u8], from: usize, told: &mut Text) -> Result<(), NoMemory> {
+    told.push_slice(b"`")?;
+    push_shown(excerpt(due.as_slice(), from), told)?;
+    told.push_slice(b"` is due, and `")?;
+    push_shown(excerpt(came, from), told)?;
+    told.push_slice(b"` came")
+}
+
+/// At most 300 bytes from this one on.
+fn excerpt(bytes: &[u8], from: usize) -> &[u8] {
+    let rest = bytes.get(from..).unwrap_or(&[]);
+    rest.get(..300).unwrap_or(rest)
+}

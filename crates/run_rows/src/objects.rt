@@ -1,0 +1,142 @@
+//! The objects of a run: its words, a source, two sinks, and a disk in a cabinet.
+
+ghost use Rattle.std.specs.Prelude.{◌<◌};
+
+use crate::rows::told;
+use crate::streams::{Side, push_stream};
+use crate::texts::push_bytes;
+use commands::run_office;
+use devices::{MemoryCabinet, MemoryDisk, MemorySink, MemorySource};
+use fixed_units::{NoMemory, Text};
+use std::alloc::Global;
+
+/// What a run answered, wrote and told, and how often it asked for input.
+#[derive(Drop)]
+pub struct Ran {
+    /// The status of the program.
+    pub status: u8,
+    /// The sink of the replies.
+    pub output: MemorySink,
+    /// The sink of what was told of faults.
+    pub faults: MemorySink,
+    /// How often the input was asked for bytes.
+    pub reads: u64,
+}
+
+/// The cabinet of a row.
+pub fn cabinet_of(alloc: Global, file: &str, row: &str) -> Result<MemoryCabinet, NoMemory> {
+    let failing = numbers(alloc, told(row, "fail cabinet "))?;
+    let mut cabinet = MemoryCabinet::new(alloc, failing);
+    let journal = told(row, "journal ");
+    if !journal.is_empty() {
+        insert(alloc, file, row, &mut cabinet)?;
+    }
+    Ok(cabinet)
+}
+
+/// Puts the disk of a row under `J`.
+fn insert(
+    alloc: Global,
+    file: &str,
+    row: &str,
+    cabinet: &mut MemoryCabinet,
+) -> Result<(), NoMemory> {
+    let disk = disk_of(alloc, file, row)?;
+    cabinet.insert("J", disk)?;
+    Ok(())
+}
+
+fn disk_of(alloc: Global, file: &str, row: &str) -> Result<MemoryDisk, NoMemory> {
+    let before = before_of(alloc, file, row)?;
+    let failing = numbers(alloc, told(row, "fail disk "))?;
+    Ok(MemoryDisk::new(alloc, before, failing)?)
+}
+
+fn before_of(alloc: Global, file: &str, row: &str) -> Result<Vec<u8>, NoMemory> {
+    let mut before = Text::new(alloc);
+    push_bytes(file, told(row, "journal "), &mut before)?;
+    Ok(before.into_vec())
+}
+
+/// The numbers of a line.
+fn numbers(alloc: Global, line: &str) -> Result<Vec<u64>, NoMemory> {
+    let mut numbers = Vec::new(alloc);
+    for word in line.split(' ') {
+        if let Ok(number) = word.parse() {
+            numbers.push(number)?;
+        }
+    }
+    Ok(numbers)
+}
+
+/// A run over a cabinet.
+pub fn ran_over(
+    alloc: Global,
+    file: &str,
+    run: &str,
+    cabinet: &mut MemoryCabinet,
+    body: &mut Text,
+) -> Result<Ran, NoMemory> {
+    let words = words_of(alloc, run)?;
+    let mut source = source_of(alloc, file, run, body)?;
+    run_with(alloc, run, &words, &mut source, cabinet)
+}
+
+fn run_with(
+    alloc: Global,
+    run: &str,
+    words: &[String],
+    source: &mut MemorySource,
+    cabinet: &mut MemoryCabinet,
+) -> Result<Ran, NoMemory> {
+    let mut output = sink_of(alloc, run, "fail output ")?;
+    let mut faults = sink_of(alloc, run, "fail faults ")?;
+    let status = run_office(&(), alloc, words, source, &mut output, &mut faults, cabinet);
+    Ok(Ran {
+        status,
+        output,
+        faults,
+        reads: source.calls(),
+    })
+}
+
+/// The words of a run.
+fn words_of(alloc: Global, run: &str) -> Result<Vec<String>, NoMemory> {
+    let mut words = Vec::new(alloc);
+    for word in run.lines().next().unwrap_or("").split(' ').skip(1) {
+        words.push(String::from_str(alloc, spelled(word))?)?;
+    }
+    Ok(words)
+}
+
+/// Two quotes are a word without letters.
+fn spelled(word: &str) -> &str {
+    if word == "''" { "" } else { word }
+}
+
+fn source_of(
+    alloc: Global,
+    file: &str,
+    run: &str,
+    body: &mut Text,
+) -> Result<MemorySource, NoMemory> {
+    let mut input = Text::new(alloc);
+    push_stream(file, run, Side::Asked, body, &mut input)?;
+    let failing = numbers(alloc, told(run, "fail input "))?;
+    Ok(MemorySource::new(input.into_vec(), failing, piece_of(run)))
+}
+
+fn sink_of(alloc: Global, run: &str, begin: &str) -> Result<MemorySink, NoMemory> {
+    let failing = numbers(alloc, told(run, begin))?;
+    Ok(MemorySink::new(alloc, failing, piece_of(run)))
+}
+
+/// The most bytes that one call of a stream moves.
+fn piece_of(run: &str) -> usize
+    ensures { 0 < result }
+{
+    match told(run, "piece ").parse() {
+        Ok(piece) if piece > 0 => piece,
+        _ => 10_000_000,
+    }
+}

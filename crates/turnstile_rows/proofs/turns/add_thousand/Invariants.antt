@@ -1,7 +1,0 @@
-use Rattle.std.proofs.Common.{◌≡◌}
-use Rattle.turnstile.specs.Passes.{share}
-use Rattle.turnstile_rows.specs.Numbered.{IsOf}
-use Rattle.turnstile_rows.proofs.turns.add_thousand.Given as goal
-
-abbrev pub invariant-loop-count : goal.invariant-loop-count
-invariant-loop-count g l = IsOf l.lock l.pass × (share l.pass ≡ share l.fn.given)

@@ -6,7 +6,7 @@ use Rattle.trial.specs.Trials.{Trial, FollowsAll}
 use Rattle.trial_orders.specs.Orders.{orders}
 
 pub write_figures-requires-clause-counted : goal.write_figures-requires-clause-counted
-write_figures-requires-clause-counted g c _ _ =
+write_figures-requires-clause-counted g c =
     counted_from c.args.run.now c.follow_orders.new.self (orders c.args.number) c.requires c.in_ok-follow_orders.ensures.follows
 
 pub returns : goal.returns

@@ -1,7 +1,7 @@
 //! Calls of `ratings` on the ratings of a station under their numbers and the periods in which they are in force.
 
 use crate::curve_points::push_place;
-use crate::notation::{Stop, count, instant, push_instant, push_pair, there, three, told};
+use crate::notation::{Stop, count, instant, push_instant, push_pair, told};
 use crate::periods::period;
 use crate::rating_parts;
 use crate::series::push_taken;
@@ -11,7 +11,7 @@ use ratings::{Period, Rated, Rating, Ratings, SharedTable, Table};
 use row_lines::parted;
 use std::alloc::Global;
 
-/// Writes what comes of a call: `WORD TABLES PERIODS ARGUMENTS`.
+/// Writes what comes of a call: `WORD RATINGS ARGUMENTS`.
 pub fn answer(alloc: Global, word: &str, rest: &str, came: &mut Text) -> Result<(), NoMemory> {
     let mut ratings = Ratings::new(alloc);
     let end = answer_with(alloc, &mut ratings, word, rest, came);
@@ -25,9 +25,8 @@ fn answer_with(
     rest: &str,
     came: &mut Text,
 ) -> Result<(), Stop> {
-    let (tables, periods, rest) = three(rest);
-    add_all(alloc, tables, ratings)?;
-    put_all(periods, ratings)?;
+    let (given, rest) = parted(rest);
+    put_all(alloc, given, ratings)?;
     answer_of(alloc, ratings, word, rest, came)
 }
 
@@ -48,16 +47,22 @@ fn answer_of(
     }
 }
 
-/// Adds the tables of a text, each `NUMBER=TABLE`, with semicolons between them; `-` is none.
-fn add_all(alloc: Global, text: &str, ratings: &mut Ratings) -> Result<(), Stop> {
+/// Adds tables, each `NUMBER=TABLE`, and puts periods in the order in which they stand, with semicolons between them; `-` is none.
+fn put_all(alloc: Global, text: &str, ratings: &mut Ratings) -> Result<(), Stop> {
     if text == "-" {
         return Ok(());
     }
     for piece in text.split(';') {
-        let (number, rows) = there(piece.split_once('='))?;
-        add(ratings, count(number)?, shared(alloc, rows)?)?;
+        put_one(alloc, piece, ratings)?;
     }
     Ok(())
+}
+
+fn put_one(alloc: Global, text: &str, ratings: &mut Ratings) -> Result<(), Stop> {
+    match text.split_once('=') {
+        Some((number, rows)) => add(ratings, count(number)?, shared(alloc, rows)?),
+        None => put(ratings, period(text)?),
+    }
 }
 
 /// A table that is shared, by its rows.
@@ -74,17 +79,6 @@ fn add(ratings: &mut Ratings, number: u32, table: SharedTable) -> Result<(), Sto
     Ok(())
 }
 
-/// Puts the periods of a text, with commas between them; `-` is none.
-fn put_all(text: &str, ratings: &mut Ratings) -> Result<(), Stop> {
-    if text == "-" {
-        return Ok(());
-    }
-    for piece in text.split(',') {
-        put(ratings, period(piece)?)?;
-    }
-    Ok(())
-}
-
 /// Puts a period of a rating that is there, which no other one stands in the way of.
 pub fn put(ratings: &mut Ratings, period: Period) -> Result<(), Stop> {
     ratings.reserve_period()?;
@@ -95,7 +89,7 @@ pub fn put(ratings: &mut Ratings, period: Period) -> Result<(), Stop> {
     Ok(())
 }
 
-/// `number TABLES PERIODS NUMBER`: the number of the rating, and the discharges of a foot and of two feet by its table.
+/// `number RATINGS NUMBER`: the number of the rating, and the discharges of a foot and of two feet by its table.
 fn number(ratings: &Ratings, rest: &str, came: &mut Text) -> Result<(), Stop> {
     match ratings.rating(count(rest)?) {
         Some(rating) => Ok(push_numbered(rating, came)?),
@@ -131,7 +125,7 @@ pub fn push_pair_if(pair: Option<(Micro, Micro)>, came: &mut Text) -> Result<(),
     }
 }
 
-/// `at TABLES PERIODS INSTANT`: the discharges of a foot and of two feet by the table that is in force.
+/// `at RATINGS INSTANT`: the discharges of a foot and of two feet by the table that is in force.
 fn pair_at(ratings: &Ratings, at: &str) -> Result<Option<(Micro, Micro)>, Stop> {
     match ratings.table_at(instant(at)?) {
         Some(table) => Ok(pair_of(table)),
@@ -139,12 +133,12 @@ fn pair_at(ratings: &Ratings, at: &str) -> Result<Option<(Micro, Micro)>, Stop> 
     }
 }
 
-/// `overlap TABLES PERIODS PERIOD`: where the first period begins that another one would overlap.
+/// `overlap RATINGS PERIOD`: where the first period begins that another one would overlap.
 fn overlap(ratings: &Ratings, rest: &str, came: &mut Text) -> Result<(), Stop> {
     Ok(push_instant(ratings.overlap(&period(rest)?), came)?)
 }
 
-/// `drop TABLES PERIODS FROM,FROM.. INSTANT,INSTANT..`: what comes of each period that is dropped, and what is then in force at each instant.
+/// `drop RATINGS FROM,FROM.. INSTANT,INSTANT..`: what comes of each period that is dropped, and what is then in force at each instant.
 fn drop_and_tell(ratings: &mut Ratings, rest: &str, came: &mut Text) -> Result<(), Stop> {
     let (starts, instants) = parted(rest);
     for from in starts.split(',') {

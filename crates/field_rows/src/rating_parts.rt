@@ -12,7 +12,7 @@ use ratings::{PartList, PeriodPart, Ratings, part_at};
 use row_lines::parted;
 use std::alloc::Global;
 
-/// Writes what comes of a call: `WORD TABLES PERIODS FIRST LAST ARGUMENT`.
+/// Writes what comes of a call: `WORD RATINGS FIRST LAST ARGUMENT`.
 pub fn answer(
     alloc: Global,
     ratings: &mut Ratings,
@@ -23,16 +23,16 @@ pub fn answer(
     let (first, last, rest) = three(rest);
     let ends = (instant(first)?, instant(last)?);
     match word {
-        "parts" => parts(alloc, ratings, ends, came),
-        "part_at" => rating_at(alloc, ratings, ends, rest, came),
-        "with" => with(alloc, ratings, ends, rest, came),
-        "without" => without(alloc, ratings, ends, rest, came),
+        "parts" => parts(alloc, ratings, &ends, came),
+        "part_at" => rating_at(alloc, ratings, &ends, rest, came),
+        "with" => with(alloc, ratings, &ends, rest, came),
+        "without" => without(alloc, ratings, &ends, rest, came),
         _ => Ok(came.push_slice(b"no such call")?),
     }
 }
 
 /// The parts of a window.
-fn parts_of(alloc: Global, ratings: &Ratings, ends: (Second, Second)) -> Result<PartList, Stop>
+fn parts_of(alloc: Global, ratings: &Ratings, ends: &(Second, Second)) -> Result<PartList, Stop>
     ensures { IfOk result (λ list. AreParts list) }
 {
     if ends.0.get() > ends.1.get() || !is_stamp(ends.1.get()) {
@@ -46,7 +46,7 @@ fn parts_of(alloc: Global, ratings: &Ratings, ends: (Second, Second)) -> Result<
 fn parts(
     alloc: Global,
     ratings: &Ratings,
-    ends: (Second, Second),
+    ends: &(Second, Second),
     came: &mut Text,
 ) -> Result<(), Stop> {
     let list = parts_of(alloc, ratings, ends)?;
@@ -56,7 +56,7 @@ fn parts(
 
 fn push_has(
     ratings: &Ratings,
-    ends: (Second, Second),
+    ends: &(Second, Second),
     parts: &[PeriodPart],
     came: &mut Text,
 ) -> Result<(), NoMemory> {
@@ -87,7 +87,7 @@ fn push_part(part: &PeriodPart, came: &mut Text) -> Result<(), NoMemory> {
 fn rating_at(
     alloc: Global,
     ratings: &Ratings,
-    ends: (Second, Second),
+    ends: &(Second, Second),
     rest: &str,
     came: &mut Text,
 ) -> Result<(), Stop> {
@@ -101,7 +101,7 @@ fn rating_at(
 fn with(
     alloc: Global,
     ratings: &mut Ratings,
-    ends: (Second, Second),
+    ends: &(Second, Second),
     rest: &str,
     came: &mut Text,
 ) -> Result<(), Stop> {
@@ -115,7 +115,7 @@ fn with(
 
 fn push_stays(
     ratings: &Ratings,
-    ends: (Second, Second),
+    ends: &(Second, Second),
     parts: &[PeriodPart],
     came: &mut Text,
 ) -> Result<(), Stop> {
@@ -128,7 +128,7 @@ fn push_stays(
 fn without(
     alloc: Global,
     ratings: &mut Ratings,
-    ends: (Second, Second),
+    ends: &(Second, Second),
     rest: &str,
     came: &mut Text,
 ) -> Result<(), Stop> {
@@ -141,7 +141,7 @@ fn without(
 
 fn push_before(
     ratings: &Ratings,
-    ends: (Second, Second),
+    ends: &(Second, Second),
     from: Second,
     came: &mut Text,
 ) -> Result<(), NoMemory> {

@@ -53,11 +53,22 @@ fn play_named<'a>(
     block: &'a str,
     came: &mut Text,
 ) -> Ended<'a> {
-    let (name, text) = block.split_once('\n').unwrap_or((block, ""));
-    let ended = play_block(alloc, (subject, book), text, came);
-    match ended {
-        Ended::Otherwise(_) if add_name(name, came).is_err() => Ended::NoMemory,
+    let (name, text) = named(block);
+    match play_block(alloc, (subject, book), text, came) {
+        Ended::Otherwise(line) => otherwise(name, line, came),
         ended => ended,
+    }
+}
+
+/// The name of a block, and its lines.
+fn named(block: &str) -> (&str, &str) {
+    block.split_once('\n').unwrap_or((block, ""))
+}
+
+fn otherwise<'a>(name: &str, line: &'a str, came: &mut Text) -> Ended<'a> {
+    match add_name(name, came) {
+        Ok(()) => Ended::Otherwise(line),
+        Err(NoMemory) => Ended::NoMemory,
     }
 }
 

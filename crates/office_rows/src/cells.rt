@@ -197,12 +197,23 @@ fn mark_two(cells: &mut Cells, rest: &str, came: &mut Text) -> Result<(), NoMemo
     let (place, more) = parted(rest);
     let (number, span) = parted(more);
     match (site(place), number.parse(), days(span)) {
-        (Some(site), Ok(number), Some((first, last))) if first < last => {
-            mark(cells, site, &[first, last], number)?;
-            came.push_slice(b"done")
-        }
+        (Some(site), Ok(number), Some(span)) => mark_span(cells, site, span, number, came),
         _ => came.push_slice(b"not well formed"),
     }
+}
+
+fn mark_span(
+    cells: &mut Cells,
+    site: Site,
+    (first, last): (Day, Day),
+    number: u64,
+    came: &mut Text,
+) -> Result<(), NoMemory> {
+    if first >= last {
+        return came.push_slice(b"not well formed");
+    }
+    mark(cells, site, &[first, last], number)?;
+    came.push_slice(b"done")
 }
 
 /// What is asked of the cells.

@@ -150,12 +150,18 @@ fn send(
 
 fn push_told(told: Result<Accepted, Refusal>, came: &mut Text) -> Result<(), NoMemory> {
     match told {
-        Ok(accepted) if accepted.repeated => {
-            push_number_behind(b"repeated ", accepted.number, came)
-        }
-        Ok(accepted) => push_number_behind(b"kept ", accepted.number, came),
+        Ok(accepted) => push_accepted(accepted, came),
         Err(refusal) => push_refusal(refusal, came),
     }
+}
+
+fn push_accepted(accepted: Accepted, came: &mut Text) -> Result<(), NoMemory> {
+    let said: &[u8] = if accepted.repeated {
+        b"repeated "
+    } else {
+        b"kept "
+    };
+    push_number_behind(said, accepted.number, came)
 }
 
 fn tell(office: &mut Office<MemoryDisk>, edit: Edit) -> Result<Accepted, Refusal> {

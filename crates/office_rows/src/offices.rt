@@ -17,7 +17,7 @@ use std::alloc::Global;
 /// Plays a block.
 pub fn play<'a>(alloc: Global, book: &str, block: &'a str, came: &mut Text) -> Ended<'a> {
     match (limits_of(block), disk_of(alloc, book, block)) {
-        (Some(limits), Some(disk)) => play_under(alloc, (book, block), limits, disk, came),
+        (Some(limits), Some(disk)) => play_under(alloc, book, block, limits, disk, came),
         _ => Ended::Otherwise(block),
     }
 }
@@ -77,7 +77,8 @@ fn disk_of(alloc: Global, book: &str, block: &str) -> Option<MemoryDisk> {
 
 fn play_under<'a>(
     alloc: Global,
-    (book, block): (&str, &'a str),
+    book: &str,
+    block: &'a str,
     limits: Limits,
     disk: MemoryDisk,
     came: &mut Text,
@@ -199,8 +200,11 @@ fn push_is_journal(
     came: &mut Text,
 ) -> Result<(), NoMemory> {
     match journal_of(alloc, book, names) {
-        Some(due) if bytes == due.as_slice() => came.push_slice(b"as due"),
-        Some(_) => came.push_slice(b"other bytes"),
+        Some(due) => push_same(bytes == due.as_slice(), came),
         None => came.push_slice(b"not well formed"),
     }
+}
+
+fn push_same(same: bool, came: &mut Text) -> Result<(), NoMemory> {
+    came.push_slice(if same { b"as due" } else { b"other bytes" })
 }

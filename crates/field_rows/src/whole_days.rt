@@ -3,7 +3,7 @@ ghost use Rattle.std.specs.Prelude.{◌≡◌, ◌≤◌, ◌-ℤ◌, pos, All, 
 ghost use Rattle.fixed_units.specs.Quantities.{IsDischarge, IsStage, IsStamp};
 ghost use Rattle.readings.specs.Readings.{IsRising};
 
-use crate::day_given::{Frame, behind, frame_of};
+use crate::day_given::{behind, frame_of};
 use crate::day_rules::{are_rising, are_stages, are_stamps, is_estimate};
 use crate::notation::Stop;
 use crate::reading_lists::reading_list;
@@ -17,15 +17,23 @@ use std::alloc::Global;
 /// The value of the day of a text.
 pub fn from_all(alloc: Global, text: &str) -> Result<DayValue, Stop> {
     let frame = frame_of(text)?;
+    let estimate: Option<Micro> = frame.estimate;
     let readings = reading_list(alloc, frame.from.get(), behind(text, "readings=", ""))?;
-    from_readings(alloc, frame, readings.as_slice())
+    from_readings(alloc, text, readings.as_slice(), estimate)
 }
 
-fn from_readings(alloc: Global, frame: Frame, readings: &[Reading]) -> Result<DayValue, Stop> {
+/// The value of the day of a text from these readings.
+fn from_readings(
+    alloc: Global,
+    text: &str,
+    readings: &[Reading],
+    estimate: Option<Micro>,
+) -> Result<DayValue, Stop> {
+    let frame = frame_of(text)?;
     if !are_rising(readings) || !are_stages(readings) || !are_stamps(readings) {
         return Err(Stop::NotWellFormed);
     }
-    if frame.gap < 1 || frame.gap > 720 || !is_estimate(frame.estimate) {
+    if frame.gap < 1 || frame.gap > 720 || !is_estimate(estimate) {
         return Err(Stop::NotWellFormed);
     }
     let length = frame.until.get() - frame.from.get();
@@ -38,7 +46,7 @@ fn from_readings(alloc: Global, frame: Frame, readings: &[Reading]) -> Result<Da
         frame.from,
         frame.until,
         readings,
-        frame.estimate,
+        estimate,
     )?)
 }
 

@@ -8,7 +8,7 @@ use Rattle.commands.proofs.runs.make_journal.Goals as goal
 
 pub keep-requires : goal.keep-requires
 keep-requires g c =
-    taken_out _ _ _ _ _ _ c.in-Disk.ensures.opened
+    (c.type_bounds.static-C-Disk, taken_out _ _ _ _ _ _ c.in-Disk.ensures.opened)
 
 pub returns-in-Disk-clause-makes : goal.returns-in-Disk-clause-makes
 returns-in-Disk-clause-makes g c =

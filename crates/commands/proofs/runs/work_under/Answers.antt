@@ -6,7 +6,7 @@ use Rattle.commands.proofs.runs.work_under.Goals as goal
 
 pub keep-requires : goal.keep-requires
 keep-requires g c =
-    taken_out _ _ _ _ _ _ c.in-Disk.ensures.opened
+    (c.type_bounds.static-C-Disk, taken_out _ _ _ _ _ _ c.in-Disk.ensures.opened)
 
 pub returns-in-Disk-clause-serves : goal.returns-in-Disk-clause-serves
 returns-in-Disk-clause-serves g c =

@@ -149,7 +149,7 @@ returns-in-Err-NoMemory-clause-init g c = λ name is. record {
 
 pub returns-in-Err-NoMemory-clause-batch : goal.returns-in-Err-NoMemory-clause-batch
 returns-in-Err-NoMemory-clause-batch g c = λ name is.
-    let only = g.met.C.Disk.Disk.only_now in
+    let only = (g.met.C.Disk.Disk g.world.𝓛 g.world.𝓜 g.world.𝓡 ((λ s x. x), (λ x. x), (λ x. x), λ x. x)).only_now in
     record {
       end = ends.NoMemory;
       status_is = c.finish-in-Err-NoMemory.ensures.status;
@@ -161,7 +161,7 @@ returns-in-Err-NoMemory-clause-batch g c = λ name is.
 
 pub returns-in-Err-NoMemory-clause-stations : goal.returns-in-Err-NoMemory-clause-stations
 returns-in-Err-NoMemory-clause-stations g c = λ name is.
-    let only = g.met.C.Disk.Disk.only_now in
+    let only = (g.met.C.Disk.Disk g.world.𝓛 g.world.𝓜 g.world.𝓡 ((λ s x. x), (λ x. x), (λ x. x), λ x. x)).only_now in
     record {
       end = ends.NoMemory;
       status_is = c.finish-in-Err-NoMemory.ensures.status;

@@ -30,21 +30,41 @@ impl Bench for Readmissions {
     ) -> Result<(), NoMemory> {
         let (_, names) = parted(act);
         let (first, second) = parted(names);
-        match (record(alloc, book, first), record(alloc, book, second)) {
-            (Some(first), Some(second)) => readmit(alloc, first, second, came),
-            _ => came.push_slice(b"not well formed"),
+        match record(alloc, book, first) {
+            Some(first) => tell_with(alloc, first, book, second, came),
+            None => came.push_slice(b"not well formed"),
         }
     }
 }
 
-fn readmit(alloc: Global, first: Record, second: Record, came: &mut Text) -> Result<(), NoMemory> {
+fn tell_with(
+    alloc: Global,
+    first: Record,
+    book: &str,
+    second: &str,
+    came: &mut Text,
+) -> Result<(), NoMemory> {
+    match record(alloc, book, second) {
+        Some(second) => tell(readmitted(alloc, first, second), came),
+        None => came.push_slice(b"not well formed"),
+    }
+}
+
+/// What is said to two records, and with how many edits an office is opened then.
+type Said = (Result<(), NotReadmitted>, Result<(), NotReadmitted>, u64);
+
+fn readmitted(alloc: Global, first: Record, second: Record) -> Said {
     let mut register = Register::new(alloc, Limits::usual());
     let said = register.readmit(first);
     let next = register.readmit(second);
-    push_said(said, came)?;
+    (said, next, register.opened())
+}
+
+fn tell(said: Said, came: &mut Text) -> Result<(), NoMemory> {
+    push_said(said.0, came)?;
     came.push_slice(b", ")?;
-    push_said(next, came)?;
-    push_number_behind(b", edits ", register.opened(), came)
+    push_said(said.1, came)?;
+    push_number_behind(b", edits ", said.2, came)
 }
 
 fn push_said(said: Result<(), NotReadmitted>, came: &mut Text) -> Result<(), NoMemory> {

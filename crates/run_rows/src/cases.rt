@@ -1,7 +1,8 @@
 //! The rows of a file played, and whether each came out as due.
 
+use crate::flaws::flawed_line;
 use crate::objects::{Ran, cabinet_of, ran_over};
-use crate::rows::{asked_in, says, told, unknown_line};
+use crate::rows::{asked_in, says, told};
 use crate::streams::{Side, push_stream};
 use crate::texts::{At, push_bytes, push_shown, push_text};
 use devices::MemoryCabinet;
@@ -43,9 +44,9 @@ impl Room {
 
 /// Plays each row of a file.
 pub fn play_cases<'a>(alloc: Global, file: &'a str, room: &mut Room) -> Ended<'a> {
-    let unknown = unknown_line(file);
-    if !unknown.is_empty() {
-        return Ended::Otherwise(unknown, "a line is");
+    let flawed = flawed_line(file);
+    if !flawed.is_empty() {
+        return Ended::Otherwise(flawed, "a line is");
     }
     for row in file.split("\n==").skip(1) {
         match play_case(alloc, file, row, room) {
@@ -77,16 +78,26 @@ fn play_case(
     }
 }
 
-/// What a row lacks. One in which calls of the disk fail must tell what the disk has then, which is seldom what it had.
+/// What a row lacks. One in which calls of the disk fail must tell what the disk has then, which is seldom what it had, and one in which any
+/// call fails how many faults the cabinet counts.
 fn flaw_of(row: &str) -> &'static str {
     if !row.contains("\nrun") {
-        return "without a run, it is";
-    }
-    if told(row, "fail disk ").is_empty() || !told(row, "left ").is_empty() {
-        ""
+        "without a run, it is"
+    } else if row.contains("\nfail disk") && !has_disk(row) {
+        "without a journal and what is left, it is"
+    } else if fails(row) && told(row, "faults ").is_empty() {
+        "without the count of faults, it is"
     } else {
-        "without what is left, it is"
+        ""
     }
+}
+
+fn has_disk(row: &str) -> bool {
+    !told(row, "journal ").is_empty() && !told(row, "left ").is_empty()
+}
+
+fn fails(row: &str) -> bool {
+    row.contains("\nfail disk") || row.contains("\nfail cabinet")
 }
 
 /// What of the runs over a cabinet is not as due.

@@ -1,9 +1,10 @@
-//! The rows of a file, by their lines. A line begins with a word:
+//! The rows of a file, by their lines. A file begins with a line that is none of a row; `flaws` finds the lines that say nothing where
+//! they stand. A line begins with a word:
 //!
 //! - `#` says something to the reader; `text NAME TEXT` and `let NAME DIGITS` name what stands in more than one row.
 //! - `== NAME` begins a row: a cabinet, and the runs over it, one behind another.
 //! - `journal BYTES` is what stands under `J` before; without it nothing does. `fail cabinet N ..` and `fail disk N ..` are the calls of the
-//!   cabinet and of that disk that fail, counted from 1.
+//!   cabinet and of that disk that fail, counted from 1; such a row tells the count of faults.
 //! - `run WORDS` begins a run by these words; `''` is a word without letters. `fail input N ..`, `fail output N ..` and `fail faults N ..` are
 //!   the calls of its streams that fail, and `piece N` the most bytes that one of them moves.
 //! - `> METHOD TARGET TEXT` is a request with that body, and `>> TEXT` are bytes of the input; `>>N TEXT` are so many times those bytes.
@@ -16,10 +17,6 @@
 //!   fails. `calls N` is how many calls the disk had, where that is told, and `faults N` what the cabinet counts; without it that is 0.
 //!
 //! `texts` says what a TEXT and BYTES are.
-
-/// The words with which lines begin, but for those of requests and replies.
-const WORDS: &str =
-    "# == text let journal fail run piece repeat told status unread left calls faults";
 
 /// What stands behind the first line that begins so; nothing where none does.
 pub fn told<'a>(row: &'a str, begin: &str) -> &'a str {
@@ -55,27 +52,4 @@ pub fn asked_in(file: &str) -> u64 {
         }
     }
     asked
-}
-
-/// The first line of a file that is none of a row; an empty text where there is none.
-pub fn unknown_line(file: &str) -> &str {
-    for line in file.lines() {
-        if !is_known(line) {
-            return line;
-        }
-    }
-    ""
-}
-
-fn is_known(line: &str) -> bool {
-    line.is_empty() || line.starts_with('>') || line.starts_with('<') || is_word(parted(line).0)
-}
-
-fn is_word(word: &str) -> bool {
-    for known in WORDS.split(' ') {
-        if word == known {
-            return true;
-        }
-    }
-    false
 }

@@ -124,7 +124,7 @@ fn push_reply(at: At<'_>, reply: &str, body: &mut Text, out: &mut Text) -> Resul
 
 fn status_line(status: &str) -> &str {
     for line in STATUSES.lines() {
-        if line.starts_with(status) {
+        if parted(line).0 == status {
             return line;
         }
     }

@@ -124,7 +124,7 @@ fn escaped(text: &[u8]) -> (u8, &[u8]) {
 }
 
 /// What the file names so; an empty text where it does not.
-fn named<'a>(file: &'a str, kind: &str, name: &str) -> &'a str {
+pub fn named<'a>(file: &'a str, kind: &str, name: &str) -> &'a str {
     for line in file.lines() {
         if let Some(rest) = line.strip_prefix(kind) {
             let (word, value) = parted(rest);

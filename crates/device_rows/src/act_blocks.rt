@@ -37,11 +37,13 @@ fn play_block<'a>(
 
 fn first_wrong<'a>(block: &'a str, came: &str) -> Option<&'a str> {
     let mut told = came.lines();
-    for line in block.lines() {
+    for line in block.lines().skip(1) {
         if let Some((_, due)) = line.split_once(" -> ") {
             if told.next() != Some(due) {
                 return Some(line);
             }
+        } else if !is_given(line) {
+            return Some(line);
         }
     }
     if told.next().is_none() {
@@ -49,6 +51,15 @@ fn first_wrong<'a>(block: &'a str, came: &str) -> Option<&'a str> {
     } else {
         Some(block)
     }
+}
+
+/// Whether a line says what is given, or nothing.
+fn is_given(line: &str) -> bool {
+    line.is_empty()
+        || line.starts_with('#')
+        || line.starts_with("disk ")
+        || line.starts_with("failing ")
+        || line.starts_with("limit ")
 }
 
 fn count(block: &str) -> u64 {

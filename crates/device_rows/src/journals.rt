@@ -6,6 +6,10 @@ use crate::reads::{count, push_fault, push_found, read_some};
 use crate::written::push_record;
 use devices::MemoryDisk;
 use fixed_units::{NoMemory, Text};
+use journal::laws::{
+    begun_is_made_anew, damaged_at_one_gate, empty_journal_has_no_records, no_journal_is_damaged,
+    nothing_else_has_the_header, one_record_more, stands_for_one_list,
+};
 use journal::{InitFault, OpenFault, Opening, init, open};
 use row_lines::parted;
 use std::alloc::Global;
@@ -18,8 +22,21 @@ pub fn answer(alloc: Global, word: &str, rest: &str, came: &mut Text) -> Result<
         "open" => open_failing(alloc, rest, came),
         "reads" => reads(alloc, rest, came),
         "written" => push_record(alloc, rest, came),
+        "laws" => laws(came),
         _ => came.push_slice(b"no such call"),
     }
+}
+
+/// `laws`: calls the laws of what a journal is, of which a call does nothing: what they say is for proofs.
+fn laws(came: &mut Text) -> Result<(), NoMemory> {
+    stands_for_one_list();
+    no_journal_is_damaged();
+    damaged_at_one_gate();
+    nothing_else_has_the_header();
+    one_record_more();
+    empty_journal_has_no_records();
+    begun_is_made_anew();
+    came.push_slice(b"called")
 }
 
 /// `make FAILING COUNT BYTES`: what comes of so many makings of a journal over a disk, and its bytes then.

@@ -2,7 +2,7 @@
 
 use crate::{appends, cabinets, disks};
 use fixed_units::{NoMemory, Text};
-use row_lines::Ended;
+use row_lines::{Ended, parted};
 use std::alloc::Global;
 
 /// Whether the rows on a subject stand in blocks.
@@ -57,9 +57,7 @@ fn first_wrong<'a>(block: &'a str, came: &str) -> Option<&'a str> {
 fn is_given(line: &str) -> bool {
     line.is_empty()
         || line.starts_with('#')
-        || line.starts_with("disk ")
-        || line.starts_with("failing ")
-        || line.starts_with("limit ")
+        || matches!(parted(line).0, "disk" | "failing" | "limit")
 }
 
 fn count(block: &str) -> u64 {

@@ -190,14 +190,23 @@ impl Cabinet for FileCabinet {
     }
 }
 
-// Takes the file's lock, which goes where the file is closed. Where it may make the file it syncs the folder too, so that
-// the name is there after a stop, also where an earlier call made the file and failed then.
+// Opens a file and takes its lock. Where it may make the file it syncs the folder too, so that the name is there after a
+// stop, also where an earlier call made the file and failed then.
 fn open_file(rt: &HostRuntime, name: &str, make: bool) -> io::Result<File> {
     let file = OpenOptions::new()
         .read(true)
         .write(true)
         .create(make)
         .open(rt, name)?;
+    take_file(&file)?;
+    if make {
+        sync_folder(rt, name)?;
+    }
+    Ok(file)
+}
+
+// Takes the lock of a file that may be a disk. The lock goes where the file is closed.
+fn take_file(file: &File) -> io::Result<()> {
     // It has the number of a standard stream, and would get what is meant for that.
     if file.as_raw_fd() <= 2 {
         return Err(io::Error::from(ErrorKind::Other));
@@ -207,11 +216,7 @@ fn open_file(rt: &HostRuntime, name: &str, make: bool) -> io::Result<File> {
         return Err(io::Error::from(ErrorKind::Other));
     }
     file.try_lock()?;
-    forget_pages(&file)?;
-    if make {
-        sync_folder(rt, name)?;
-    }
-    Ok(file)
+    forget_pages(file)
 }
 
 // Has the system forget what it keeps of a file in memory, so that reads give what is on the disk. A sync that failed

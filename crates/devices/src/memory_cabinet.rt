@@ -1,5 +1,5 @@
 //! A cabinet in memory, which tells what it has under its names, and fails on command.
-ghost use Rattle.std.specs.Prelude.{◌≡◌, ◌≤◌, ℕ, List, nat_lt, false, if◌then◌else◌, OnOk, OnErr, MatchOption, Some};
+ghost use Rattle.std.specs.Prelude.{◌≡◌, ◌≤◌, ℕ, List, nat_lt, false, if◌then◌else◌, OnOk, OnErr, MatchOption, Some, string_bytes};
 ghost use Rattle.devices.specs.Cabinets.{Free, Kept, Out, is_kept, IsAsked, IsFresh, HasCause, Opens, IsKept, IsCounted, OthersStay};
 ghost use Rattle.devices.specs.Failures.{untouched, with_fault};
 ghost use Rattle.devices.specs.MemoryCabinets.{places_of, place_with, OpensPlace, OpensOnCommand};
@@ -105,8 +105,20 @@ fn place(
     ensures others { OthersStay name.now (places_of disks.old) (places_of disks.new) }
     ensures same { OnErr result ((name : List ℕ) → places_of disks.new name ≡ places_of disks.old name) }
 {
-    let key = String::from_str(alloc, name)?;
-    disks.insert(key, disk)?;
+    place_under(disks, String::from_str(alloc, name)?, disk)
+}
+
+// The same under a name of its own.
+fn place_under(
+    disks: &mut BTreeMap<String, Option<MemoryDisk>>,
+    name: String,
+    disk: Option<MemoryDisk>,
+) -> Result<(), AllocError>
+    ensures placed { OnOk result (places_of disks.new (string_bytes name) ≡ place_with disk) }
+    ensures others { OthersStay (string_bytes name) (places_of disks.old) (places_of disks.new) }
+    ensures same { OnErr result ((other : List ℕ) → places_of disks.new other ≡ places_of disks.old other) }
+{
+    disks.insert(name, disk)?;
     Ok(())
 }
 

@@ -54,21 +54,21 @@ front_behind n text first rest front a b same =
 
 -- ---- rows
 
-pub row_two : (at raw text a b c d rest : List ℕ) → text ≡ 91 ∷ a → a ≡ quoted at ++ b → b ≡ 44 ∷ c → c ≡ quoted raw ++ d → d ≡ 93 ∷ rest
+pub row_two : (at raw text a b rest : List ℕ) → text ≡ 91 ∷ (quoted at ++ a) → a ≡ 44 ∷ (quoted raw ++ b) → b ≡ 93 ∷ rest
     → text ≡ row_spelled (at ∷ raw ∷ []) ++ rest
 unfolding print_from
-row_two at raw text a b c d rest e f g h i =
+row_two at raw text a b rest e f g =
     e ∙ ap (λ (l : List ℕ). 91 ∷ l)
-    (f ∙ ap (λ l. quoted at ++ l) (g ∙ ap (λ (l : List ℕ). 44 ∷ l) (h ∙ ap (λ l. quoted raw ++ l) i ∙ sym (append_assoc (quoted raw) (93 ∷ []) rest)))
+    (ap (λ l. quoted at ++ l) (f ∙ ap (λ (l : List ℕ). 44 ∷ l) (ap (λ l. quoted raw ++ l) g ∙ sym (append_assoc (quoted raw) (93 ∷ []) rest)))
     ∙ sym (append_assoc (quoted at) (44 ∷ (quoted raw ++ 93 ∷ [])) rest))
 
-pub row_three : (at raw flag text a b c d f g rest : List ℕ) → text ≡ 91 ∷ a → a ≡ quoted at ++ b → b ≡ 44 ∷ c → c ≡ quoted raw ++ d → d ≡ 44 ∷ f → f ≡ quoted flag ++ g → g ≡ 93 ∷ rest
+pub row_three : (at raw flag text a b c rest : List ℕ) → text ≡ 91 ∷ (quoted at ++ a) → a ≡ 44 ∷ (quoted raw ++ b) → b ≡ 44 ∷ (quoted flag ++ c) → c ≡ 93 ∷ rest
     → text ≡ row_spelled (at ∷ raw ∷ flag ∷ []) ++ rest
 unfolding print_from
-row_three at raw flag text a b c d f g rest e1 e2 e3 e4 e5 e6 e7 =
-    e1 ∙ ap (λ (l : List ℕ). 91 ∷ l)
-    (e2 ∙ ap (λ l. quoted at ++ l) (e3 ∙ ap (λ (l : List ℕ). 44 ∷ l)
-    (e4 ∙ ap (λ l. quoted raw ++ l) (e5 ∙ ap (λ (l : List ℕ). 44 ∷ l) (e6 ∙ ap (λ l. quoted flag ++ l) e7 ∙ sym (append_assoc (quoted flag) (93 ∷ []) rest)))
+row_three at raw flag text a b c rest e f g h =
+    e ∙ ap (λ (l : List ℕ). 91 ∷ l)
+    (ap (λ l. quoted at ++ l) (f ∙ ap (λ (l : List ℕ). 44 ∷ l)
+    (ap (λ l. quoted raw ++ l) (g ∙ ap (λ (l : List ℕ). 44 ∷ l) (ap (λ l. quoted flag ++ l) h ∙ sym (append_assoc (quoted flag) (93 ∷ []) rest)))
     ∙ sym (append_assoc (quoted raw) (44 ∷ (quoted flag ++ 93 ∷ [])) rest)))
     ∙ sym (append_assoc (quoted at) (44 ∷ (quoted raw ++ 44 ∷ (quoted flag ++ 93 ∷ []))) rest))
 
@@ -169,13 +169,13 @@ shallow-review : (sender : Sender) (from to : List ℕ) → depth (review_json s
 shallow-review sender from to = omega arith
 
 -- the text of a review states its value
-pub review_compact : (text a from b c to end : List ℕ) (sender : Sender)
-    → text ≡ sender_spelled sender (codes ",\"from\":" ++ a) → a ≡ quoted from ++ b → b ≡ codes ",\"to\":" ++ c → c ≡ quoted to ++ end → end ≡ 125 ∷ []
+pub review_compact : (text a from b to end : List ℕ) (sender : Sender)
+    → text ≡ sender_spelled sender a → a ≡ codes ",\"from\":" ++ (quoted from ++ b) → b ≡ codes ",\"to\":" ++ (quoted to ++ end) → end ≡ 125 ∷ []
     → read (codes "{\"kind\":\"Review\",\"by\":" ++ text) ≡ Some (data_of (review_json sender from to))
-review_compact text a from b c to end sender e f g h i =
+review_compact text a from b to end sender e f g h =
     let whole : codes "{\"kind\":\"Review\",\"by\":" ++ text ≡ print (json_tokens (review_json sender from to)) =
     ap (λ l. codes "{\"kind\":\"Review\",\"by\":" ++ l)
-    (e ∙ ap (λ l. sender_spelled sender (codes ",\"from\":" ++ l)) (f ∙ ap (λ l. quoted from ++ l) (g ∙ ap (λ l. codes ",\"to\":" ++ l) (h ∙ ap (λ l. quoted to ++ l) i))))
+    (e ∙ ap (sender_spelled sender) (f ∙ ap (λ l. codes ",\"from\":" ++ (quoted from ++ l)) (g ∙ ap (λ l. codes ",\"to\":" ++ (quoted to ++ l)) h)))
     ∙ review-printed sender from to in
     let printable = ArePrintable-json_tokens (review_json sender from to) (tt, (tt, (tt, (tt, (tt, (tt, tt)))))) in
     read-tokens _ (review_json sender from to) (shallow-review sender from to) (ap tokens whole ∙ tokens-print (json_tokens (review_json sender from to)) printable)

@@ -36,6 +36,27 @@ kind_of_text text =
 abbrev pub kind_of : Data → Option Kind
 kind_of value = string_of kind_of_text value
 
+-- the name of a kind
+abbrev pub name_of_kind : Kind → List ℕ
+name_of_kind kinds.AddStation = codes "AddStation"
+name_of_kind kinds.SetStation = codes "SetStation"
+name_of_kind kinds.PutReadings = codes "PutReadings"
+name_of_kind kinds.DropReadings = codes "DropReadings"
+name_of_kind kinds.FlagReadings = codes "FlagReadings"
+name_of_kind kinds.PutCorrection = codes "PutCorrection"
+name_of_kind kinds.DropCorrection = codes "DropCorrection"
+name_of_kind kinds.PutShift = codes "PutShift"
+name_of_kind kinds.DropShift = codes "DropShift"
+name_of_kind kinds.AddRating = codes "AddRating"
+name_of_kind kinds.PutPeriod = codes "PutPeriod"
+name_of_kind kinds.DropPeriod = codes "DropPeriod"
+name_of_kind kinds.PutEstimate = codes "PutEstimate"
+name_of_kind kinds.DropEstimate = codes "DropEstimate"
+name_of_kind kinds.PutMeasurement = codes "PutMeasurement"
+name_of_kind kinds.DropMeasurement = codes "DropMeasurement"
+name_of_kind kinds.Review = codes "Review"
+name_of_kind kinds.Decide = codes "Decide"
+
 -- the members of each kind
 abbrev pub row : Kind → Reader What
 row kinds.AddStation = do

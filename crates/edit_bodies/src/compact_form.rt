@@ -50,8 +50,8 @@ fn review_behind(text: &str) -> Option<Edit>
     ensures { IfSome result (λ edit. edit_of_value (read (codes "{\"kind\":\"Review\",\"by\":" ++ text.now)) ≡ Ok (parts edit)) }
 {
     let (sender, rest) = sender_in(text)?;
-    let (from, rest) = quoted_in(behind(rest, ",\"from\":")?)?;
-    let (to, rest) = quoted_in(behind(rest, ",\"to\":")?)?;
+    let (from, rest) = quoted_behind(rest, ",\"from\":")?;
+    let (to, rest) = quoted_behind(rest, ",\"to\":")?;
     if is_closed(rest) {
         review_of(&sender, from, to)
     } else {
@@ -71,8 +71,8 @@ fn sender_in<'a>(text: &'a str) -> Option<(Sender<'a>, &'a str)>
     ensures { IfSome result (λ found. text.now ≡ sender_spelled found.0 found.1.now) }
 {
     let (by, rest) = quoted_in(text)?;
-    let (reference, rest) = quoted_in(behind(rest, ",\"ref\":")?)?;
-    let (site, rest) = quoted_in(behind(rest, ",\"site\":")?)?;
+    let (reference, rest) = quoted_behind(rest, ",\"ref\":")?;
+    let (site, rest) = quoted_behind(rest, ",\"site\":")?;
     let sender = Sender {
         by,
         reference,
@@ -124,8 +124,8 @@ fn row_in<'a>(text: &'a str) -> Option<(Row<'a>, &'a str)>
     ensures spelled { IfSome result (λ found. text.now ≡ row_spelled (row_texts found.0) ++ found.1.now) }
     ensures shorter { IfSome result (λ found. length found.1.now < length text.now) }
 {
-    let (at, rest) = quoted_in(behind_byte(text, b'[')?)?;
-    let (raw, rest) = quoted_in(behind_byte(rest, b',')?)?;
+    let (at, rest) = quoted_behind_byte(text, b'[')?;
+    let (raw, rest) = quoted_behind_byte(rest, b',')?;
     if let Some(rest) = behind_byte(rest, b']') {
         let row = Row {
             at,
@@ -134,7 +134,7 @@ fn row_in<'a>(text: &'a str) -> Option<(Row<'a>, &'a str)>
         };
         return Some((row, rest));
     }
-    let (flag, rest) = quoted_in(behind_byte(rest, b',')?)?;
+    let (flag, rest) = quoted_behind_byte(rest, b',')?;
     let rest = behind_byte(rest, b']')?;
     let row = Row {
         at,
@@ -142,6 +142,23 @@ fn row_in<'a>(text: &'a str) -> Option<(Row<'a>, &'a str)>
         flag: Some(flag),
     };
     Some((row, rest))
+}
+
+/// The string in quotes behind a byte, where that stands at the front, and what is behind the string.
+#[inline(always)]
+fn quoted_behind_byte<'a>(text: &'a str, byte: u8) -> Option<(&'a str, &'a str)>
+    ensures spelled { IfSome result (λ found. text.now ≡ byte ∷ (quoted found.0.now ++ found.1.now)) }
+    ensures shorter { IfSome result (λ found. length found.1.now < length text.now) }
+{
+    quoted_in(behind_byte(text, byte)?)
+}
+
+/// The string in quotes behind these bytes, where they stand at the front, and what is behind the string.
+#[inline(always)]
+fn quoted_behind<'a>(text: &'a str, front: &str) -> Option<(&'a str, &'a str)>
+    ensures { IfSome result (λ found. text.now ≡ front.now ++ (quoted found.0.now ++ found.1.now)) }
+{
+    quoted_in(behind(text, front)?)
 }
 
 /// The string in quotes at the front, where it has no escape, and what is behind it.

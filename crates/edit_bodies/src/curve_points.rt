@@ -2,10 +2,11 @@
 
 ghost use Rattle.std.specs.Prelude.{◌≡◌, IfOk, option_and_then};
 ghost use Rattle.edit_bodies.specs.Answers.{IsTaken};
-ghost use Rattle.edit_bodies.specs.Grammars.{curve_if, point_of, points_of};
+ghost use Rattle.edit_bodies.specs.Grammars.{curve_if, each_of, point_of, points_of};
 ghost use Rattle.edit_bodies.specs.Members.{member_text, required};
 ghost use Rattle.edit_bodies.specs.Trees.{left, stated};
 ghost use Rattle.edits.specs.Lawful.{IsPutCurve};
+ghost use Rattle.serde_json.specs.Data.{item, no_items};
 ghost use Rattle.serde_json.specs.Find.{get_member};
 
 use crate::faults::BodyFault;
@@ -38,12 +39,24 @@ fn curve_in(rows: &Value<'_>) -> Option<Curve>
 {
     match items_in(rows)? {
         [first] => curve_of(&[point_in(first)?]),
-        [first, second] => curve_of(&[point_in(first)?, point_in(second)?]),
-        [first, second, third] => {
-            curve_of(&[point_in(first)?, point_in(second)?, point_in(third)?])
-        }
+        [first, second] => curve_in_two(first, second),
+        [first, second, third] => curve_in_three(first, second, third),
         _ => None,
     }
+}
+
+/// The curve whose two points these rows state.
+fn curve_in_two(first: &Value<'_>, second: &Value<'_>) -> Option<Curve>
+    ensures { result ≡ option_and_then curve_if (each_of point_of (item (stated first.now) (item (stated second.now) no_items))) }
+{
+    curve_of(&[point_in(first)?, point_in(second)?])
+}
+
+/// The curve whose three points these rows state.
+fn curve_in_three(first: &Value<'_>, second: &Value<'_>, third: &Value<'_>) -> Option<Curve>
+    ensures { result ≡ option_and_then curve_if (each_of point_of (item (stated first.now) (item (stated second.now) (item (stated third.now) no_items)))) }
+{
+    curve_of(&[point_in(first)?, point_in(second)?, point_in(third)?])
 }
 
 /// The curve of these points, or `None` exactly where they are none.

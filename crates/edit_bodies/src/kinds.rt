@@ -1,8 +1,8 @@
 //! The kinds of edits, and what an edit of each kind changes by the members of its body.
 
-ghost use Rattle.std.specs.Prelude.{◌≡◌, IfOk};
+ghost use Rattle.std.specs.Prelude.{◌≡◌, IfOk, bytes_eq, find};
 ghost use Rattle.edit_bodies.specs.Answers.{IsTaken};
-ghost use Rattle.edit_bodies.specs.Kinds.{kind_of, kind_of_text, row};
+ghost use Rattle.edit_bodies.specs.Kinds.{kind_of, kind_of_text, name_of_kind, row};
 ghost use Rattle.edit_bodies.specs.Members.{required};
 ghost use Rattle.edits.specs.Lawful.{IsLawful};
 
@@ -24,7 +24,7 @@ use ratings::Period;
 use std::alloc::Global;
 
 /// The kind of an edit.
-#[derive(Clone, Copy, Debug, PartialEq, Eq)]
+#[derive(Clone, Copy, PartialEq, Eq)]
 pub enum Kind {
     /// Adds a station.
     AddStation,
@@ -64,6 +64,56 @@ pub enum Kind {
     Decide,
 }
 
+impl Kind {
+    /// The name of the kind, as a body has it.
+    fn name(&self) -> &'static [u8]
+        ensures { result.now ≡ name_of_kind self.now }
+    {
+        match self {
+            Kind::AddStation => b"AddStation",
+            Kind::SetStation => b"SetStation",
+            Kind::PutReadings => b"PutReadings",
+            Kind::DropReadings => b"DropReadings",
+            Kind::FlagReadings => b"FlagReadings",
+            Kind::PutCorrection => b"PutCorrection",
+            Kind::DropCorrection => b"DropCorrection",
+            Kind::PutShift => b"PutShift",
+            Kind::DropShift => b"DropShift",
+            Kind::AddRating => b"AddRating",
+            Kind::PutPeriod => b"PutPeriod",
+            Kind::DropPeriod => b"DropPeriod",
+            Kind::PutEstimate => b"PutEstimate",
+            Kind::DropEstimate => b"DropEstimate",
+            Kind::PutMeasurement => b"PutMeasurement",
+            Kind::DropMeasurement => b"DropMeasurement",
+            Kind::Review => b"Review",
+            Kind::Decide => b"Decide",
+        }
+    }
+}
+
+/// The kinds of edits.
+const KINDS: [Kind; 18] = [
+    Kind::AddStation,
+    Kind::SetStation,
+    Kind::PutReadings,
+    Kind::DropReadings,
+    Kind::FlagReadings,
+    Kind::PutCorrection,
+    Kind::DropCorrection,
+    Kind::PutShift,
+    Kind::DropShift,
+    Kind::AddRating,
+    Kind::PutPeriod,
+    Kind::DropPeriod,
+    Kind::PutEstimate,
+    Kind::DropEstimate,
+    Kind::PutMeasurement,
+    Kind::DropMeasurement,
+    Kind::Review,
+    Kind::Decide,
+];
+
 /// Takes the kind out of the members.
 pub(crate) fn take_kind(fields: &mut Fields<'_>) -> Result<Kind, BodyFault>
     ensures { IsTaken (required Member.Kind kind_of) fields.old result fields.new }
@@ -76,45 +126,14 @@ pub(crate) fn take_kind(fields: &mut Fields<'_>) -> Result<Kind, BodyFault>
 fn kind_named(text: &[u8]) -> Option<Kind>
     ensures { result ≡ kind_of_text text.now }
 {
-    if text == b"AddStation".as_slice() {
-        Some(Kind::AddStation)
-    } else if text == b"SetStation".as_slice() {
-        Some(Kind::SetStation)
-    } else if text == b"PutReadings".as_slice() {
-        Some(Kind::PutReadings)
-    } else if text == b"DropReadings".as_slice() {
-        Some(Kind::DropReadings)
-    } else if text == b"FlagReadings".as_slice() {
-        Some(Kind::FlagReadings)
-    } else if text == b"PutCorrection".as_slice() {
-        Some(Kind::PutCorrection)
-    } else if text == b"DropCorrection".as_slice() {
-        Some(Kind::DropCorrection)
-    } else if text == b"PutShift".as_slice() {
-        Some(Kind::PutShift)
-    } else if text == b"DropShift".as_slice() {
-        Some(Kind::DropShift)
-    } else if text == b"AddRating".as_slice() {
-        Some(Kind::AddRating)
-    } else if text == b"PutPeriod".as_slice() {
-        Some(Kind::PutPeriod)
-    } else if text == b"DropPeriod".as_slice() {
-        Some(Kind::DropPeriod)
-    } else if text == b"PutEstimate".as_slice() {
-        Some(Kind::PutEstimate)
-    } else if text == b"DropEstimate".as_slice() {
-        Some(Kind::DropEstimate)
-    } else if text == b"PutMeasurement".as_slice() {
-        Some(Kind::PutMeasurement)
-    } else if text == b"DropMeasurement".as_slice() {
-        Some(Kind::DropMeasurement)
-    } else if text == b"Review".as_slice() {
-        Some(Kind::Review)
-    } else if text == b"Decide".as_slice() {
-        Some(Kind::Decide)
-    } else {
-        None
-    }
+    first_named(text, &KINDS)
+}
+
+/// The first of these kinds that has that name.
+fn first_named(text: &[u8], kinds: &[Kind]) -> Option<Kind>
+    ensures { result ≡ find (λ kind. bytes_eq text.now (name_of_kind kind)) kinds.now }
+{
+    kinds.iter().copied().find(|kind| text == kind.name())
 }
 
 /// What an edit of that kind changes, by its members, which are taken out.

@@ -149,7 +149,7 @@ pub enum What {
 }
 
 /// An edit of the record.
-#[derive(Debug, Drop)]
+#[derive(Debug)]
 pub struct Edit {
     /// Who makes it.
     pub by: By,
@@ -160,4 +160,16 @@ pub struct Edit {
     /// What it changes.
     pub what: What,
     ghost lawful: { IsLawful what } by { IsLawful-prop what },
+}
+
+/// By hand, so that a drop is one call wherever an edit is dropped, and not one path for each kind of edit.
+impl Drop for Edit {
+    fn drop(self) {
+        let Edit {
+            by: _,
+            reference: _,
+            site: _,
+            what: _what,
+        } = self;
+    }
 }

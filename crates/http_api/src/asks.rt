@@ -17,7 +17,7 @@ use thiserror::Error;
 use wire::Verb;
 
 /// What is asked of the office.
-#[derive(Debug, Drop)]
+#[derive(Drop)]
 pub enum Ask {
     /// To accept an edit.
     Edit(Edit),

@@ -11,7 +11,7 @@ use fixed_units::{Day, Micro, NoMemory, Published, Text, write_published};
 use unit_discharge::Unit;
 
 /// What is known of a day.
-#[derive(Clone, Copy, Debug, Drop)]
+#[derive(Clone, Copy, Drop)]
 pub enum DayAnswer<'a> {
     /// It awaits a publication behind this edit.
     Pending(u64),
@@ -20,7 +20,7 @@ pub enum DayAnswer<'a> {
 }
 
 /// What is replied of a day.
-#[derive(Debug, Drop)]
+#[derive(Drop)]
 pub struct DayReply<'a> {
     /// The day.
     pub day: Day,

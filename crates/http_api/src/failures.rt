@@ -14,7 +14,7 @@ use std::marker::Model;
 use wire::Verb;
 
 /// What a failure tells beside its code.
-#[derive(Clone, Copy, Debug, PartialEq, Eq)]
+#[derive(Clone, Copy, PartialEq, Eq)]
 pub(crate) enum Detail {
     /// Nothing.
     Nothing,
@@ -39,7 +39,7 @@ pub(crate) enum Detail {
 }
 
 /// A failure: contracts see its row.
-#[derive(Debug, Drop)]
+#[derive(Drop)]
 pub(crate) struct Failure {
     /// The status of the reply.
     pub(crate) status: u16,

@@ -18,7 +18,7 @@ use std::alloc::Global;
 use wire::{Kind, MALFORMED_REPLY, NO_MEMORY_REPLY, Verb, write_head};
 
 /// What is replied to a message.
-#[derive(Debug, Drop)]
+#[derive(Drop)]
 pub enum Reply<'a> {
     /// An edit was accepted.
     Edit {

@@ -18,7 +18,7 @@ use std::marker::Model;
 use wire::Verb;
 
 /// A kind of targets that are spelled alike.
-#[derive(Clone, Copy, Debug, PartialEq, Eq)]
+#[derive(Clone, Copy, PartialEq, Eq)]
 pub(crate) enum Route {
     /// The edits.
     Edits,
@@ -43,7 +43,7 @@ pub(crate) enum Route {
 }
 
 /// What a target names.
-#[derive(Debug, Drop)]
+#[derive(Drop)]
 pub(crate) enum Target {
     /// The edits.
     Edits,

@@ -16,7 +16,7 @@ use fixed_units::{Day, NoMemory, Published, Text, write_published};
 use std::alloc::Global;
 
 /// What stands in the columns of a day's answer.
-#[derive(Clone, Copy, Debug)]
+#[derive(Clone, Copy)]
 struct Columns<'a> {
     /// What is answered.
     answer: &'a [u8],
@@ -31,7 +31,7 @@ struct Columns<'a> {
 }
 
 /// The texts that the fields of a row are lent from, one row after another.
-#[derive(Debug, Drop)]
+#[derive(Drop)]
 struct RowTexts {
     day: Text,
     edit: Text,

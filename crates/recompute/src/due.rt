@@ -57,7 +57,19 @@ impl Cells {
         ensures value { result ≡ Publish.Published → done.value ≡ day_value (inputs_of_day (in_force inputs.now) done.job.site done.job.day) }
         ensures others { result ≢ Publish.Published → self.new ≡ self.old }
     {
-        let job = done.job();
+        let outcome = self.outcome(done.job(), inputs);
+        if let Publish::Published = outcome {
+            self.publish_due(done);
+        }
+        outcome
+    }
+
+    /// What becomes of a job's publication.
+    fn outcome(&self, job: &Job, inputs: &Inputs) -> Publish
+        ensures outcome { result ≡ outcome_of self.now (in_force inputs.now) job.now }
+        ensures awaits { result ≡ Publish.Published → awaited_in self.now job.now.site job.now.day ≡ Some job.now.awaits }
+        ensures inputs { result ≡ Publish.Published → job.now.inputs ≡ inputs_of_day (in_force inputs.now) job.now.site job.now.day }
+    {
         let site = job.site();
         let day = job.day();
         let Some(edit) = self.awaited(site, day) else {
@@ -69,7 +81,6 @@ impl Cells {
         if !inputs.is_day_inputs(site, day, job.inputs()) {
             return Publish::Foreign;
         }
-        self.publish_due(done);
         Publish::Published
     }
 

@@ -8,7 +8,7 @@ ghost use Rattle.fixed_units.specs.Quantities.{IsStamp};
 use arrayvec::ArrayVec;
 use curves::Curve;
 use edits::{What, is_put_curve};
-use fixed_units::{Micro, Second, is_stamp};
+use fixed_units::{Micro, Second, is_amount, is_stage, is_stamp};
 
 /// An entry of a correction set or of the shifts as it stands in a payload: its instant, the stage and the amount of each
 /// point, and whether it prorates.
@@ -92,20 +92,43 @@ fn curve_of(points: &[(i64, i64)]) -> Option<Curve>
     ensures some { IfSome result (λ curve. curve ≡ points.now) }
     ensures none { IfNone result (¬ IsPutCurve points.now) }
 {
+    if !are_places(points) {
+        return None;
+    }
     match points {
-        [first] => Curve::new(&[place(first)?]).ok(),
-        [first, second] => Curve::new(&[place(first)?, place(second)?]).ok(),
-        [first, second, third] => {
-            Curve::new(&[place(first)?, place(second)?, place(third)?]).ok()
-        }
+        [first] => curve_through(&[place(first)]),
+        [first, second] => curve_through(&[place(first), place(second)]),
+        [first, second, third] => curve_through(&[place(first), place(second), place(third)]),
         _ => None,
     }
 }
 
-/// The point of this stage and this amount, or `None` only where it may not be put.
-fn place(point: &(i64, i64)) -> Option<(Micro, Micro)>
-    ensures some { IfSome result (λ place. place ≡ point.now) }
-    ensures none { IfNone result (¬ IsPutPoint point.now) }
+/// The curve through these places, or `None` only where it may not be put.
+fn curve_through(places: &[(Micro, Micro)]) -> Option<Curve>
+    ensures some { IfSome result (λ curve. curve ≡ places.now) }
+    ensures none { IfNone result (¬ IsPutCurve places.now) }
 {
-    Some((Micro::new(point.0)?, Micro::new(point.1)?))
+    Curve::new(places).ok()
+}
+
+/// Whether a curve that may be put has each of these points.
+fn are_places(points: &[(i64, i64)]) -> bool
+    ensures { result ≡ true ↔ All IsPutPoint points.now }
+{
+    points.iter().all(is_place)
+}
+
+/// Whether a curve that may be put has such a point.
+fn is_place(point: &(i64, i64)) -> bool
+    ensures { result ≡ true ↔ IsPutPoint point.now }
+{
+    is_stage(point.0) && is_amount(point.1)
+}
+
+/// The point of this stage and this amount.
+fn place(point: &(i64, i64)) -> (Micro, Micro)
+    requires { IsPutPoint point.now }
+    ensures { result ≡ point.now }
+{
+    (Micro::of_millionths(point.0), Micro::of_millionths(point.1))
 }

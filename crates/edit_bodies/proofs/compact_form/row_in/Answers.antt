@@ -3,10 +3,10 @@ use Rattle.edit_bodies.proofs.compact_form.row_in.Goals as goal
 
 pub returns-in-Some-clause-spelled : goal.returns-in-Some-clause-spelled
 returns-in-Some-clause-spelled c =
-    row_two c.in_ok-at.at.now c.in_ok-raw.raw.now c.args.text.now c.in_ok-behind_byte.field-0.now c.in_ok-at.rest.now c.in_ok-behind_byte-2.field-0.now c.in_ok-raw.rest.now c.in-Some.rest.now
-    c.in_ok-behind_byte.ensures.parts c.in_ok-at.ensures.spelled c.in_ok-behind_byte-2.ensures.parts c.in_ok-raw.ensures.spelled c.in-Some.ensures.parts
+    row_two c.in_ok-at.at.now c.in_ok-raw.raw.now c.args.text.now c.in_ok-at.rest.now c.in_ok-raw.rest.now c.in-Some.rest.now
+    c.in_ok-at.ensures.spelled c.in_ok-raw.ensures.spelled c.in-Some.ensures.parts
 
 pub returns-clause-spelled : goal.returns-clause-spelled
 returns-clause-spelled c =
-    row_three c.in_ok-at.at.now c.in_ok-raw.raw.now c.in_ok-flag.flag.now c.args.text.now c.in_ok-behind_byte.field-0.now c.in_ok-at.rest.now c.in_ok-behind_byte-2.field-0.now c.in_ok-raw.rest.now c.in_ok-behind_byte-3.field-0.now c.in_ok-flag.rest.now c.in_ok-rest.rest.now
-    c.in_ok-behind_byte.ensures.parts c.in_ok-at.ensures.spelled c.in_ok-behind_byte-2.ensures.parts c.in_ok-raw.ensures.spelled c.in_ok-behind_byte-3.ensures.parts c.in_ok-flag.ensures.spelled c.in_ok-rest.ensures.parts
+    row_three c.in_ok-at.at.now c.in_ok-raw.raw.now c.in_ok-flag.flag.now c.args.text.now c.in_ok-at.rest.now c.in_ok-raw.rest.now c.in_ok-flag.rest.now c.in_ok-rest.rest.now
+    c.in_ok-at.ensures.spelled c.in_ok-raw.ensures.spelled c.in_ok-flag.ensures.spelled c.in_ok-rest.ensures.parts

@@ -5,6 +5,4 @@ use Rattle.json.specs.Print.{quoted}
 pub returns : goal.returns
 returns c =
     c.in_ok-by.ensures.spelled ∙ ap (λ l. quoted c.in_ok-by.by.now ++ l)
-    (c.in_ok-behind.ensures.parts ∙ ap (λ l. codes ",\"ref\":" ++ l)
-    (c.in_ok-reference.ensures.spelled ∙ ap (λ l. quoted c.in_ok-reference.reference.now ++ l)
-    (c.in_ok-behind-2.ensures.parts ∙ ap (λ l. codes ",\"site\":" ++ l) c.in_ok-site.ensures.spelled)))
+    (c.in_ok-reference.ensures ∙ ap (λ l. codes ",\"ref\":" ++ (quoted c.in_ok-reference.reference.now ++ l)) c.in_ok-site.ensures)

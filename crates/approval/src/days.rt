@@ -9,7 +9,7 @@ use fixed_units::Day;
 use rising::Keyed;
 
 /// How far the record of a day is approved, and by which edit.
-#[derive(Debug, Drop)]
+#[derive(Drop)]
 pub struct DayStanding {
     /// The day.
     pub day: Day,

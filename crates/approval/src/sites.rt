@@ -20,7 +20,7 @@ use std::marker::Model;
 
 /// The standings of the days of a site that are in review or approved, rising by day. Contracts see the list, and for how many more
 /// there is room beside it.
-#[derive(Debug, Drop)]
+#[derive(Drop)]
 pub struct SiteStandings {
     site: Site,
     days: Vec<DayStanding>,

@@ -6,7 +6,7 @@ ghost use Rattle.approval.specs.Statuses.{is_approved, is_in_review, is_reviewed
 use edits::By;
 
 /// How far a day's record is approved.
-#[derive(Debug, Drop)]
+#[derive(Drop)]
 pub enum Status {
     /// The record is being worked.
     Working,

@@ -22,7 +22,7 @@ use std::marker::Model;
 
 /// How far the record of each day is approved: of the days in review and of those approved it keeps by whom, and by which edit; of every
 /// other day of every site, kept or not, the record is being worked. Contracts see what is kept, and read it by `standing_in` alone.
-#[derive(Debug, Drop)]
+#[derive(Drop)]
 pub struct Statuses {
     pub(crate) alloc: Global,
     pub(crate) sites: Vec<SiteStandings>,

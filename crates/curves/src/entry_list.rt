@@ -6,7 +6,7 @@ use crate::entries::Entry;
 use std::marker::Model;
 
 /// A list of entries. Contracts see the list.
-#[derive(Debug, Drop)]
+#[derive(Drop)]
 pub struct EntryList {
     entries: Vec<Entry>,
 }

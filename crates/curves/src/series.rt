@@ -14,7 +14,7 @@ use std::marker::Model;
 
 /// The entries of a correction set or of the shifts, rising by instant. Contracts see the list of entries and for how
 /// many more there is room.
-#[derive(Debug, Drop)]
+#[derive(Drop)]
 pub struct Series {
     list: RisingList<Entry>,
 }

@@ -14,7 +14,7 @@ use day_inputs::{DayInputs, DayParts};
 use fixed_units::{Micro, Published, RoundingArray, publish};
 use std::marker::Model;
 use std::sync::ledger::Ledger;
-use steps::Steps;
+use chronicle::Steps;
 
 /// The figures of a day that has a window or an estimate.
 #[derive(Clone, Copy, Debug, PartialEq, Eq)]

@@ -25,7 +25,7 @@ use std::alloc::Global;
 use std::marker::Model;
 
 /// The cells of a station. Contracts see the columns and the span of the days that were ever changed.
-#[derive(Debug, Drop)]
+#[derive(Drop)]
 pub struct DayCells {
     site: Site,
     /// The day that the columns begin with.

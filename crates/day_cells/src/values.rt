@@ -13,7 +13,7 @@ use std::marker::Model;
 ///
 /// A value is some hundred times as large as its place, and most days of a long record await their first computation when an office
 /// opens. So the values stand in the order in which their days were first published, and the memory beyond them is not touched.
-#[derive(Debug, Drop)]
+#[derive(Drop)]
 pub struct Values {
     /// For each day the place of its value, counted from 1, and 0 where nothing was published.
     places: Vec<u32>,

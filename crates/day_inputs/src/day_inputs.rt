@@ -6,7 +6,7 @@ use ratings::PartList;
 use readings::ReadingList;
 
 /// The inputs of a day that has a window or an estimate.
-#[derive(Debug, Drop)]
+#[derive(Drop)]
 pub struct DayParts {
     /// The gap tolerance in minutes, 1 to 720: the greatest distance over which a line is drawn.
     pub gap: u32,
@@ -38,10 +38,19 @@ pub struct DayParts {
 }
 
 /// The inputs of a day.
-#[derive(Debug, Drop)]
 pub enum DayInputs {
     /// The day has no reading that is used, and no estimate.
     Empty,
     /// The day has a window, an estimate, or both.
     Day(DayParts),
+}
+
+/// By hand, so that a drop is one call wherever inputs are dropped.
+impl Drop for DayInputs {
+    fn drop(self) {
+        match self {
+            DayInputs::Empty => {}
+            DayInputs::Day(_parts) => {}
+        }
+    }
 }

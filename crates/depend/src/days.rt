@@ -7,7 +7,7 @@ use std::alloc::Global;
 use std::marker::Model;
 
 /// A list of days. Contracts see the list.
-#[derive(Debug, Drop)]
+#[derive(Drop)]
 pub struct DayList {
     days: Vec<Day>,
 }

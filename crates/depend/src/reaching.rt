@@ -18,7 +18,7 @@ use fixed_units::{Day, NoMemory};
 use office_inputs::{Inputs, Place, Station, stations_keep_to_their_ranges};
 use std::alloc::Global;
 use std::sync::ledger::Ledger;
-use steps::Steps;
+use chronicle::Steps;
 
 /// The days that an edit changes, in order: of every day of the calendar those whose inputs differ before it and after it. The
 /// days of its interval are compared, and at most two others.

@@ -14,7 +14,7 @@ use ratings::{Period, SharedTable};
 use readings::ReadingList;
 
 /// What an edit changes.
-#[derive(Debug, Drop)]
+#[derive(Drop)]
 pub enum What {
     /// Adds the station, which has no readings then.
     AddStation {
@@ -149,7 +149,6 @@ pub enum What {
 }
 
 /// An edit of the record.
-#[derive(Debug)]
 pub struct Edit {
     /// Who makes it.
     pub by: By,

@@ -7,7 +7,7 @@ use arrayvec::ArrayVec;
 use std::marker::Model;
 
 /// The initials of the person who makes an edit: 1 to 8 ASCII letters. Contracts see the letters.
-#[derive(Debug, Drop)]
+#[derive(Drop)]
 pub struct By {
     letters: ArrayVec<u8, 8>,
 }
@@ -69,7 +69,7 @@ fn are_letters(bytes: &[u8]) -> bool
 }
 
 /// The reference under which a person sends an edit: 1 to 40 ASCII letters, digits and `-`. Contracts see the bytes.
-#[derive(Debug, Drop)]
+#[derive(Drop)]
 pub struct Ref {
     codes: ArrayVec<u8, 40>,
 }

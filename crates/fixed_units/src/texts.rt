@@ -24,7 +24,7 @@ impl<T: Drop> From<AllocFailed<T>> for NoMemory {
 }
 
 /// A byte text. Contracts see its list of bytes.
-#[derive(Debug, Drop)]
+#[derive(Drop)]
 pub struct Text {
     bytes: Vec<u8>,
 }

@@ -4,7 +4,7 @@ ghost use Rattle.std.specs.Prelude.{◌≡◌, ◌<◌};
 
 use std::marker::Brand;
 use std::sync::ledger::{Blank, Ledger};
-use steps::Steps;
+use chronicle::Steps;
 
 // Two steps, counted.
 fn two_steps<L: Ledger>(blank: Blank)

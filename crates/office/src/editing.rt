@@ -27,7 +27,7 @@ use records::laws::keeps_grammar;
 use records::{Record, encode_and_close};
 use register::Judged;
 use std::sync::ledger::Ledger;
-use steps::Steps;
+use chronicle::Steps;
 
 impl<D: Disk> Office<D> {
     /// Keeps an edit in the journal, and accepts it: the days whose inputs it changes await it from then on. An edit that comes again

@@ -15,7 +15,7 @@ use edits::Edit;
 use office_inputs::Refusal;
 use std::marker::Brand;
 use std::sync::ledger::{Blank, Ledger};
-use steps::Steps;
+use chronicle::Steps;
 
 impl<D: Disk> Office<D> {
     /// Keeps an edit in the journal and accepts it, as [`Office::edit`] does, with a counter that nobody reads.

@@ -21,11 +21,10 @@ use station_inputs::{Staged, Station};
 use std::alloc::Global;
 use std::marker::Model;
 use std::sync::ledger::Ledger;
-use steps::Steps;
+use chronicle::Steps;
 
 /// What is in force: the stations that are kept. Contracts see them as a list that rises by site, with the limits that they
 /// keep to and the room that is made for an edit.
-#[derive(Debug, Drop)]
 pub struct Inputs {
     pub(crate) alloc: Global,
     pub(crate) limits: Limits,
@@ -44,6 +43,19 @@ impl Model for Inputs {
     ghost view = { λ i. record { limits = i.limits; kept = i.stations.items; spare = vec_capacity i.stations - vec_len i.stations; staged = i.staged } };
 
     ghost invariant = { λ i. AreStations i.stations.items × (i.readings ≡ reading_count (states_of i.stations.items)) };
+}
+
+/// By hand, so that a drop is one call wherever inputs are dropped.
+impl Drop for Inputs {
+    fn drop(self) {
+        let Inputs {
+            alloc: _,
+            limits: _,
+            stations: _stations,
+            readings: _,
+            staged: _staged,
+        } = self;
+    }
 }
 
 impl Inputs {

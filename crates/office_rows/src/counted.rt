@@ -12,7 +12,7 @@ use recompute::{Done, Job};
 use std::alloc::Global;
 use std::marker::Brand;
 use std::sync::ledger::{Blank, Ledger};
-use steps::Steps;
+use chronicle::Steps;
 
 /// The days that an edit changes.
 pub fn reached(alloc: Global, inputs: &Inputs, edit: &Edit) -> Result<DayList, NoMemory>

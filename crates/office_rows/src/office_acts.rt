@@ -19,7 +19,7 @@ use row_lines::parted;
 use std::alloc::Global;
 use std::marker::Brand;
 use std::sync::ledger::{Blank, Ledger};
-use steps::Steps;
+use chronicle::Steps;
 
 /// An office, and the jobs at hand.
 #[derive(Drop)]

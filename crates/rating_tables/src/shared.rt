@@ -11,7 +11,7 @@ use std::marker::Model;
 use std::sync::Arc;
 
 /// A table that several owners share. Contracts see the rows.
-#[derive(Debug, Drop)]
+#[derive(Drop)]
 pub struct SharedTable {
     table: Arc<Table>,
 }

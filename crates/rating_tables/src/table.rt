@@ -63,7 +63,7 @@ pub enum Rated {
 
 /// An expanded rating: 2 to 10,000 rows of a stage and a discharge, stages strictly rising and discharges never
 /// falling. Contracts see the rows.
-#[derive(Debug, Drop)]
+#[derive(Drop)]
 pub struct Table {
     rows: Vec<(Micro, Micro)>,
     /// How many rows there would be for a millionth of a foot if all were as far apart, with `FRACTION_BITS` bits behind the point. It

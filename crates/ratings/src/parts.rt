@@ -11,7 +11,7 @@ use rising::count_to;
 use std::marker::Model;
 
 /// A list of the parts of rating periods. Contracts see the list.
-#[derive(Debug, Drop)]
+#[derive(Drop)]
 pub struct PartList {
     parts: Vec<PeriodPart>,
 }

@@ -71,7 +71,7 @@ impl Keyed for Period {
 }
 
 /// A part of a period, with the table of its rating.
-#[derive(Debug, Drop)]
+#[derive(Drop)]
 pub struct PeriodPart {
     /// When the part begins.
     pub from: Second,

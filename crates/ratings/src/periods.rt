@@ -14,7 +14,7 @@ use std::marker::Model;
 
 /// Periods, rising by their starts, of which no two share an instant. Contracts see the list, and for how many more
 /// there is room.
-#[derive(Debug, Drop)]
+#[derive(Drop)]
 pub struct Periods {
     list: RisingList<Period>,
 }

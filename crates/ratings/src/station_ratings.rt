@@ -22,7 +22,7 @@ use std::alloc::Global;
 use std::marker::Model;
 
 /// A table under a number. Contracts see the number and the rows.
-#[derive(Debug, Drop)]
+#[derive(Drop)]
 pub struct Rating {
     pub(crate) number: u32,
     pub(crate) table: SharedTable,
@@ -76,7 +76,7 @@ impl Rating {
 
 /// The ratings of a station and the periods in which they are in force, at most one at an instant, each of a rating that is
 /// there. Contracts see them, and for how many more of both there is room.
-#[derive(Debug, Drop)]
+#[derive(Drop)]
 pub struct Ratings {
     tables: RisingList<Rating>,
     periods: Periods,

@@ -6,7 +6,7 @@ use fixed_units::Reading;
 use std::marker::Model;
 
 /// A list of readings. Contracts see the list.
-#[derive(Debug, Drop)]
+#[derive(Drop)]
 pub struct ReadingList {
     readings: Vec<Reading>,
 }

@@ -23,7 +23,7 @@ use std::marker::Model;
 const MOST_STATIONS: usize = 4_294_967_296;
 
 /// The cells of all stations. Contracts see the stations in the order of their sites, each with its columns.
-#[derive(Debug, Drop)]
+#[derive(Drop)]
 pub struct Cells {
     alloc: Global,
     stations: Vec<DayCells>,

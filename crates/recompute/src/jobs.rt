@@ -9,10 +9,10 @@ use day_inputs::DayInputs;
 use fixed_units::{Day, Site};
 use std::marker::Model;
 use std::sync::ledger::Ledger;
-use steps::Steps;
+use chronicle::Steps;
 
 /// A day to compute, with the edit that it awaited and the inputs that were in force when the job was made.
-#[derive(Debug, Drop)]
+#[derive(Drop)]
 pub struct Job {
     site: Site,
     day: Day,
@@ -32,7 +32,7 @@ impl Model for Job {
 }
 
 /// A job with the value that its inputs have.
-#[derive(Debug, Drop)]
+#[derive(Drop)]
 pub struct Done {
     job: Job,
     value: DayValue,

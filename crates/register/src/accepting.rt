@@ -24,7 +24,7 @@ use office_inputs::{Place, Refusal, stations_keep_to_their_ranges};
 use records::Record;
 use std::marker::Brand;
 use std::sync::ledger::{Blank, Ledger};
-use steps::Steps;
+use chronicle::Steps;
 
 impl Register {
     /// Makes room for all that an edit adds which changes these days, so that its acceptance takes no memory. What happened and which

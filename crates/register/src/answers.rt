@@ -15,7 +15,7 @@ pub enum Answer<'a> {
 }
 
 /// The primary computation sheet of a day.
-#[derive(Debug, Drop)]
+#[derive(Drop)]
 pub enum Sheet<'a> {
     /// The station is not kept.
     NoStation,

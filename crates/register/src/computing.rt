@@ -16,7 +16,7 @@ use office_inputs::stations_keep_to_their_ranges;
 use recompute::{Done, Job, Publish, pending_days_stand_by_site};
 use std::marker::Brand;
 use std::sync::ledger::{Blank, Ledger};
-use steps::Steps;
+use chronicle::Steps;
 
 impl Register {
     /// The job of the first pending day by site, then day, whose claim is not out; its claim is out from then on. `None` exactly where

@@ -9,7 +9,7 @@ use records::Record;
 use thiserror::Error;
 
 /// What is said to an edit.
-#[derive(Debug, Drop)]
+#[derive(Drop)]
 pub enum Judged {
     /// It is the accepted edit of this number, which comes again.
     Repeated(u64),

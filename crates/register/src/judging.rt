@@ -24,7 +24,7 @@ use office_inputs::{Full, Place, Refusal, stations_keep_to_their_ranges};
 use recompute::pending_days_stand_by_site;
 use records::{Record, record_len};
 use std::sync::ledger::Ledger;
-use steps::Steps;
+use chronicle::Steps;
 
 impl Register {
     /// The verdict of an edit, whose station is looked up once. Nothing is changed. No step is taken where the edit comes again or

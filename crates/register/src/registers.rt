@@ -28,7 +28,6 @@ const EMPTY_JOURNAL: u64 = 17;
 
 /// What an office keeps in memory. Contracts see its history, and beside it what is in force, the cells, the places of references and
 /// for how many more edits there is room.
-#[derive(Drop)]
 pub struct Register {
     pub(crate) alloc: Global,
     /// With how many edits the office was opened.
@@ -61,6 +60,24 @@ impl Model for Register {
     ghost view = { λ r. registered r.opened r.inputs r.cells r.references r.statuses (vec_capacity r.pieces - vec_len r.pieces) r.past };
 
     ghost invariant = { λ r. Keeps (registered r.opened r.inputs r.cells r.references r.statuses (vec_capacity r.pieces - vec_len r.pieces) r.past) r.pieces.items r.events r.journal_bytes };
+}
+
+/// By hand, so that a drop is one call wherever a register is dropped.
+impl Drop for Register {
+    fn drop(self) {
+        let Register {
+            alloc: _,
+            opened: _,
+            inputs: _inputs,
+            cells: _cells,
+            references: _references,
+            statuses: _statuses,
+            pieces: _pieces,
+            events: _,
+            journal_bytes: _,
+            past: _past,
+        } = self;
+    }
 }
 
 impl Register {

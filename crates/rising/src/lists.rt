@@ -15,7 +15,7 @@ use thiserror::Error;
 pub struct NoEntry;
 
 /// Elements that strictly rise by their keys. Contracts see the list, and for how many more elements there is room.
-#[derive(Debug, Drop)]
+#[derive(Drop)]
 pub struct RisingList<T: Keyed> {
     list: Vec<T>,
 }

@@ -11,7 +11,7 @@ use edits::What;
 use fixed_units::Day;
 use readings::Change;
 use std::sync::ledger::Ledger;
-use steps::Steps;
+use chronicle::Steps;
 
 impl Station {
     /// Whether the inputs of a day of the station are equal before an edit of it and after it: one step, and no memory.

@@ -8,7 +8,7 @@ use edits::Name;
 use ratings::SharedTable;
 
 /// What is made ready for an edit of a station that carries more than numbers.
-#[derive(Debug, Drop)]
+#[derive(Drop)]
 pub enum Staged {
     /// Nothing is.
     Nothing,

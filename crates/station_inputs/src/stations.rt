@@ -23,7 +23,6 @@ use std::sync::Arc;
 
 /// A station in force. Contracts see its state, and for how many more readings, entries of each series, ratings, periods,
 /// measurements and estimates there is room beside it.
-#[derive(Debug, Drop)]
 pub struct Station {
     site: Site,
     name: Name,
@@ -58,6 +57,26 @@ impl Model for Station {
     } };
 
     ghost invariant = { λ s. IsStation (record { site = s.site; name = s.name; zone = arc_value s.zone; gap = s.gap; stage_array = s.stage_array; discharge_array = s.discharge_array; corrections = entries_of s.corrections; shifts = s.shifts.series.entries; ratings = s.ratings.ratings; measurements = s.measurements.list; estimates = s.estimates.list; readings = s.readings.list }) };
+}
+
+/// By hand, so that a drop is one call wherever a station is dropped.
+impl Drop for Station {
+    fn drop(self) {
+        let Station {
+            site: _,
+            name: _name,
+            zone: _zone,
+            gap: _,
+            stage_array: _,
+            discharge_array: _,
+            corrections: _corrections,
+            shifts: _shifts,
+            ratings: _ratings,
+            measurements: _measurements,
+            estimates: _estimates,
+            readings: _readings,
+        } = self;
+    }
 }
 
 impl Keyed for Station {

@@ -7,7 +7,7 @@ ghost use Rattle.trial_orders.specs.Draws.{draw_at};
 use std::marker::Model;
 
 /// The draws that come from a number. Contracts see that number and how many were made.
-#[derive(Debug, Drop)]
+#[derive(Drop)]
 pub struct Draws {
     number: u32,
     made: u32,

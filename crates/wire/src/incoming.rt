@@ -21,7 +21,7 @@ use std::marker::Model;
 
 /// A reader of messages. It holds what was taken from the source and not given yet. Contracts see those
 /// bytes and the offset at which they begin.
-#[derive(Debug, Drop)]
+#[derive(Drop)]
 pub struct Incoming {
     block: Vec<u8>,
     start: usize,

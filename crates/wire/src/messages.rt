@@ -17,7 +17,7 @@ pub enum Verb {
 }
 
 /// The next message of a stream.
-#[derive(Debug, Drop)]
+#[derive(Drop)]
 pub enum Message {
     /// A request, whole.
     Request {

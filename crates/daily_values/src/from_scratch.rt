@@ -72,9 +72,9 @@ pub fn day_value(
         window,
         estimate,
     )?;
-    match inputs {
+    match &inputs {
         DayInputs::Empty => Ok(DayValue::Empty),
-        DayInputs::Day(parts) => value_of_parts(alloc, &parts),
+        DayInputs::Day(parts) => value_of_parts(alloc, parts),
     }
 }
 

@@ -70,7 +70,11 @@ impl Record {
     pub fn into_edit(self) -> Edit
         ensures { result ≡ self.edit }
     {
-        self.edit
+        let Record {
+            edit,
+            sheets: _sheets,
+        } = self;
+        edit
     }
 
     /// The sheets of an approval, one of 1 to 2,400 bytes for each day in order. Another edit has none.

@@ -8,7 +8,6 @@ use edits::Name;
 use ratings::SharedTable;
 
 /// What is made ready for an edit of a station that carries more than numbers.
-#[derive(Drop)]
 pub enum Staged {
     /// Nothing is.
     Nothing,
@@ -16,6 +15,17 @@ pub enum Staged {
     Named(Name),
     /// The table of a rating.
     Rated(SharedTable),
+}
+
+/// By hand, so that a drop is one call wherever what is staged is dropped.
+impl Drop for Staged {
+    fn drop(self) {
+        match self {
+            Staged::Nothing => {}
+            Staged::Named(_name) => {}
+            Staged::Rated(_table) => {}
+        }
+    }
 }
 
 impl Staged {

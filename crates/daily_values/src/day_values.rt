@@ -10,11 +10,11 @@ use crate::counts::Counts;
 use crate::extremes::Extremes;
 use crate::sums::{Sum, day_length};
 use crate::totals::totals_of;
+use chronicle::Steps;
 use day_inputs::{DayInputs, DayParts};
 use fixed_units::{Micro, Published, RoundingArray, publish};
 use std::marker::Model;
 use std::sync::ledger::Ledger;
-use chronicle::Steps;
 
 /// The figures of a day that has a window or an estimate.
 #[derive(Clone, Copy, Debug, PartialEq, Eq)]

@@ -13,12 +13,12 @@ ghost use Rattle.station_inputs.specs.Changes.{keeps_station_day};
 
 use crate::days::DayList;
 use crate::spans::compared_days_at;
+use chronicle::Steps;
 use edits::{Edit, What};
 use fixed_units::{Day, NoMemory};
 use office_inputs::{Inputs, Place, Station, stations_keep_to_their_ranges};
 use std::alloc::Global;
 use std::sync::ledger::Ledger;
-use chronicle::Steps;
 
 /// The days that an edit changes, in order: of every day of the calendar those whose inputs differ before it and after it. The
 /// days of its interval are compared, and at most two others.

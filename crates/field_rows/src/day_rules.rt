@@ -7,11 +7,11 @@ ghost use Rattle.readings.specs.Readings.{IsRising};
 ghost use Rattle.day_inputs.specs.DayInputs.{AreInputs};
 
 use crate::unit_values::{are_parts, is_series};
+use chronicle::Steps;
 use daily_values::{DayInputs, DayParts, DayValue, compute};
 use fixed_units::{Micro, Reading, is_discharge, is_stage, is_stamp};
 use std::marker::Brand;
 use std::sync::ledger::{Blank, Ledger};
-use chronicle::Steps;
 
 /// Whether each reading comes behind the one before.
 pub fn are_rising(readings: &[Reading]) -> bool

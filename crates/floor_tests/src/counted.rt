@@ -2,9 +2,9 @@
 
 ghost use Rattle.std.specs.Prelude.{◌≡◌, ◌<◌};
 
+use chronicle::Steps;
 use std::marker::Brand;
 use std::sync::ledger::{Blank, Ledger};
-use chronicle::Steps;
 
 // Two steps, counted.
 fn two_steps<L: Ledger>(blank: Blank)

@@ -19,6 +19,7 @@ ghost use Rattle.register.specs.Registered.{IsReady, KeepsClaims, MarksClaims};
 
 use crate::keeping::keep;
 use crate::offices::{Accepted, Office};
+use chronicle::Steps;
 use devices::Disk;
 use edits::Edit;
 use fixed_units::{Day, NoMemory};
@@ -27,7 +28,6 @@ use records::laws::keeps_grammar;
 use records::{Record, encode_and_close};
 use register::Judged;
 use std::sync::ledger::Ledger;
-use chronicle::Steps;
 
 impl<D: Disk> Office<D> {
     /// Keeps an edit in the journal, and accepts it: the days whose inputs it changes await it from then on. An edit that comes again

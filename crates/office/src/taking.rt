@@ -10,12 +10,12 @@ ghost use Rattle.office.specs.Steps.{AnEdit, IsStep};
 ghost use Rattle.office.specs.Stops.{IsLeftBetween};
 
 use crate::offices::{Accepted, Office};
+use chronicle::Steps;
 use devices::Disk;
 use edits::Edit;
 use office_inputs::Refusal;
 use std::marker::Brand;
 use std::sync::ledger::{Blank, Ledger};
-use chronicle::Steps;
 
 impl<D: Disk> Office<D> {
     /// Keeps an edit in the journal and accepts it, as [`Office::edit`] does, with a counter that nobody reads.

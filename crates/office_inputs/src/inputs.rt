@@ -13,6 +13,7 @@ ghost use Rattle.office_inputs.specs.Touched.{IsUsedSpan};
 use crate::limits::Limits;
 use crate::places::{Place, find_place, station_there};
 use crate::staged::StagedEdit;
+use chronicle::Steps;
 use day_inputs::DayInputs;
 use edits::{Edit, Measurement};
 use fixed_units::{Day, Micro, NoMemory, Second, Site};
@@ -21,7 +22,6 @@ use station_inputs::{Staged, Station};
 use std::alloc::Global;
 use std::marker::Model;
 use std::sync::ledger::Ledger;
-use chronicle::Steps;
 
 /// What is in force: the stations that are kept. Contracts see them as a list that rises by site, with the limits that they
 /// keep to and the room that is made for an edit.

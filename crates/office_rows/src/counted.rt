@@ -4,6 +4,7 @@ ghost use Rattle.std.specs.Prelude.{◌≡◌, ◌<◌, ◌<ℤ◌, None, AllPai
 ghost use Rattle.office_inputs.specs.Kept.{in_force};
 ghost use Rattle.office_inputs.specs.Refusals.{refusal_of};
 
+use chronicle::Steps;
 use depend::{DayList, reach};
 use edits::Edit;
 use fixed_units::{Day, NoMemory};
@@ -12,7 +13,6 @@ use recompute::{Done, Job};
 use std::alloc::Global;
 use std::marker::Brand;
 use std::sync::ledger::{Blank, Ledger};
-use chronicle::Steps;
 
 /// The days that an edit changes.
 pub fn reached(alloc: Global, inputs: &Inputs, edit: &Edit) -> Result<DayList, NoMemory>

@@ -9,6 +9,7 @@ use crate::sent::{POTOMAC, day, edit, site};
 use crate::told::{
     push_job, push_next, push_number_behind, push_outcome, push_refusal, push_site_and_day,
 };
+use chronicle::Steps;
 use devices::MemoryDisk;
 use edits::Edit;
 use fixed_units::{Day, NoMemory, Site, Text};
@@ -19,7 +20,6 @@ use row_lines::parted;
 use std::alloc::Global;
 use std::marker::Brand;
 use std::sync::ledger::{Blank, Ledger};
-use chronicle::Steps;
 
 /// An office, and the jobs at hand.
 #[derive(Drop)]

@@ -4,12 +4,12 @@ ghost use Rattle.std.specs.Prelude.{◌≡◌, ◌+◌};
 ghost use Rattle.day_inputs.specs.DayInputs.{AreInputs};
 ghost use Rattle.daily_values.specs.DayValue.{day_value};
 
+use chronicle::Steps;
 use daily_values::{DayValue, compute};
 use day_inputs::DayInputs;
 use fixed_units::{Day, Site};
 use std::marker::Model;
 use std::sync::ledger::Ledger;
-use chronicle::Steps;
 
 /// A day to compute, with the edit that it awaited and the inputs that were in force when the job was made.
 #[derive(Drop)]

@@ -16,6 +16,7 @@ ghost use Rattle.register.specs.Registered.{IsReady, KeepsClaims, MarksClaims, N
 
 use crate::judged::NotReadmitted;
 use crate::registers::Register;
+use chronicle::Steps;
 use depend::reach_at;
 use edits::Edit;
 use fixed_units::{Day, NoMemory};
@@ -24,7 +25,6 @@ use office_inputs::{Place, Refusal, stations_keep_to_their_ranges};
 use records::Record;
 use std::marker::Brand;
 use std::sync::ledger::{Blank, Ledger};
-use chronicle::Steps;
 
 impl Register {
     /// Makes room for all that an edit adds which changes these days, so that its acceptance takes no memory. What happened and which

@@ -9,14 +9,13 @@ ghost use Rattle.register.specs.Asked.{as_pair, day_of, job_at, next_after, outc
 ghost use Rattle.register.specs.Registered.{IsSettledTo, KeepsClaims, TakesClaim, EndsClaim, first_unclaimed, is_out};
 
 use crate::registers::Register;
-use chronicle::Chronicle;
+use chronicle::{Chronicle, Steps};
 use fixed_units::{Day, NoMemory, Site};
 use history::Recorded;
 use office_inputs::stations_keep_to_their_ranges;
 use recompute::{Done, Job, Publish, pending_days_stand_by_site};
 use std::marker::Brand;
 use std::sync::ledger::{Blank, Ledger};
-use chronicle::Steps;
 
 impl Register {
     /// The job of the first pending day by site, then day, whose claim is not out; its claim is out from then on. `None` exactly where

@@ -17,6 +17,7 @@ ghost use Rattle.register.specs.Asked.{TellsChanged, TellsPlace, TellsRecord, ve
 
 use crate::judged::Judged;
 use crate::registers::Register;
+use chronicle::Steps;
 use depend::{DayList, reach_at};
 use edits::Edit;
 use fixed_units::{Day, NoMemory, Site};
@@ -24,7 +25,6 @@ use office_inputs::{Full, Place, Refusal, stations_keep_to_their_ranges};
 use recompute::pending_days_stand_by_site;
 use records::{Record, record_len};
 use std::sync::ledger::Ledger;
-use chronicle::Steps;
 
 impl Register {
     /// The verdict of an edit, whose station is looked up once. Nothing is changed. No step is taken where the edit comes again or

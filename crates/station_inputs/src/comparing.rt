@@ -6,12 +6,12 @@ ghost use Rattle.station_inputs.specs.Changes.{keeps_station_day};
 
 use crate::series::StationSeries;
 use crate::stations::Station;
+use chronicle::Steps;
 use curves::Entry;
 use edits::What;
 use fixed_units::Day;
 use readings::Change;
 use std::sync::ledger::Ledger;
-use chronicle::Steps;
 
 impl Station {
     /// Whether the inputs of a day of the station are equal before an edit of it and after it: one step, and no memory.

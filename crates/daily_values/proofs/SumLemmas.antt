@@ -1,8 +1,8 @@
 -- A sum along the pairs of a day: what is summed and what is left make up the whole.
-use Rattle.std.proofs.Common.{◌≡◌, refl, ap, sym, ◌∙◌, ℕ, ◌+◌, ◌<◌, ◌≤◌, get_or, List, [], ◌∷◌, length, drop, ℤ, pos, ◌+ℤ◌, ◌<ℤ◌, arith, subst, add-one, drop-cons}
+use Rattle.std.proofs.Common.{◌≡◌, refl, ap, sym, ◌∙◌, ℕ, ◌+◌, ◌<◌, ◌≤◌, get_or, List, [], ◌∷◌, ◌++◌, length, take, drop, ℤ, pos, ◌+ℤ◌, ◌<ℤ◌, arith, subst, add-one, drop-cons}
 use Rattle.std.specs.Prelude.{All, map, sum_by}
 use Rattle.std.proofs.lemmas.Int.{ints}
-use Rattle.std.proofs.lemmas.List.{drop_all}
+use Rattle.std.proofs.lemmas.List.{drop_all, map_more, map_push}
 use Rattle.std.proofs.lemmas.List.Elements.{All-head, All-tail, All-cons, All-nil}
 use Rattle.std.proofs.lemmas.List.Sums.{sum_by-cons}
 use Rattle.fixed_units.specs.Calendar.{longest_day}
@@ -137,3 +137,15 @@ module _ (point : Unit → Point) (at : (u : Unit) → (point u).0 ≡ u.at) (da
         let room = sum-room day (point left, point right) (neighbours (map point (right ∷ map (unit_of day) (drop (i + 1) rest)))) all sum longest_day next (omega (arith, covered, long)) in
         let pair = ap (pair_seconds day) (pair-same p q (point left) (point right) e f) in
         omega (arith, room, pair)
+
+-- the points of the readings so far, and that of one reading more
+pub points-more : (point : Unit → Point) (day : DayParts) (items : List Reading) (i : ℕ) (r : Reading) (points more : List Point) (p : Point)
+    → items ≡ day.window → i < length items → r ≡ get_or items i r → p ≡ point (unit_of day r)
+    → points ≡ map point (map (unit_of day) (take i day.window)) → more ≡ points ++ p ∷ []
+    → more ≡ map point (map (unit_of day) (take (i + 1) day.window))
+points-more point day items i r points more p is within here at before pushed =
+    let within = subst (λ (w : List Reading). i < length w) is within in
+    let here = subst (λ (w : List Reading). r ≡ get_or w i r) is here in
+    let units = map (unit_of day) (take i day.window) in
+    pushed ∙ ap (λ ps. ps ++ p ∷ []) before ∙ ap (λ q. map point units ++ q ∷ []) (at ∙ ap (λ u. point (unit_of day u)) here)
+    ∙ sym (ap (map point) (map_more (unit_of day) day.window i r within) ∙ map_push point units (unit_of day (get_or day.window i r)))

@@ -213,9 +213,19 @@ fn stage_points(alloc: Global, parts: &DayParts) -> Result<Vec<Point>, NoMemory>
 {
     let mut points = Vec::new(alloc);
     for reading in parts.window.as_slice() {
-        points.push(stage_point(&unit_of(parts, reading)))?;
+        points.push(stage_of(parts, reading))?;
     }
     Ok(points)
+}
+
+/// The stage of a reading of the day at its instant.
+fn stage_of(parts: &DayParts, reading: &Reading) -> Point
+    requires parts { AreParts parts.now }
+    requires stage { IsStage reading.now.raw }
+    ensures point { result ≡ values.stage_point (values.unit_of parts.now reading.now) }
+    ensures within { IsValueWithin most_corrected most_corrected result.1 }
+{
+    stage_point(&unit_of(parts, reading))
 }
 
 /// The discharges of the readings of a day's window.
@@ -226,9 +236,19 @@ fn discharge_points(alloc: Global, parts: &DayParts) -> Result<Vec<Point>, NoMem
 {
     let mut points = Vec::new(alloc);
     for reading in parts.window.as_slice() {
-        points.push(discharge_point(&unit_of(parts, reading)))?;
+        points.push(discharge_of(parts, reading))?;
     }
     Ok(points)
+}
+
+/// The discharge of a reading of the day at its instant, where it has one.
+fn discharge_of(parts: &DayParts, reading: &Reading) -> Point
+    requires parts { AreParts parts.now }
+    requires stage { IsStage reading.now.raw }
+    ensures point { result ≡ values.discharge_point (values.unit_of parts.now reading.now) }
+    ensures within { IsValueWithin 0 most_discharge result.1 }
+{
+    discharge_point(&unit_of(parts, reading))
 }
 
 /// The window of the day: its used readings between the nearest used ones on either side that are near enough.

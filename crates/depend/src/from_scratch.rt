@@ -9,7 +9,7 @@ ghost use Rattle.office_inputs.specs.Kept.{in_force};
 ghost use Rattle.office_inputs.specs.Stations.{inputs_of_day, stations_after};
 
 use crate::days::DayList;
-use day_inputs::are_same;
+use day_inputs::{DayInputs, are_same};
 use edits::Edit;
 use fixed_units::{Day, FIRST_DAY, LAST_DAY, NoMemory, Site};
 use office_inputs::Inputs;
@@ -46,10 +46,24 @@ fn add_different(
     let Some(day) = Day::new(number) else {
         unreachable!();
     };
-    let earlier = before.day_inputs(site, day)?;
-    let later = after.day_inputs(site, day)?;
-    if !are_same(&earlier, &later) {
+    if differs(before, after, site, day)? {
         days.push(day)?;
     }
     Ok(())
+}
+
+/// Whether a day's inputs before and after differ.
+fn differs(before: &Inputs, after: &Inputs, site: Site, day: Day) -> Result<bool, NoMemory>
+    ensures { IfOk result (λ differ. differ ≡ not (same_inputs (inputs_of_day (in_force before.now) site day) (inputs_of_day (in_force after.now) site day))) }
+{
+    let earlier = before.day_inputs(site, day)?;
+    differs_from(&earlier, after, site, day)
+}
+
+/// Whether a day's inputs after differ from these.
+fn differs_from(earlier: &DayInputs, after: &Inputs, site: Site, day: Day) -> Result<bool, NoMemory>
+    ensures { IfOk result (λ differ. differ ≡ not (same_inputs earlier.now (inputs_of_day (in_force after.now) site day))) }
+{
+    let later = after.day_inputs(site, day)?;
+    Ok(!are_same(earlier, &later))
 }

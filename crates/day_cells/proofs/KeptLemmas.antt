@@ -1,14 +1,15 @@
 -- What the kept columns say of a day and of the pending days.
-use Rattle.std.specs.Prelude.{◌≡◌, ◌⊎◌, ℕ, ◌≢◌, ◌+◌, ◌<◌, ◌≤◌, Bool, true, false, cond, List, length, set, filter, find, count_by, Option, Some, None, IfSome, ℤ, pos, ◌+ℤ◌, ◌<ℤ◌, ◌≤ℤ◌}
+use Rattle.std.specs.Prelude.{◌≡◌, ◌⊎◌, ℕ, ◌≢◌, ◌+◌, ◌<◌, ◌≤◌, Bool, true, false, cond, List, Vec, length, set, filter, find, count_by, Option, Some, None, IfSome, ℤ, pos, ◌+ℤ◌, ◌<ℤ◌, ◌≤ℤ◌}
 use Rattle.std.proofs.Common.{arith, refl, ap, sym, ◌∙◌, get_or, inl, inr}
 use Rattle.std.proofs.lemmas.Int.{ints}
 use Rattle.std.proofs.lemmas.Bool.{cases_lt, cases_eq, false≢true}
-use Rattle.std.proofs.lemmas.List.{length-map, length-set, get_or_past, get_or-set_same, get_or-set_other}
+use Rattle.std.specs.Vec.{with_items}
+use Rattle.std.proofs.lemmas.List.{length-map, length-set, get_or_past, get_or-set_same, get_or-set_other, with_items_is}
 use Rattle.std.proofs.lemmas.List.Sums.{sum_by-set}
 use Rattle.fixed_units.specs.Quantities.{first_day}
 use Rattle.fixed_units.specs.Calendar.{days_from, calendar, days_of_calendar}
 use Rattle.day_cells.specs.Days.{on_day}
-use Rattle.day_cells.specs.KeptDays.{KeptDays, AreColumns, TakesOut, Publishes, Marks, HasCell, NonePendingWithin, is_edit, is_pending_on, waiting_of, waiting_on}
+use Rattle.day_cells.specs.KeptDays.{KeptDays, AreColumns, KeepsPlaces, TakesOut, Publishes, Marks, HasCell, NonePendingWithin, is_edit, is_pending_on, waiting_of, waiting_on}
 use Rattle.day_cells.specs.Spans.{IsSpan}
 use Rattle.day_cells.specs.declared.spans.Span.{Span}
 use Rattle.daily_values.specs.declared.day_values.DayValue.{DayValue}
@@ -174,6 +175,48 @@ joined awaits first next h g k low high =
       | inl l ↦ h k low l
       | inr l ↦ g k l high
     ]
+
+-- a number that is no 0 is that of an edit
+pub edited : (edit : ℕ) → 1 ≤ edit → is_edit edit ≡ true
+edited edit h = grind arith
+
+opposite : (b : Bool) (old new more : ℕ) → new + cond b 1 0 ≡ old + 1 → more ≡ cond b 0 1 → new ≡ old + more
+opposite true old new more e m = omega (arith, m)
+opposite false old new more e m = omega (arith, m)
+
+-- how many cells await an edit after a mark
+pub count_marked : (awaits : List ℕ) (place edit more : ℕ) → place < length awaits → 1 ≤ edit → more ≡ cond (is_edit (get_or awaits place 0)) 0 1
+    → count_by is_edit (set awaits place edit) ≡ count_by is_edit awaits + more
+count_marked awaits place edit more l e m =
+    let count = rw (edited edit e) at (count_written awaits place edit l) in
+    opposite (is_edit (get_or awaits place 0)) (count_by is_edit awaits) (count_by is_edit (set awaits place edit)) more count m
+
+-- what stands beside the columns after a mark, where both places are none behind the one that is marked
+pub marked_keeps : (cells : KeptDays) (place edit more pending first unclaimed next after : ℕ) (span : Option Span)
+    → KeepsPlaces cells pending first unclaimed → place < length cells.awaits → 1 ≤ edit → IfSome span IsSpan
+    → more ≡ cond (is_edit (get_or cells.awaits place 0)) 0 1 → next ≤ first → next ≤ place → after ≤ unclaimed → after ≤ place
+    → KeepsPlaces (record cells { awaits = set cells.awaits place edit; claims = set cells.claims place false; span = span }) (pending + more) next after
+marked_keeps cells place edit more pending first unclaimed next after span h l e s m a b p q =
+    let long = length-set cells.awaits place edit in
+    let within = h.within in
+    let unclaimed_within = h.unclaimed_within in
+    record {
+      columns = columns_written cells place edit false cells.values span h.columns refl s;
+      counted = ap (λ n. n + more) h.counted ∙ sym (count_marked cells.awaits place edit more l e m);
+      within = omega (arith, long, within);
+      before = λ k low high. ap is_edit (get_or-set_other cells.awaits place k edit 0 (omega arith)) ∙ h.before k low (omega arith);
+      unclaimed_within = omega (arith, long, unclaimed_within);
+      unclaimed_before = λ k high.
+          (let edits = get_or-set_other cells.awaits place k edit 0 (omega arith) in
+          let claims = get_or-set_other cells.claims place k false false (omega arith) in
+          rw (edits, claims) (h.unclaimed_before k (omega arith)));
+    }
+
+-- a column that is written through a slice of it
+pub column_written : {X Z : Type 0} (column : Vec X Z) (slice written : List X) (place : ℕ) (value : X) → slice ≡ column.items
+    → written ≡ set slice place value → (with_items column written).items ≡ set column.items place value
+column_written column slice written place value is to =
+    with_items_is column written (ap length to ∙ length-set slice place value ∙ ap length is ∙ sym column.ok.0) ∙ to ∙ ap (λ xs. set xs place value) is
 
 -- a day outside a column
 pub outside : {X : Type 0} (start : ℤ) (awaits : List ℕ) (xs : List X) (z : X) (day : ℤ) → length awaits ≡ length xs

@@ -1,6 +1,6 @@
 //! Columns of cells, a day after the other.
 
-ghost use Rattle.std.specs.Prelude.{ℕ, All, None, Some, ◌≡◌, ◌⊎◌, true, ◌+◌, ◌<◌, ◌≤◌, ◌++◌, replicate, length, pos, ◌+ℤ◌, ◌≤ℤ◌, ◌<ℤ◌, ◌&&◌, not, false, slice_index, slice_index_or, IfOk, IfSome, IfNone};
+ghost use Rattle.std.specs.Prelude.{ℕ, All, None, Some, ◌≡◌, ◌⊎◌, true, ◌+◌, ◌<◌, ◌≤◌, ◌++◌, replicate, length, pos, ◌+ℤ◌, ◌≤ℤ◌, ◌<ℤ◌, ◌&&◌, not, false, slice_index, slice_index_or, set, if◌then◌else◌, IfOk, IfSome, IfNone};
 ghost use Rattle.fixed_units.specs.Quantities.{first_day, last_day};
 ghost use Rattle.fixed_units.specs.Calendar.{days_of_calendar};
 ghost use Rattle.day_cells.specs.KeptDays.{is_edit, NonePendingWithin, NoneUnclaimedBefore};
@@ -189,6 +189,20 @@ pub(crate) fn first_unclaimed(awaits: &[u64], claims: &[bool], from: usize) -> u
         place += 1;
     }
     place
+}
+
+/// Makes the day of a place await an edit, so that its claim is no longer out, and gives how many days more are pending.
+pub(crate) fn mark_at(awaits: &mut [u64], claims: &mut [bool], place: usize, edit: u64) -> usize
+    requires within { place < length awaits.old }
+    requires columns { length claims.old ≡ length awaits.old }
+    ensures awaits { awaits.new ≡ set awaits.old place edit }
+    ensures claims { claims.new ≡ set claims.old place false }
+    ensures more { result ≡ (if is_edit (slice_index awaits.old place) then 0 else 1) }
+{
+    let more = usize::from(awaits[place] == 0);
+    awaits[place] = edit;
+    claims[place] = false;
+    more
 }
 
 /// The day of a place, with what it awaits, if there is such a place.

@@ -11,7 +11,7 @@ ghost use Rattle.day_cells.specs.Spans.{IsSpan, with_days};
 ghost use Rattle.day_cells.specs.KeptDays.{HasCell, HasRoom, SaysTheSame, Marks, TakesOut, Publishes, awaited_on, is_pending_on, value_on, waiting_of};
 
 use crate::columns::{
-    count_to, distance, first_pending, first_unclaimed, place_of, room_behind, waiting_at,
+    count_to, distance, first_pending, first_unclaimed, mark_at, place_of, room_behind, waiting_at,
     wide_start, widened,
 };
 use crate::sites::rank;
@@ -227,9 +227,7 @@ impl DayCells {
         ensures count { length (waiting_of self.new) ≡ length (waiting_of self.old) + (if is_pending_on self.old day then 0 else 1) }
     {
         if let Some(place) = place_of(self.start, &self.awaits, day) {
-            self.pending += usize::from(self.awaits[place] == 0);
-            self.awaits[place] = edit;
-            self.claims[place] = false;
+            self.pending += mark_at(&mut self.awaits, &mut self.claims, place, edit);
             self.first = self.first.min(place);
             self.first_unclaimed = self.first_unclaimed.min(place);
             self.span = with_day(self.span, day);

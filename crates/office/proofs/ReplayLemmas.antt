@@ -15,7 +15,7 @@ use Rattle.history.specs.Legal.{IsLegal}
 use Rattle.history.proofs.EventLemmas.{accepted_all}
 use Rattle.journal.specs.JournalBytes.{InGrammar, IsDamagedAt, header, block, front}
 use Rattle.journal.specs.Keeping.{Holds}
-use Rattle.journal.specs.Moments.{LeavesOnly, OnlyReads}
+use Rattle.journal.specs.Moments.{LeavesOnly, OnlyReads, SyncsFirst}
 use Rattle.journal.specs.Reading.{HasRead, HasEnded, ReadsOn}
 use Rattle.journal.specs.declared.keeping.Journal.{Journal}
 use Rattle.journal.specs.declared.opening.Opening.{Opening}
@@ -181,12 +181,23 @@ reads_on g a b c h k = record {
 }
 
 -- and a journal that is read behind its opening leaves what the disk might have left before
-pub reads_behind : {D : Type 0} (g : Ghosts D) (a b c : D)
+pub reads_behind : {D : Type 0} (g : Ghosts D) (a b c : D) (P : List ℕ → Type 0)
     → ((disk : D) (since : ℕ) (image : List ℕ) → since ≤ g.moment disk → g.may_leave disk image → g.left_since disk since image)
-    → LeavesOnly g a b (g.may_leave a) → OnlyReads g b c → LeavesOnly g a c (g.may_leave a)
-reads_behind g a b c counts_now first second =
-    joined g a b c (g.may_leave a) (g.may_leave b) (g.may_leave a) first second.any_moment (λ image left. left)
+    → LeavesOnly g a b P → OnlyReads g b c → LeavesOnly g a c P
+reads_behind g a b c P counts_now first second =
+    joined g a b c P (g.may_leave b) P first second.any_moment (λ image left. left)
     (λ image left. first.each image (counts_now b (g.moment a) image first.later left))
+
+-- so does one whose first call was a sync
+pub synced_behind : {D : Type 0} (g : Ghosts D) (a b c : D) (P : List ℕ → Type 0)
+    → ((disk : D) (since : ℕ) (image : List ℕ) → since ≤ g.moment disk → g.may_leave disk image → g.left_since disk since image)
+    → SyncsFirst g a b P → OnlyReads g b c → SyncsFirst g a c P
+synced_behind g a b c P counts_now first second = record {
+  synced = first.synced;
+  first = first.first;
+  before = first.before;
+  since = reads_behind g first.synced b c P counts_now first.since second;
+}
 
 -- what is safe from a stop stays so while nothing is written
 durable_on : (content : Option (List ℕ)) (old new : List ℕ → Type 0) → NothingNew old new → IsDurable content old → IsDurable content new

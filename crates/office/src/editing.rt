@@ -1,8 +1,8 @@
 //! An edit: judged, kept in the journal, accepted.
 
-ghost use Rattle.std.specs.Prelude.{◌≡◌, ◌≤◌, ◌+◌, Bool, true, false, length, is_some, IsSome, IfOk, IfErr, OnErr, Err};
+ghost use Rattle.std.specs.Prelude.{◌≡◌, ◌≤◌, ◌+◌, Bool, true, false, length, is_some, IsSome, None, IfOk, IfErr, OnOk, OnErr, Err};
 ghost use Rattle.devices.specs.Faults.{Rose};
-ghost use Rattle.history.specs.Accepted.{stations_at};
+ghost use Rattle.history.specs.Accepted.{edits_of, named, stations_at};
 ghost use Rattle.history.specs.Verdicts.{Accepts, record_of, verdict};
 ghost use Rattle.journal.specs.Keeping.{IsNext};
 ghost use Rattle.journal.specs.Moments.{LeavesOnly};
@@ -22,7 +22,7 @@ use crate::offices::{Accepted, Office};
 use chronicle::Steps;
 use devices::Disk;
 use edits::Edit;
-use fixed_units::{Day, NoMemory};
+use fixed_units::{Day, NoMemory, Text};
 use office_inputs::{Place, Refusal};
 use records::laws::keeps_grammar;
 use records::{Record, encode_and_close};
@@ -53,18 +53,17 @@ impl<D: Disk> Office<D> {
         ensures steps { steps.new ≤ steps.old + length (interval (stations_at self.old.register.history.events) edit) + 9 }
         ensures no_step { needs_days self.old.register.history edit ≡ false → steps.new ≡ steps.old }
     {
-        let (piece, place, days) = match self.register.judge(edit, steps) {
-            Ok(Judged::Repeated(number)) => {
-                return Ok(Accepted {
-                    number,
-                    repeated: true,
-                });
+        match self.register.judge(edit, steps) {
+            Ok(Judged::Repeated(number)) => Ok(Accepted {
+                number,
+                repeated: true,
+            }),
+            Ok(Judged::Refused(refusal)) => Err(refusal),
+            Ok(Judged::Accepted { piece, place, days }) => {
+                self.keep_judged(piece, place, days.as_slice())
             }
-            Ok(Judged::Refused(refusal)) => return Err(refusal),
-            Ok(Judged::Accepted { piece, place, days }) => (piece, place, days),
-            Err(NoMemory) => return Err(Refusal::NoMemory),
-        };
-        self.keep_judged(piece, place, days.as_slice())
+            Err(NoMemory) => Err(Refusal::NoMemory),
+        }
     }
 
     /// Keeps the record of an edit that nothing refuses in the journal, and accepts it. All memory is taken before the journal is written.
@@ -88,15 +87,30 @@ impl<D: Disk> Office<D> {
         ensures cause { (in_doubt : Bool) → result ≡ Err (Refusal.JournalFault in_doubt) → Rose (D.faults self.old.disk) (D.faults self.new.disk) }
         ensures told { is_some (D.content self.new.disk) ≡ is_some (D.content self.old.disk) }
     {
-        // this runs nothing: it tells the proof that each record of the code is in the grammar
-        keeps_grammar(&piece);
-        let Ok(bytes) = encode_and_close(self.alloc, &piece) else {
+        let Ok(bytes) = self.prepare(&piece, place, days) else {
             return Err(Refusal::NoMemory);
         };
-        if self.register.prepare(piece.edit(), place, days).is_err() {
-            return Err(Refusal::NoMemory);
-        }
         self.keep_and_accept(piece, bytes.as_slice(), place, days)
+    }
+
+    /// Writes out the record of an edit that nothing refuses, as it is added to the journal, and makes room for all that the edit adds. What
+    /// happened, which claims are out and the disk are as before, also after `NoMemory`.
+    fn prepare(&mut self, piece: &Record, place: Place, days: &[Day]) -> Result<Text, NoMemory>
+        requires new { named (edits_of self.old.register.history.events) piece.now.edit.reference ≡ None }
+        requires place { IsPlaceOf (stations_at self.old.register.history.events) piece.now.edit.site place }
+        requires days { days.now ≡ changed_days (stations_at self.old.register.history.events) piece.now.edit }
+        ensures history { self.new.register.history ≡ self.old.register.history }
+        ensures claims { KeepsClaims self.old.register self.new.register }
+        ensures disk { self.new.disk ≡ self.old.disk }
+        ensures any_moment { IsSome (D.content self.old.disk) → LeavesOnly D.Disk self.old.disk self.new.disk (IsLeftBetween self.old.register.history self.new.register.history) }
+        ensures room { OnOk result (IsReady self.new.register piece.now.edit) }
+        ensures next { IfOk result (λ bytes. IsNext piece.now bytes) }
+    {
+        // this runs nothing: it tells the proof that each record of the code is in the grammar
+        keeps_grammar(piece);
+        let bytes = encode_and_close(self.alloc, piece)?;
+        self.register.prepare(piece.edit(), place, days)?;
+        Ok(bytes)
     }
 
     /// Keeps the record of an edit that nothing refuses in the journal, and accepts it. There is room for it, so no memory is taken.

@@ -34,7 +34,6 @@ pub struct Accepted {
 }
 
 /// The office of one thread. Contracts see what is kept in memory, the history with it, and the disk.
-#[derive(Drop)]
 pub struct Office<D: Disk> {
     pub(crate) alloc: Global,
     pub(crate) register: Register,
@@ -56,6 +55,18 @@ impl<D: Disk> Model for Office<D> {
     ghost view = { λ o. record { register = o.register; disk = o.journal.disk } };
 
     ghost invariant = { λ o. Stands o.register.history o.doubt o.journal };
+}
+
+/// By hand, so that a drop is one call wherever an office is dropped.
+impl<D: Disk + Drop> Drop for Office<D> {
+    fn drop(self) {
+        let Office {
+            alloc: _,
+            register: _register,
+            journal: _journal,
+            doubt: _doubt,
+        } = self;
+    }
 }
 
 impl<D: Disk> Office<D> {
@@ -147,6 +158,12 @@ impl<D: Disk> Office<D> {
         ensures now { IfSome (D.content result) (IsLeft self.register.history) }
         ensures images { IsSome (D.content result) → (image : List ℕ) → D.may_leave result image → IsLeft self.register.history image }
     {
-        self.journal.close()
+        let Office {
+            alloc: _,
+            register: _register,
+            journal,
+            doubt: _doubt,
+        } = self;
+        journal.close()
     }
 }

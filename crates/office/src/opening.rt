@@ -1,17 +1,20 @@
 //! The opening of an office on the journal of its edits: each is accepted as it was when it was made.
 
-ghost use Rattle.std.specs.Prelude.{◌≡◌, ◌≤◌, ◌<◌, ◌^◌, true, false, List, [], Ok, OnOk, IfOk, IfErr};
+ghost use Rattle.std.specs.Prelude.{◌≡◌, ◌≤◌, ◌<◌, ◌^◌, true, false, List, [], None, Ok, OnOk, IfOk, IfErr};
 ghost use Rattle.devices.specs.Disks.{IsUnchanged, IsDurable};
+ghost use Rattle.history.specs.Legal.{IsLegal};
 ghost use Rattle.journal.specs.Moments.{IsContent, LeavesOnly, OnlyReads, SyncsFirst};
+ghost use Rattle.journal.specs.Reading.{HasRead};
 ghost use Rattle.office.specs.Openings.{IsNotOpened, IsOpened};
 ghost use Rattle.office.specs.Replaying.{HasReadmitted, HasReadmittedAll, IsReadFault, ReadsNext};
+ghost use Rattle.office.specs.Standing.{Stands};
 ghost use Rattle.office_inputs.specs.declared.limits.Limits.{Limits};
 ghost use Rattle.records.specs.Sheets.{Record};
 
 use crate::offices::Office;
 use devices::Disk;
 use history::Doubt;
-use journal::{OpenFault, OpenRefused, Opening};
+use journal::{Journal, OpenFault, OpenRefused, Opening};
 use office_inputs::Limits;
 use register::laws::a_history_is_legal;
 use register::{NotReadmitted, Register};
@@ -40,21 +43,51 @@ impl<D: Disk> Office<D> {
         ensures refused_counted { IfErr result (λ refused. D.faults disk ≤ D.faults refused.disk) }
     {
         let mut opening = journal::open(alloc, disk)?;
-        let mut register = Register::new(alloc, limits);
-        if let Err(fault) = read_all(alloc, &mut opening, &mut register) {
-            return Err(OpenRefused {
+        match replay(alloc, &mut opening, limits) {
+            Ok(register) => {
+                let journal = opening.finish(limits.journal_bytes);
+                Ok(Office::over(alloc, register, journal))
+            }
+            Err(fault) => Err(OpenRefused {
                 disk: opening.give_up(),
                 fault,
-            });
+            }),
         }
-        a_history_is_legal(&register);
-        Ok(Office {
+    }
+
+    /// The office of what is kept in memory and of its journal, which is in doubt of no record.
+    fn over(alloc: Global, register: Register, journal: Journal<D>) -> Office<D>
+        requires { Stands register.history None journal }
+        ensures register { result.register ≡ register }
+        ensures disk { result.disk ≡ journal.disk }
+    {
+        Office {
             alloc,
             register,
-            journal: opening.finish(limits.journal_bytes),
+            journal,
             doubt: Doubt::none(),
-        })
+        }
     }
+}
+
+/// What is kept in memory once the records up to the closed gate are read, and the edit of each is accepted.
+fn replay<D: Disk>(
+    alloc: Global,
+    opening: &mut Opening<D>,
+    limits: Limits,
+) -> Result<Register, OpenFault>
+    requires { HasRead [] opening.old }
+    ensures all { IfOk result (λ register. (pieces : List Record) × HasReadmittedAll limits pieces register opening.new) }
+    ensures legal { IfOk result (λ register. IsLegal register.history) }
+    ensures ended { OnOk result (opening.new.ended ≡ true) }
+    ensures refused { IfErr result (λ fault. IsReadFault (D.content opening.new.ahead.disk) limits fault (D.faults opening.old.ahead.disk) (D.faults opening.new.ahead.disk)) }
+    ensures disk { OnlyReads D.Disk opening.old.ahead.disk opening.new.ahead.disk }
+    ensures done { OnOk result (D.faults opening.new.ahead.disk ≡ D.faults opening.old.ahead.disk) }
+{
+    let mut register = Register::new(alloc, limits);
+    read_all(alloc, opening, &mut register)?;
+    a_history_is_legal(&register);
+    Ok(register)
 }
 
 /// Reads the records up to the closed gate, and accepts the edit of each.

@@ -79,8 +79,8 @@ returns-in-Ok-Refused-clause-cause g c in_doubt is =
     let fault : c.in-Ok-Refused.refusal ≡ JournalFault in_doubt = cc in
     absurd (not_a_fault c.args.self.now.register.history c.args.edit c.in-Ok-Refused.refusal in_doubt refused fault)
 
-pub returns-clause-steps : goal.returns-clause-steps
-returns-clause-steps g c =
+pub returns-in-Ok-Accepted-clause-steps : goal.returns-in-Ok-Accepted-clause-steps
+returns-in-Ok-Accepted-clause-steps g c =
     subst (λ (o : Officed g.row.D.Denot). c.judge.new.steps ≤ c.args.steps.now + length (interval (stations_at o.register.history.events) c.args.edit) + 9)
     c.self.view_is c.judge.ensures.steps
 

@@ -1,7 +1,6 @@
 -- A record that is not refused among those that an office is opened with may be kept.
-use Rattle.std.specs.Prelude.{◌≡◌, Option, Some, None, option_map, ℤ}
+use Rattle.std.specs.Prelude.{◌≡◌, Option, Some, None}
 use Rattle.std.proofs.Common.{refl, ap, ◌∙◌}
-use Rattle.approval.specs.declared.objections.Objection.{Objection}
 use Rattle.edits.specs.declared.content.Edit.{Edit}
 use Rattle.history.specs.Accepted.{Numbered, edits_of, named}
 use Rattle.history.specs.Events.{History}
@@ -15,6 +14,7 @@ use Rattle.office_inputs.specs.declared.refusals.Refusal.{Refusal}
 use Rattle.office_inputs.specs.declared.refusals.Refusal.TheVariants.{Locked}
 use Rattle.records.specs.Sheets.{AreSheetsOf, Record}
 use Rattle.register.specs.Asked.{readmission_refusal, refused_at_once, reused}
+use Rattle.register.proofs.JudgedLemmas.{apart}
 
 not_named : (o : Option Numbered) → reused o ≡ None → o ≡ None
 not_named None h = refl
@@ -47,28 +47,24 @@ may_be_kept h piece sheets none =
       unlocked = none_mapped Locked (locked_at h.events edit) (later_none (refused_by_statuses h edit) locked later);
     }
 
-module _ (h : History) (edit : Edit) (new : named (edits_of h.events) edit.reference ≡ None) (stations : refused_by_stations h edit ≡ None) where
-  behind : readmission_refusal h edit ≡ or_else (refused_by_statuses h edit) (refused_as_locked h edit)
-  behind =
-      ap (λ (o : Option Numbered). or_else (reused o) (or_else (refused_by_stations h edit) (or_else (refused_by_statuses h edit) (refused_as_locked h edit)))) new
-      ∙ ap (λ (o : Option Refusal). or_else o (or_else (refused_by_statuses h edit) (refused_as_locked h edit))) stations
+-- an edit that is refused at once, and one that is not: only a lock may refuse it then
+module _ (h : History) (edit : Edit) where
+  behind : readmission_refusal h edit ≡ or_else (refused_at_once h edit) (refused_as_locked h edit)
+  behind = apart (reused (named (edits_of h.events) edit.reference)) (refused_by_stations h edit) (refused_by_statuses h edit) (refused_as_locked h edit)
 
-  pub refused_objection : (objection : Objection) → objection_at h.events edit ≡ Some objection → readmission_refusal h edit ≡ Some (inputs.refusal_for_objection objection)
-  refused_objection objection e =
-      behind ∙ ap (λ (o : Option Objection). or_else (option_map inputs.refusal_for_objection o) (refused_as_locked h edit)) e
+  pub is_refused_at_once : (refusal : Refusal) → refused_at_once h edit ≡ Some refusal → readmission_refusal h edit ≡ Some refusal
+  is_refused_at_once refusal e = behind ∙ ap (λ (o : Option Refusal). or_else o (refused_as_locked h edit)) e
 
-  pub without_objection : objection_at h.events edit ≡ None → readmission_refusal h edit ≡ refused_as_locked h edit
-  without_objection e =
-      behind ∙ ap (λ (o : Option Objection). or_else (option_map inputs.refusal_for_objection o) (refused_as_locked h edit)) e
+  pub refused_then : refused_at_once h edit ≡ None → readmission_refusal h edit ≡ refused_as_locked h edit
+  refused_then none = behind ∙ ap (λ (o : Option Refusal). or_else o (refused_as_locked h edit)) none
 
-  pub refused_lock : objection_at h.events edit ≡ None → (day : ℤ) → locked_at h.events edit ≡ Some day → readmission_refusal h edit ≡ Some (Locked day)
-  refused_lock e day l = without_objection e ∙ ap (option_map Locked) l
+  pub not_by_stations_at_once : refused_at_once h edit ≡ None → refused_by_stations h edit ≡ None
+  not_by_stations_at_once none =
+      first_none (refused_by_stations h edit) (refused_by_statuses h edit)
+      (later_none (reused (named (edits_of h.events) edit.reference)) (or_else (refused_by_stations h edit) (refused_by_statuses h edit)) none)
 
-  pub not_refused : objection_at h.events edit ≡ None → locked_at h.events edit ≡ None → readmission_refusal h edit ≡ None
-  not_refused e l = without_objection e ∙ ap (option_map Locked) l
-
-  pub not_at_once : objection_at h.events edit ≡ None → refused_at_once h edit ≡ None
-  not_at_once e =
-      ap (λ (o : Option Numbered). or_else (reused o) (or_else (refused_by_stations h edit) (refused_by_statuses h edit))) new
-      ∙ ap (λ (o : Option Refusal). or_else o (refused_by_statuses h edit)) stations
-      ∙ ap (option_map inputs.refusal_for_objection) e
+-- so a reference that it has is new
+pub new_to : (h : History) (edit : Edit) → readmission_refusal h edit ≡ None → named (edits_of h.events) edit.reference ≡ None
+new_to h edit none =
+    not_named (named (edits_of h.events) edit.reference)
+    (first_none (reused (named (edits_of h.events) edit.reference)) (or_else (refused_by_stations h edit) (or_else (refused_by_statuses h edit) (refused_as_locked h edit))) none)

@@ -5,6 +5,7 @@ pub mod FaultLemmas
 pub mod FoundLemmas
 pub mod JudgedLemmas
 pub mod KeepsLemmas
+pub mod KnownLemmas
 pub mod LimitLemmas
 pub mod NamedPlaceLemmas
 pub mod OpenedLemmas

@@ -9,7 +9,7 @@ use Rattle.history.specs.Awaited as days
 use Rattle.history.specs.Events.{Event, History}
 use Rattle.history.specs.Sheets.{Shown}
 use Rattle.history.specs.Sheets as shown
-use Rattle.history.specs.Verdicts.{Verdict, Repeats, Refuses, Accepts, or_else, refused_by_stations, refused_by_statuses, refused_as_locked, record_of}
+use Rattle.history.specs.Verdicts.{Verdict, Repeats, Refuses, Accepts, or_else, refused_by_stations, refused_by_statuses, refused_as_awaiting, refused_as_locked, record_of}
 use Rattle.office_inputs.specs.Changes.{changed_days}
 use Rattle.office_inputs.specs.Places.{IsPlaceOf}
 use Rattle.office_inputs.specs.declared.refusals.Refusal.{Refusal}
@@ -52,6 +52,10 @@ TellsRecord h edit (judged.Accepted piece place days) = piece ≡ record_of h ed
 -- the edit's days have to be looked for: its reference names no accepted edit, and the stations in force do not refuse it
 abbrev pub needs_days : History → Edit → Bool
 needs_days h edit = is_none (named (edits_of h.events) edit.reference) && is_none (refused_by_stations h edit)
+
+-- an edit that comes for the first time is refused without a look at the days that it changes
+abbrev pub refused_before_days : History → Edit → Option Refusal
+refused_before_days h edit = or_else (refused_by_stations h edit) (or_else (refused_by_statuses h edit) (refused_as_awaiting h edit))
 
 -- why a record is not accepted among those that an office is opened with
 abbrev pub reused : Option Numbered → Option Refusal

@@ -1,17 +1,16 @@
 //! An edit accepted, or refused by a fault of its journal; and the edits that an office is opened with.
 
-ghost use Rattle.std.specs.Prelude.{◌≡◌, ◌<◌, ◌+◌, ◌^◌, ◌∷◌, ◌++◌, [], false, ◌&&◌, if◌then◌else◌, length, None, IfErr, OnOk, OnErr};
+ghost use Rattle.std.specs.Prelude.{◌≡◌, ◌<◌, ◌+◌, ◌^◌, ◌∷◌, ◌++◌, [], false, ◌&&◌, if◌then◌else◌, length, None, IfOk, IfErr, OnOk, OnErr};
 ghost use Rattle.day_cells.specs.Days.{contains_day};
 ghost use Rattle.fixed_units.specs.Quantities.{SiteNumber, same_site};
 ghost use Rattle.history.specs.Accepted.{accepted, edits_of, stations_at, named, journal_size};
 ghost use Rattle.history.specs.After.{MayLeaveInDoubt, after_edit, after_fault, after_record, reopen};
 ghost use Rattle.history.specs.Awaited.{pending_days};
 ghost use Rattle.history.specs.Legal.{IsLegal};
-ghost use Rattle.history.specs.Statuses.{objection_at};
 ghost use Rattle.history.specs.Verdicts.{Accepts, record_of, refused_by_stations, verdict, with_record};
 ghost use Rattle.office_inputs.specs.Changes.{changed_days};
 ghost use Rattle.office_inputs.specs.Places.{IsPlaceOf};
-ghost use Rattle.register.specs.Asked.{IsNotReadmitted, readmission_refusal};
+ghost use Rattle.register.specs.Asked.{IsNotReadmitted, readmission_refusal, refused_at_once};
 ghost use Rattle.register.specs.Registered.{IsReady, KeepsClaims, MarksClaims, NoneOut};
 
 use crate::judged::NotReadmitted;
@@ -146,28 +145,34 @@ impl Register {
         ensures same { OnErr result (self.new.history ≡ self.old.history) }
         ensures claims { NoneOut self.old → NoneOut self.new }
     {
-        if let Some((number, _)) = self.named(piece.edit().reference.as_slice()) {
-            return Err(NotReadmitted::Refused(Refusal::RefReused(number)));
-        }
         let edit = piece.edit();
         let place = self.inputs.place(edit.site);
-        if let Some(refusal) = self.inputs.refusal_at(place, edit) {
+        if let Some(refusal) = self.refusal_at_once(place, edit) {
             return Err(NotReadmitted::Refused(refusal));
-        }
-        if let Some(objection) = self.statuses.objection(edit) {
-            return Err(NotReadmitted::Refused(objection.into()));
         }
         let mut steps = Steps::<L>::new(blank);
         let days = reach_at(self.alloc, &self.inputs, place, edit, &mut steps)?;
         self.readmit_on(piece, place, days.as_slice())
     }
 
+    /// Why an edit is refused without a look at the days that it changes, while an office is opened with it. It takes no memory.
+    fn refusal_at_once(&self, place: Place, edit: &Edit) -> Option<Refusal>
+        requires { IsPlaceOf (stations_at self.now.history.events) edit.now.site place }
+        ensures { result ≡ refused_at_once self.now.history edit.now }
+    {
+        if let Some((number, _)) = self.named(edit.reference.as_slice()) {
+            return Some(Refusal::RefReused(number));
+        }
+        if let Some(refusal) = self.inputs.refusal_at(place, edit) {
+            return Some(refusal);
+        }
+        self.status_refusal(edit)
+    }
+
     /// Accepts an edit that is not refused at once and changes these days, while an office is opened with it.
     fn readmit_on(&mut self, piece: Record, place: Place, days: &[Day]) -> Result<(), NotReadmitted>
         requires opening { self.old.history ≡ reopen self.old.history.limits (accepted self.old.history.events) }
-        requires new { named (edits_of self.old.history.events) piece.edit.reference ≡ None }
-        requires stations { refused_by_stations self.old.history piece.edit ≡ None }
-        requires statuses { objection_at self.old.history.events piece.edit ≡ None }
+        requires at_once { refused_at_once self.old.history piece.edit ≡ None }
         requires place { IsPlaceOf (stations_at self.old.history.events) piece.edit.site place }
         requires days { days.now ≡ changed_days (stations_at self.old.history.events) piece.edit }
         ensures history { OnOk result (self.new.history ≡ reopen self.old.history.limits (accepted self.old.history.events ++ piece ∷ [])) }
@@ -176,8 +181,8 @@ impl Register {
         ensures same { OnErr result (self.new.history ≡ self.old.history) }
         ensures claims { NoneOut self.old → NoneOut self.new }
     {
-        if let Some(day) = self.statuses.locked(piece.edit().site, days) {
-            return Err(NotReadmitted::Refused(Refusal::Locked(day)));
+        if let Some(refusal) = self.lock_refusal(piece.edit(), days) {
+            return Err(NotReadmitted::Refused(refusal));
         }
         self.readmit_unlocked(piece, place, days)
     }
@@ -200,15 +205,36 @@ impl Register {
     {
         // Its type promises a sheet for each day that it approves.
         let _ = piece.sheets();
-        if self.events_after(&piece, days).is_none() {
-            return Err(NotReadmitted::NoMemory);
-        }
-        let Some(bytes) = self.journal_after(&piece) else {
-            return Err(NotReadmitted::NoMemory);
-        };
-        self.prepare(piece.edit(), place, days)?;
+        let bytes = self.prepare_counted(&piece, place, days)?;
         let opened = self.opened + 1;
         self.take_in(piece, place, days, bytes, opened);
         Ok(())
+    }
+
+    /// Makes room for all that an edit adds which changes these days, where its events and the bytes of the journal can be counted, and
+    /// tells how many bytes the journal has with its record. What happened and which claims are out is as before, also after `NoMemory`.
+    fn prepare_counted(
+        &mut self,
+        piece: &Record,
+        place: Place,
+        days: &[Day],
+    ) -> Result<u64, NoMemory>
+        requires new { named (edits_of self.old.history.events) piece.now.edit.reference ≡ None }
+        requires place { IsPlaceOf (stations_at self.old.history.events) piece.now.edit.site place }
+        requires days { days.now ≡ changed_days (stations_at self.old.history.events) piece.now.edit }
+        ensures history { self.new.history ≡ self.old.history }
+        ensures claims { KeepsClaims self.old self.new }
+        ensures room { OnOk result (IsReady self.new piece.now.edit) }
+        ensures events { OnOk result (length self.old.history.events + 1 + length (pending_days (with_record self.old.history piece.now)) < 2 ^ 64) }
+        ensures bytes { IfOk result (λ bytes. bytes ≡ journal_size (accepted (with_record self.old.history piece.now))) }
+    {
+        if self.events_after(piece, days).is_none() {
+            return Err(NoMemory);
+        }
+        let Some(bytes) = self.journal_after(piece) else {
+            return Err(NoMemory);
+        };
+        self.prepare(piece.edit(), place, days)?;
+        Ok(bytes)
     }
 }

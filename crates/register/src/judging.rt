@@ -5,7 +5,7 @@ ghost use Rattle.edits.specs.Same.{is_same};
 ghost use Rattle.history.specs.Accepted.{accepted, edits_of, stations_at, named, cell_count, journal_size};
 ghost use Rattle.history.specs.Awaited.{pending_days};
 ghost use Rattle.history.specs.Events.{History};
-ghost use Rattle.history.specs.Verdicts.{or_else, record_of, refused_where, refused_by_stations, refused_by_statuses, refused_as_awaiting, is_full_of_events, is_full_of_cells, is_journal_full, verdict, with_record, Repeats, Refuses};
+ghost use Rattle.history.specs.Verdicts.{or_else, record_of, refused_where, refused_as_locked, refused_by_stations, is_full_of_events, is_full_of_cells, is_journal_full, verdict, with_record, Repeats, Refuses};
 ghost use Rattle.office_inputs.specs.Changes.{changed_days};
 ghost use Rattle.office_inputs.specs.Places.{IsPlaceOf};
 ghost use Rattle.office_inputs.specs.Touched.{interval};
@@ -13,7 +13,7 @@ ghost use Rattle.office_inputs.specs.declared.refusals.Full.TheVariants as fulls
 ghost use Rattle.office_inputs.specs.declared.refusals.Refusal.TheVariants.{RefReused, HistoryFull, JournalFull};
 ghost use Rattle.recompute.specs.Cells.{awaited_in};
 ghost use Rattle.records.specs.Payloads.{payload};
-ghost use Rattle.register.specs.Asked.{TellsChanged, TellsPlace, TellsRecord, verdict_told, needs_days};
+ghost use Rattle.register.specs.Asked.{TellsChanged, TellsPlace, TellsRecord, verdict_told, needs_days, refused_before_days};
 
 use crate::judged::Judged;
 use crate::registers::Register;
@@ -44,24 +44,43 @@ impl Register {
         if let Some((number, other)) = self.named(edit.reference.as_slice()) {
             return Ok(judge_again(number, other, &edit));
         }
+        self.judge_new(edit, steps)
+    }
+
+    /// The verdict of an edit whose reference names no accepted one.
+    fn judge_new<L: Ledger>(&self, edit: Edit, steps: &mut Steps<L>) -> Result<Judged, NoMemory>
+        requires { named (edits_of self.now.history.events) edit.reference ≡ None }
+        ensures verdict { IfOk result (λ judged. verdict_told judged ≡ verdict self.now.history edit) }
+        ensures changed { IfOk result (TellsChanged self.now.history edit) }
+        ensures place { IfOk result (TellsPlace self.now.history edit) }
+        ensures record { IfOk result (TellsRecord self.now.history edit) }
+        ensures steps { steps.new ≤ steps.old + length (interval (stations_at self.now.history.events) edit) + 9 }
+        ensures no_step { needs_days self.now.history edit ≡ false → steps.new ≡ steps.old }
+    {
         let place = self.inputs.place(edit.site);
-        if let Some(refusal) = self.inputs.refusal_at(place, &edit) {
-            return Ok(Judged::Refused(refusal));
-        }
-        if let Some(refusal) = self.review_refusal(&edit) {
+        if let Some(refusal) = self.refusal_before_days(place, &edit) {
             return Ok(Judged::Refused(refusal));
         }
         let days = reach_at(self.alloc, &self.inputs, place, &edit, steps)?;
         self.judge_changed(edit, place, days)
     }
 
-    /// The verdict of an edit that changes these days, which the stations in force, the statuses of its days and the edits that they await
-    /// do not refuse.
+    /// Why the stations in force, the statuses of its days or the edits that they await refuse an edit, without a look at the days that
+    /// it changes. It takes no memory.
+    fn refusal_before_days(&self, place: Place, edit: &Edit) -> Option<Refusal>
+        requires { IsPlaceOf (stations_at self.now.history.events) edit.now.site place }
+        ensures { result ≡ refused_before_days self.now.history edit.now }
+    {
+        match self.inputs.refusal_at(place, edit) {
+            Some(refusal) => Some(refusal),
+            None => self.review_refusal(edit),
+        }
+    }
+
+    /// The verdict of an edit that changes these days, which nothing refuses without a look at them.
     fn judge_changed(&self, edit: Edit, place: Place, days: DayList) -> Result<Judged, NoMemory>
         requires new { named (edits_of self.now.history.events) edit.reference ≡ None }
-        requires stations { refused_by_stations self.now.history edit ≡ None }
-        requires statuses { refused_by_statuses self.now.history edit ≡ None }
-        requires awaits_none { refused_as_awaiting self.now.history edit ≡ None }
+        requires before { refused_before_days self.now.history edit ≡ None }
         requires place { IsPlaceOf (stations_at self.now.history.events) edit.site place }
         requires days { days ≡ changed_days (stations_at self.now.history.events) edit }
         ensures verdict { IfOk result (λ judged. verdict_told judged ≡ verdict self.now.history edit) }
@@ -69,14 +88,39 @@ impl Register {
         ensures place { IfOk result (TellsPlace self.now.history edit) }
         ensures record { IfOk result (TellsRecord self.now.history edit) }
     {
-        if let Some(day) = self.statuses.locked(edit.site, days.as_slice()) {
-            return Ok(Judged::Refused(Refusal::Locked(day)));
-        }
-        let piece = self.record_of(edit)?;
-        if let Some(refusal) = self.lacks_room(&piece, days.as_slice()) {
+        if let Some(refusal) = self.lock_refusal(&edit, days.as_slice()) {
             return Ok(Judged::Refused(refusal));
         }
-        Ok(Judged::Accepted { piece, place, days })
+        let piece = self.record_of(edit)?;
+        Ok(self.judge_record(piece, place, days))
+    }
+
+    /// The first approved day that an edit would change, as a refusal. It takes no memory.
+    pub(crate) fn lock_refusal(&self, edit: &Edit, days: &[Day]) -> Option<Refusal>
+        requires { days.now ≡ changed_days (stations_at self.now.history.events) edit.now }
+        ensures { result ≡ refused_as_locked self.now.history edit.now }
+    {
+        let day = self.statuses.locked(edit.site, days)?;
+        Some(Refusal::Locked(day))
+    }
+
+    /// The verdict of an edit by its record, which only want of room may refuse.
+    fn judge_record(&self, piece: Record, place: Place, days: DayList) -> Judged
+        requires new { named (edits_of self.now.history.events) piece.edit.reference ≡ None }
+        requires before { refused_before_days self.now.history piece.edit ≡ None }
+        requires unlocked { refused_as_locked self.now.history piece.edit ≡ None }
+        requires made { piece ≡ record_of self.now.history piece.edit }
+        requires place { IsPlaceOf (stations_at self.now.history.events) piece.edit.site place }
+        requires days { days ≡ changed_days (stations_at self.now.history.events) piece.edit }
+        ensures verdict { verdict_told result ≡ verdict self.now.history piece.edit }
+        ensures changed { TellsChanged self.now.history piece.edit result }
+        ensures place { TellsPlace self.now.history piece.edit result }
+        ensures record { TellsRecord self.now.history piece.edit result }
+    {
+        match self.lacks_room(&piece, days.as_slice()) {
+            Some(refusal) => Judged::Refused(refusal),
+            None => Judged::Accepted { piece, place, days },
+        }
     }
 
     /// For what there is no room, of an edit that changes these days: its events, its cells or its record.

@@ -26,8 +26,8 @@ impl Register {
     pub(crate) fn review_refusal(&self, edit: &Edit) -> Option<Refusal>
         ensures { result ≡ or_else (refused_by_statuses self.now.history edit.now) (refused_as_awaiting self.now.history edit.now) }
     {
-        if let Some(objection) = self.statuses.objection(edit) {
-            return Some(objection.into());
+        if let Some(refusal) = self.status_refusal(edit) {
+            return Some(refusal);
         }
         match &edit.what {
             What::Decide { from, to, decision } => match decision {
@@ -36,6 +36,14 @@ impl Register {
             },
             _ => None,
         }
+    }
+
+    /// Why the statuses of its days refuse an edit. It takes no memory.
+    pub(crate) fn status_refusal(&self, edit: &Edit) -> Option<Refusal>
+        ensures { result ≡ refused_by_statuses self.now.history edit.now }
+    {
+        let objection = self.statuses.objection(edit)?;
+        Some(objection.into())
     }
 
     /// The first day from one to another, both included, that awaits an edit, with that edit, as a refusal.

@@ -1,18 +1,15 @@
--- The stations in force are those of the history, so the search is as long.
-use Rattle.std.specs.Prelude.{◌+◌, ◌≤◌, List, length}
-use Rattle.std.proofs.Common.{ap, subst, ◌∙◌}
-use Rattle.history.specs.Accepted.{stations_at}
-use Rattle.station_inputs.specs.Stations.{StationState}
-use Rattle.office_inputs.specs.Touched.{interval}
-use Rattle.register.specs.Registered.{Registered}
+-- The accepted edit that the reference names tells whether it comes again.
+use Rattle.std.specs.Prelude.{None}
+use Rattle.std.proofs.Common.{sym, ◌∙◌}
+use Rattle.register.proofs.KnownLemmas.{is_again, named_as}
 use Rattle.register.proofs.registers.Register.judge.Goals as goal
 
-pub returns-clause-steps : goal.returns-clause-steps
-returns-clause-steps g c =
-    let same = c.self.invariant.stations ∙ ap (λ (r : Registered). stations_at r.history.events) c.self.view_is in
-    subst (λ (stations : List StationState). c.reach_at.new.steps ≤ c.args.steps.now + length (interval stations c.args.edit) + 9) same c.reach_at.ensures.steps
+pub returns-in-Some-clause-verdict : goal.returns-in-Some-clause-verdict
+returns-in-Some-clause-verdict g c =
+    c.judge_again.ensures.verdict
+    ∙ sym (is_again _ c.named.result c.args.self.now.history c.args.edit c.as_slice.result.now c.as_slice.ensures.codes c.named.ensures
+    (c.in-Some.number, c.in-Some.other) c.in-Some.is)
 
-pub returns-in_err-days-clause-steps : goal.returns-in_err-days-clause-steps
-returns-in_err-days-clause-steps g c =
-    let same = c.self.invariant.stations ∙ ap (λ (r : Registered). stations_at r.history.events) c.self.view_is in
-    subst (λ (stations : List StationState). c.reach_at.new.steps ≤ c.args.steps.now + length (interval stations c.args.edit) + 9) same c.reach_at.ensures.steps
+pub judge_new-requires : goal.judge_new-requires
+judge_new-requires g c =
+    named_as _ c.named.result c.args.self.now.history c.args.edit c.as_slice.result.now c.as_slice.ensures.codes c.named.ensures None c.in_default.is

@@ -10,14 +10,14 @@ use Rattle.register.specs.Asked.{IsNotReadmitted, refused_at_once}
 use Rattle.register.specs.Registered.{Registered}
 use Rattle.register.specs.declared.judged.NotReadmitted.{NotReadmitted}
 use Rattle.register.specs.declared.judged.NotReadmitted.TheVariants as opening
-use Rattle.register.proofs.AdmittedLemmas.{may_be_kept, none_at_once}
+use Rattle.register.proofs.AdmittedLemmas.{may_be_kept, new_to, none_at_once}
 use Rattle.register.proofs.OpenedLemmas.{legal_opened, not_out}
 use Rattle.register.proofs.registers.Register.readmit_unlocked.Goals as goal
 
 pub take_in-requires-clause-legal : goal.take_in-requires-clause-legal
 take_in-requires-clause-legal c =
     let h = c.args.self.now.history in
-    let same = c.in_ok-prepare.ensures.history in
+    let same = c.in_ok-bytes.ensures.history in
     let legal : IsLegal h = subst IsLegal same (subst (λ (r : Registered). IsLegal r.history) c.self.view_is c.self.invariant.legal) in
     let opened : c.self.inside.opened ≡ h.opened = ap (λ (r : Registered). r.history.opened) c.self.view_is ∙ ap (λ (x : History). x.opened) same in
     subst (λ (x : History). IsLegal (after_record (c.self.inside.opened + 1) x c.args.piece)) (sym same)
@@ -29,23 +29,20 @@ without_memory : {T : Type 0} (r : Result T NotReadmitted) (h : History) (edit :
 without_memory (Ok x) h edit e n = tt
 without_memory (Err told) h edit e n = subst (IsNotReadmitted h edit) (sym e) n
 
-pub returns-then-is_none-clause-refused : goal.returns-then-is_none-clause-refused
-returns-then-is_none-clause-refused c = none_at_once c.args.self.now.history c.args.piece.edit c.requires.lawful
+pub prepare_counted-requires-clause-new : goal.prepare_counted-requires-clause-new
+prepare_counted-requires-clause-new c = new_to c.args.self.now.history c.args.piece.edit c.requires.lawful
 
-pub returns-in_default-clause-refused : goal.returns-in_default-clause-refused
-returns-in_default-clause-refused c = none_at_once c.args.self.now.history c.args.piece.edit c.requires.lawful
-
-pub returns-in_err-prepare-clause-refused : goal.returns-in_err-prepare-clause-refused
-returns-in_err-prepare-clause-refused c =
+pub returns-in_err-bytes-clause-refused : goal.returns-in_err-bytes-clause-refused
+returns-in_err-bytes-clause-refused c =
     without_memory c.from_residual.result c.args.self.now.history c.args.piece.edit c.from_residual.ensures.1
     (none_at_once c.args.self.now.history c.args.piece.edit c.requires.lawful)
 
 pub take_in-requires-clause-lawful : goal.take_in-requires-clause-lawful
 take_in-requires-clause-lawful c =
-    subst (λ (x : History). refused_by_stations x c.args.piece.edit ≡ None) (sym c.in_ok-prepare.ensures.history)
+    subst (λ (x : History). refused_by_stations x c.args.piece.edit ≡ None) (sym c.in_ok-bytes.ensures.history)
     (may_be_kept c.args.self.now.history c.args.piece c.sheets.ensures.lawful c.requires.lawful).stations
 
 pub returns-clause-claims : goal.returns-clause-claims
 returns-clause-claims c = λ none site day.
     c.take_in.ensures.claims site day
-    ∙ not_out _ _ (c.in_ok-prepare.ensures.claims site day ∙ none site day)
+    ∙ not_out _ _ (c.in_ok-bytes.ensures.claims site day ∙ none site day)

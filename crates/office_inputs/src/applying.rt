@@ -53,7 +53,7 @@ impl Inputs {
         ensures stations { (station : StationState) → IsStagedStation station self.old.staged → in_force self.new ≡ put place_of station (in_force self.old) }
         ensures limits { self.new.limits ≡ self.old.limits }
     {
-        if let StagedEdit::Whole(station) = self.take_staged() {
+        if let Some(station) = self.take_staged().into_station() {
             add_in(&mut self.stations, station);
         }
     }
@@ -68,7 +68,7 @@ impl Inputs {
         ensures stations { in_force self.new ≡ changed_at place.site (station_after what.now) (in_force self.old) }
         ensures limits { self.new.limits ≡ self.old.limits }
     {
-        let staged = part_of(self.take_staged());
+        let staged = self.take_staged().into_part();
         let (before, after) = change_in(&mut self.stations, place, what, staged);
         self.readings = self.readings - before as u64 + after as u64;
     }
@@ -81,16 +81,6 @@ impl Inputs {
         ensures spare { self.new.spare ≡ self.old.spare }
     {
         mem::replace(&mut self.staged, StagedEdit::Part(Staged::Nothing))
-    }
-}
-
-/// What is staged for an edit of a station that is there.
-fn part_of(staged: StagedEdit) -> Staged
-    ensures { result ≡ staged_part staged }
-{
-    match staged {
-        StagedEdit::Part(part) => part,
-        StagedEdit::Whole(_) => Staged::Nothing,
     }
 }
 

@@ -3,7 +3,8 @@
 use approval::Objection;
 use fixed_units::{Day, Second};
 use station_inputs::{Counted, Obstacle};
-use thiserror::Error;
+use std::error::Error;
+use std::fmt;
 
 /// Which count an edit would raise past its limit, in the order in which they are asked.
 #[derive(Clone, Copy, Debug, PartialEq, Eq)]
@@ -50,64 +51,80 @@ pub enum Full {
 }
 
 /// Why an edit is refused.
-#[derive(Clone, Copy, Debug, PartialEq, Eq, Error)]
+#[derive(Clone, Copy, Debug, PartialEq, Eq)]
 pub enum Refusal {
     /// The reference is that of this accepted edit, which differs.
-    #[error("the reference is that of another accepted edit")]
     RefReused(u64),
     /// The site is not kept.
-    #[error("the site is not kept")]
     NoStation,
     /// The station to be added is kept already.
-    #[error("the station is kept already")]
     StationExists,
     /// A count would pass its limit.
-    #[error("a count would pass its limit")]
     Limit(Which),
     /// The station has no rating of the number that a period names.
-    #[error("the station has no such rating")]
     NoRating,
     /// The station has a rating of that number already.
-    #[error("the station has a rating of that number already")]
     RatingExists,
     /// The period shares an instant with one that begins at another instant: the first of these begins here.
-    #[error("the period shares an instant with another one")]
     PeriodOverlap(Second),
     /// A drop or a flagging finds nothing: no reading in its span, no entry at its instant in its series, no period of its start, no
     /// estimate of its day, or no measurement of its number.
-    #[error("nothing stands where the edit would act")]
     NoEntry,
     /// An approval names this day, which is not in review: the first such day.
-    #[error("a day to be approved is not in review")]
     NotInReview(Day),
     /// An approval names this day, which the approver put in review: the first such day.
-    #[error("a day to be approved was put in review by the approver")]
     SamePerson(Day),
     /// An approval names this day, which awaits the edit of this number: the first such day.
-    #[error("a day to be approved awaits an edit")]
     Awaits(Day, u64),
     /// A rescission names this day, which is not approved: the first such day.
-    #[error("a day whose approval is to be taken back is not approved")]
     NotApproved(Day),
     /// A review names this day, which is approved: the first such day.
-    #[error("a day to be reviewed is approved")]
     AlreadyApproved(Day),
     /// The edit would change the inputs of this day, which is approved: the first such day.
-    #[error("an approved day would change")]
     Locked(Day),
     /// The history has no room.
-    #[error("the history is full")]
     HistoryFull(Full),
     /// The journal has no room.
-    #[error("the journal is full")]
     JournalFull,
     /// There is no memory for the edit.
-    #[error("there is no memory for the edit")]
     NoMemory,
     /// The disk of the journal failed: whether the edit may stand in the journal nevertheless.
-    #[error("the disk of the journal failed")]
     JournalFault(bool),
 }
+
+impl Refusal {
+    /// What it says, in words.
+    fn as_str(&self) -> &'static str {
+        match self {
+            Refusal::RefReused(..) => "the reference is that of another accepted edit",
+            Refusal::NoStation => "the site is not kept",
+            Refusal::StationExists => "the station is kept already",
+            Refusal::Limit(..) => "a count would pass its limit",
+            Refusal::NoRating => "the station has no such rating",
+            Refusal::RatingExists => "the station has a rating of that number already",
+            Refusal::PeriodOverlap(..) => "the period shares an instant with another one",
+            Refusal::NoEntry => "nothing stands where the edit would act",
+            Refusal::NotInReview(..) => "a day to be approved is not in review",
+            Refusal::SamePerson(..) => "a day to be approved was put in review by the approver",
+            Refusal::Awaits(..) => "a day to be approved awaits an edit",
+            Refusal::NotApproved(..) => "a day whose approval is to be taken back is not approved",
+            Refusal::AlreadyApproved(..) => "a day to be reviewed is approved",
+            Refusal::Locked(..) => "an approved day would change",
+            Refusal::HistoryFull(..) => "the history is full",
+            Refusal::JournalFull => "the journal is full",
+            Refusal::NoMemory => "there is no memory for the edit",
+            Refusal::JournalFault(..) => "the disk of the journal failed",
+        }
+    }
+}
+
+impl fmt::Display for Refusal {
+    fn fmt<W: fmt::Write>(&self, f: &mut fmt::Formatter<W>) -> fmt::Result {
+        f.write_str(self.as_str())
+    }
+}
+
+impl Error for Refusal {}
 
 impl From<Obstacle> for Refusal {
     ghost use Rattle.std.specs.Prelude.{◌≡◌};

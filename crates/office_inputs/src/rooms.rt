@@ -65,10 +65,30 @@ impl Inputs {
         ensures staged { OnOk result (IsStagedStation (new_station site name.now zone.now gap stage_array discharge_array) self.new.staged) }
         ensures room { OnOk result (0 < self.new.spare) }
     {
+        self.stations.reserve(1)?;
+        let station = self.station_to_add(site, name, zone, gap, stage_array, discharge_array)?;
+        self.stage(StagedEdit::Whole(station));
+        Ok(())
+    }
+
+    /// The station that an edit adds.
+    fn station_to_add(
+        &self,
+        site: Site,
+        name: &Name,
+        zone: &Name,
+        gap: u32,
+        stage_array: RoundingArray,
+        discharge_array: RoundingArray,
+    ) -> Result<Station, NoMemory>
+        requires zone { IsZone zone.now }
+        requires gap_low { 1 ≤ gap }
+        requires gap_high { gap ≤ most_gap }
+        ensures { IfOk result (λ station. station.station ≡ new_station site name.now zone.now gap stage_array discharge_array) }
+    {
         let zone = zone_of(self.alloc, self.stations.as_slice(), zone)?;
         let name = name.copy(self.alloc)?;
-        self.stations.reserve(1)?;
-        self.staged = StagedEdit::Whole(Station::new(
+        Ok(Station::new(
             self.alloc,
             site,
             name,
@@ -76,8 +96,7 @@ impl Inputs {
             gap,
             stage_array,
             discharge_array,
-        ));
-        Ok(())
+        ))
     }
 
     /// Makes room for an edit of the station at a place, where its site is kept.
@@ -88,8 +107,19 @@ impl Inputs {
         ensures limits { self.new.limits ≡ self.old.limits }
         ensures room { OnOk result (HasRoomThere self.new.kept (staged_part self.new.staged) place.site what.now) }
     {
-        self.staged = StagedEdit::Part(prepare_in(self.alloc, &mut self.stations, place, what)?);
+        let staged = prepare_in(self.alloc, &mut self.stations, place, what)?;
+        self.stage(StagedEdit::Part(staged));
         Ok(())
+    }
+
+    /// Stages this in the place of what was staged before.
+    fn stage(&mut self, staged: StagedEdit)
+        ensures staged { self.new.staged ≡ staged }
+        ensures kept { self.new.kept ≡ self.old.kept }
+        ensures limits { self.new.limits ≡ self.old.limits }
+        ensures spare { self.new.spare ≡ self.old.spare }
+    {
+        self.staged = staged;
     }
 }
 

@@ -1,9 +1,10 @@
 //! A trial whole: an office over a new journal on a disk in memory, the orders asked of it, and its text.
 
-ghost use Rattle.std.specs.Prelude.{◌≡◌, ◌+◌, ◌++◌, [], length, IfOk, OnOk};
+ghost use Rattle.std.specs.Prelude.{◌≡◌, ◌+◌, ◌++◌, [], None, length, IfOk, OnOk};
 ghost use Rattle.history.specs.Accepted.{accepted};
 ghost use Rattle.history.specs.After.{reopen};
 ghost use Rattle.history.specs.Awaited.{pending_days};
+ghost use Rattle.office.specs.Openings.{IsOpened};
 ghost use Rattle.trial.specs.Figures.{IsTrialText, publications, text_of};
 ghost use Rattle.office_inputs.specs.Usual.{usual};
 ghost use Rattle.trial.specs.Trials.{beginning};
@@ -37,18 +38,31 @@ pub fn run_trial(alloc: Global, number: u32) -> Result<Text, NoMemory>
 fn new_office(alloc: Global) -> Result<Office<ScratchDisk>, NoMemory>
     ensures { IfOk result (λ office. office.register.history ≡ reopen usual []) }
 {
-    let mut disk = ScratchDisk::empty(alloc);
-    if journal::init(&mut disk).is_err() {
-        return Err(NoMemory);
-    }
-    let Ok(office) = Office::open(alloc, disk, Limits::usual()) else {
-        return Err(NoMemory);
-    };
+    let office = office_over(alloc, new_journal(alloc)?)?;
     // This does not happen: the journal is new, so no record was read. The disk tells no content, so the proof knows it by this test alone.
     if office.events() > 0 {
         return Err(NoMemory);
     }
     Ok(office)
+}
+
+/// A disk in memory with a new journal.
+fn new_journal(alloc: Global) -> Result<ScratchDisk, NoMemory> {
+    let mut disk = ScratchDisk::empty(alloc);
+    match journal::init(&mut disk) {
+        Ok(()) => Ok(disk),
+        Err(_) => Err(NoMemory),
+    }
+}
+
+/// An office over a journal that tells no content, with the usual limits.
+fn office_over(alloc: Global, disk: ScratchDisk) -> Result<Office<ScratchDisk>, NoMemory>
+    ensures { IfOk result (λ office. IsOpened None usual office.register) }
+{
+    match Office::open(alloc, disk, Limits::usual()) {
+        Ok(office) => Ok(office),
+        Err(_) => Err(NoMemory),
+    }
 }
 
 /// The text of the trial of a number, whose orders are asked of an office over a new journal.

@@ -1,3 +1,4 @@
+pub mod Connections
 pub mod Insides
 pub mod Places
 pub mod Replays

@@ -1,11 +1,15 @@
 pub mod Cabinets
 pub mod Disks
+pub mod Doors
 pub mod Failures
 pub mod Faults
 pub mod Files
+pub mod Loopback
 pub mod Memory
 pub mod MemoryCabinets
 pub mod MemoryDisks
+pub mod MemoryDoors
 pub mod Sinks
 pub mod Sources
+pub mod Started
 pub mod Writes

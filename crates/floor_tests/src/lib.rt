@@ -1,4 +1,4 @@
-//! Small tests of what no row of data can tell: values of no size, room that no memory holds, threads, and the system's own files and streams.
+//! Small tests of what no row of data can tell: values of no size, room that no memory holds, threads, and the system's own files, streams and connections.
 #![tactic(auto)]
 
 #[cfg(test)]
@@ -10,8 +10,12 @@ mod counted;
 #[cfg(test)]
 mod disks;
 #[cfg(test)]
+mod doors;
+#[cfg(test)]
 mod histories;
 pub mod numbers;
+#[cfg(test)]
+mod spawners;
 #[cfg(test)]
 mod streams;
 #[cfg(test)]

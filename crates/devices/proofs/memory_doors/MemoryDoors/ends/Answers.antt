@@ -1,0 +1,28 @@
+use Rattle.std.specs.Prelude.{◌≡◌, ◌≤◌, suc, length, List, option_map, Option, Some, slice_get}
+use Rattle.std.proofs.Common.{ap, sym, subst, ◌∙◌, arith}
+use Rattle.std.proofs.lemmas.Option.{slice_get-get_or}
+use Rattle.devices.specs.declared.memory_doors.MemoryEnds.{MemoryEnds}
+use Rattle.devices.specs.declared.memory_doors.MemoryPlace.{MemoryPlace}
+use Rattle.devices.specs.MemoryDoors.{all_told, taken_back_at}
+use Rattle.devices.proofs.Connections.{nothing_under, stands_under, by_loan}
+use Rattle.devices.proofs.memory_doors.MemoryDoors.ends.Goals as goal
+
+pub returns-in_err-get : goal.returns-in_err-get
+returns-in_err-get c =
+    let place = c.in_ok-place.place in
+    let number : suc place ≡ c.args.number = grind arith in
+    let past = subst (λ (l : List MemoryPlace). length l ≤ place) c.deref.ensures.value c.in_err-get.ensures.lookup.3 in
+    rw (c.from_residual-in_err-get.ensures) (nothing_under taken_back_at c.args.self.now.places.items c.args.number place number past)
+
+pub returns : goal.returns
+returns c =
+    let place = c.in_ok-place.place in
+    let number : suc place ≡ c.args.number = grind arith in
+    let kept = c.in_ok-get.field-0.now in
+    let lookup = c.in_ok-get.ensures.lookup.3 in
+    let here : slice_get c.deref.result.now place ≡ Some kept =
+    slice_get-get_or c.deref.result.now place kept lookup.0 ∙ ap Some (sym (lookup.1 kept)) in
+    by_loan all_told c.as_ref.result _
+    (stands_under taken_back_at c.args.self.now.places.items c.args.number place kept number
+    (ap (λ (l : List MemoryPlace). slice_get l place) (sym c.deref.ensures.value) ∙ here)
+    ∙ ap (λ (o : Option MemoryEnds). option_map all_told o) (sym c.as_ref.ensures.value))

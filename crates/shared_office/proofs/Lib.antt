@@ -1,0 +1,4 @@
+pub mod EntryLemmas
+pub mod CountLemmas
+pub mod FindLemmas
+pub mod ShareLemmas

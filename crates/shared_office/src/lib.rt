@@ -1,0 +1,8 @@
+//! The office that sessions and workers share: as a value that a turnstile keeps, with what each of them does to it while it has it.
+#![tactic(auto)]
+
+pub mod entries;
+pub mod shared;
+
+pub use entries::{Entry, Fixed};
+pub use shared::{Found, Shared};

@@ -1,0 +1,158 @@
+//! An office that is shared, and what is done to it by whoever has it.
+
+ghost use Rattle.std.specs.Prelude.{◌≡◌, ◌↔◌, ◌≤◌, true, List, [], ◌∷◌, ◌++◌, length, None, IsSome, IfOk, IfErr, OnErr};
+ghost use Rattle.std.specs.Option.{ForSome};
+ghost use Rattle.history.specs.Events.{Event};
+ghost use Rattle.office.specs.Counting.{CountsEdit, HasCounted};
+ghost use Rattle.office.specs.Edits.{Edits};
+ghost use Rattle.office.specs.Steps.{APublication, AnEdit, IsStep, Step};
+ghost use Rattle.register.specs.Registered.{first_unclaimed};
+ghost use Rattle.shared_office.specs.Entries.{CanEnd, GoOn, entries, fixed_part};
+ghost use Rattle.shared_office.specs.Finding.{Finds, IsWorkStep, published_by};
+ghost use Rattle.shared_office.specs.declared.entries.Entry.TheVariants as entry;
+
+use crate::entries::{Entry, Fixed};
+use devices::Disk;
+use edits::Edit;
+use fixed_units::NoMemory;
+use office::{Accepted, Office};
+use office_inputs::Refusal;
+use recompute::{Done, Job, Publish};
+use turnstile::Kept;
+
+/// An office that is shared, and how many events it had when it was told that no further edit will be asked for. Its disk has counted
+/// each fault of its history.
+#[derive(Drop)]
+pub struct Shared<D: Disk> {
+    /// The office.
+    pub office: Office<D>,
+    /// How many events it had when its end was told, or `None` where it was not told yet.
+    pub ending: Option<u64>,
+    pub ghost ended: { ForSome ending (λ n. n ≤ length office.register.history.events) },
+    pub ghost counted: { HasCounted office.register.history (D.faults office.disk) },
+    pub ghost can_end: { CanEnd office.register.history },
+}
+
+impl<D: Disk> Kept for Shared<D> {
+    type Entry = Entry;
+
+    type Fixed = Fixed;
+
+    ghost history = { λ s. entries s.office.register.history.events s.ending };
+
+    ghost fixed = { λ s. fixed_part s.office.register.history };
+
+    fn events(&self) -> u64 {
+        let count = self.office.events();
+        match self.ending {
+            Some(_) => count + 1,
+            None => count,
+        }
+    }
+}
+
+/// What a worker finds.
+#[derive(Drop)]
+pub enum Found {
+    /// A day to compute.
+    Job(Job),
+    /// No day for now.
+    Nothing,
+    /// The end was told, and no day is pending.
+    Drained,
+}
+
+/// Whether the events of an office, a publication of each pending day and the ending can be counted, whatever is still accepted.
+fn can_end<D: Disk>(office: &Office<D>) -> bool
+    ensures { result ≡ true ↔ CanEnd office.now.register.history }
+{
+    office.limits().events < u64::MAX && office.events().saturating_add(office.pending()) < u64::MAX
+}
+
+impl<D: Disk> Shared<D> {
+    /// The office, shared, with its end not told. It is handed back exactly where its events, a publication of each pending day and the
+    /// ending could not be counted by a number of 64 bits, or its limit of events is the greatest such number.
+    pub fn new(office: Office<D>) -> Result<Shared<D>, Office<D>>
+        requires { HasCounted office.register.history (D.faults office.disk) }
+        ensures shared { IfOk result (λ s. (s.office ≡ office) × (s.ending ≡ None)) }
+        ensures back { IfErr result (λ o. (o ≡ office) × ¬ CanEnd office.register.history) }
+    {
+        if can_end(&office) {
+            Ok(Shared {
+                office,
+                ending: None,
+            })
+        } else {
+            Err(office)
+        }
+    }
+
+    /// Keeps an edit in the journal and accepts it, as [`Office::take`] does.
+    ///
+    /// # Errors
+    ///
+    /// Those of [`Office::edit`].
+    pub fn take(&mut self, edit: Edit) -> Result<Accepted, Refusal>
+        ensures edited { Edits self.old.office.register.history edit self.new.office.register.history result }
+        ensures step { IsStep self.old.office.register (AnEdit edit result) self.new.office.register }
+        ensures list { (added : List Event) × GoOn self.old.office.register.history self.old.ending self.new.office.register.history self.new.ending added }
+        ensures counts { CountsEdit (D.faults self.old.office.disk) result (D.faults self.new.office.disk) }
+    {
+        self.office.take(edit)
+    }
+
+    /// What there is to do for a worker. The claim of a day that is found is out from then on. Nothing happens to the office; after
+    /// `NoMemory` all is as before.
+    pub fn find(&mut self) -> Result<Found, NoMemory>
+        ensures found { IfOk result (Finds self.old.office.register self.old.ending) }
+        ensures list { GoOn self.old.office.register.history self.old.ending self.new.office.register.history self.new.ending [] }
+        ensures step { (step : Step) × IsWorkStep step × IsStep self.old.office.register step self.new.office.register }
+        ensures err { OnErr result (self.new.office ≡ self.old.office) }
+    {
+        match self.office.claim()? {
+            Some(job) => Ok(Found::Job(job)),
+            None => self.find_behind_claims(),
+        }
+    }
+
+    /// What there is to do where the claim of each pending day is out.
+    fn find_behind_claims(&self) -> Result<Found, NoMemory>
+        requires { first_unclaimed self.now.office.register ≡ None }
+        ensures { IfOk result (Finds self.now.office.register self.now.ending) }
+    {
+        let Some(_) = self.ending else {
+            return Ok(Found::Nothing);
+        };
+        match self.office.after(None)? {
+            Some(job) => Ok(Found::Job(job)),
+            None => Ok(Found::Drained),
+        }
+    }
+
+    /// Publishes a value where its day still awaits the job's edit. It takes no memory.
+    pub fn publish(&mut self, done: Done) -> Publish
+        ensures step { IsStep self.old.office.register (APublication done.job result) self.new.office.register }
+        ensures list { GoOn self.old.office.register.history self.old.ending self.new.office.register.history self.new.ending (published_by result done.job) }
+    {
+        self.office.publish(done)
+    }
+
+    /// Tells that no further edit will be asked for, where that was not told yet.
+    pub fn end(&mut self)
+        ensures told { self.old.ending ≡ None → entries self.new.office.register.history.events self.new.ending
+            ≡ entries self.old.office.register.history.events self.old.ending ++ entry.Ending ∷ [] }
+        ensures before { IsSome self.old.ending → self.new.ending ≡ self.old.ending }
+        ensures office { self.new.office ≡ self.old.office }
+    {
+        if self.ending.is_none() {
+            self.ending = Some(self.office.events());
+        }
+    }
+
+    /// The office, which is shared no more.
+    pub fn into_office(self) -> Office<D>
+        ensures { result ≡ self.office }
+    {
+        self.office
+    }
+}

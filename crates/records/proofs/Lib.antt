@@ -11,3 +11,4 @@ pub mod Records
 pub mod ReviewLemmas
 pub mod RowLemmas
 pub mod SheetLemmas
+pub mod WritingLemmas

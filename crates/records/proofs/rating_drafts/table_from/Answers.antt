@@ -1,12 +1,17 @@
 use Rattle.std.proofs.Common.{◌≡◌, arith, [], None, ap, ◌∙◌}
 use Rattle.std.proofs.lemmas.List.{take_all}
 use Rattle.rating_tables.specs.Table.{table_fault}
-use Rattle.records.specs.Parsing.{rows_in}
+use Rattle.records.specs.Parsing.{row_in, rows_in}
 use Rattle.records.proofs.RowLemmas.{row_in_range, table_none}
+use Rattle.records.proofs.WritingLemmas.{read_more}
 use Rattle.records.proofs.rating_drafts.table_from.Goals as goal
 
 pub row_from-requires : goal.row_from-requires
 row_from-requires c = row_in_range c.args.rows.now c.loop-row.row-index [] (omega arith) c.requires
+
+pub loop-row-preserved : goal.loop-row-preserved
+loop-row-preserved c =
+    read_more row_in _ _ _ c.args.rows.now c.loop-row.row-index _ c.loop-row-test.true c.in_ok-push.ensures.items c.row_from.ensures c.loop-row.invariant
 
 pub unreachable-requires : goal.unreachable-requires
 unreachable-requires c =

@@ -1,6 +1,6 @@
 -- The items of an array, read one after another.
-use Rattle.std.proofs.Common.{◌≡◌, ℕ, suc, ◌+◌, ◌<◌, List, [], ◌∷◌, ◌++◌, length, drop, get_or, All, Bool, false, Option, Some, None, option_and_then, option_map, if◌then◌else◌, refl, sym, ap, ◌∙◌, subst, append_assoc}
-use Rattle.std.proofs.lemmas.List.{drop_more}
+use Rattle.std.proofs.Common.{◌≡◌, ℕ, suc, ◌+◌, ◌<◌, ◌≤◌, List, [], ◌∷◌, ◌++◌, length, drop, get_or, All, Bool, false, Option, Some, None, option_and_then, option_map, if◌then◌else◌, refl, sym, ap, ◌∙◌, subst, append_assoc}
+use Rattle.std.proofs.lemmas.List.{append-nil, drop_all, drop_more}
 use Rattle.std.proofs.lemmas.List.Elements.{All-cons, All-nil}
 use Rattle.edit_bodies.specs.Grammars.{each_of, kept_if}
 use Rattle.edit_bodies.specs.Trees.{Tree, items_stated, stated}
@@ -24,6 +24,18 @@ module _ {A : Type 0} (read : Data → Option A) where
       ap (λ (ws : List Tree). each_of read (items_stated ws)) (sym there) in
       one_more front x (each_of read (items_stated (drop (i + 1) vs)))
       ∙ ap (behind front) (ap (option_and_then (λ x. option_map (λ xs. x ∷ xs) (each_of read (items_stated (drop (i + 1) vs))))) e ∙ next)
+
+  -- one item that states nothing, and the end of them
+  pub none_read : (front : List A) (vs : List Tree) (i : ℕ) (v : Tree) → i < length vs → v ≡ get_or vs i v → None ≡ read (stated v)
+      → None ≡ behind front (each_of read (items_stated (drop i vs)))
+  none_read front vs i v lt is e =
+      let there : drop i vs ≡ v ∷ drop (i + 1) vs = drop_more vs i v lt ∙ ap (λ (w : Tree). w ∷ drop (i + 1) vs) (sym is) in
+      ap (λ (o : Option A). behind front (option_and_then (λ x. option_map (λ xs. x ∷ xs) (each_of read (items_stated (drop (i + 1) vs)))) o)) e
+      ∙ ap (λ (ws : List Tree). behind front (each_of read (items_stated ws))) (sym there)
+
+  pub all_read : (front : List A) (vs : List Tree) (i : ℕ) → length vs ≤ i → Some front ≡ behind front (each_of read (items_stated (drop i vs)))
+  all_read front vs i past =
+      ap Some (sym (append-nil front)) ∙ ap (λ (ws : List Tree). behind front (each_of read (items_stated ws))) (sym (drop_all i vs past))
 
   -- as many are read as there are
   each-length : (vs : List Tree) (found : List A) → each_of read (items_stated vs) ≡ Some found → length found ≡ length vs

@@ -11,7 +11,7 @@ ghost use Rattle.serde_json.specs.Find.{get_member};
 
 use crate::faults::BodyFault;
 use crate::members::{Fields, Member, remove, value_at};
-use crate::rows::{amount_in, items_in, stage_in};
+use crate::rows::{amount_in, both_in, items_in, stage_in};
 use curves::Curve;
 use fixed_units::Micro;
 use json::Value;
@@ -70,8 +70,6 @@ fn curve_of(points: &[(Micro, Micro)]) -> Option<Curve>
 fn point_in(row: &Value<'_>) -> Option<(Micro, Micro)>
     ensures { result ≡ point_of (stated row.now) }
 {
-    let [stage, amount] = items_in(row)? else {
-        return None;
-    };
-    Some((stage_in(stage)?, amount_in(amount)?))
+    let (stage, amount) = both_in(row)?;
+    stage_in(stage).zip(amount_in(amount))
 }

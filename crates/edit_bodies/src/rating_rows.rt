@@ -13,7 +13,7 @@ ghost use Rattle.serde_json.specs.Find.{get_member};
 use crate::faults::BodyFault;
 use crate::grammars::whole_in;
 use crate::members::{Fields, Member, remove, value_at};
-use crate::rows::{discharge_in, items_in, stage_in};
+use crate::rows::{both_in, discharge_in, items_in, stage_in};
 use edits::is_rating_number;
 use fixed_units::{Micro, NoMemory};
 use json::Value;
@@ -119,8 +119,6 @@ fn rows_in(alloc: Global, items: &[Value<'_>]) -> Result<Option<Vec<(Micro, Micr
 fn row_in(item: &Value<'_>) -> Option<(Micro, Micro)>
     ensures { result ≡ rating_row_of (stated item.now) }
 {
-    let [stage, discharge] = items_in(item)? else {
-        return None;
-    };
-    Some((stage_in(stage)?, discharge_in(discharge)?))
+    let (stage, discharge) = both_in(item)?;
+    stage_in(stage).zip(discharge_in(discharge))
 }

@@ -1,10 +1,10 @@
 //! The items of an array, and the strings among them.
 
-ghost use Rattle.std.specs.Prelude.{◌≡◌, IfSome, option_map};
-ghost use Rattle.edit_bodies.specs.Grammars.{amount_of, discharge_of, flag_of_text, instant_of, quantity_of, stage_of};
+ghost use Rattle.std.specs.Prelude.{◌≡◌, ℤ, Option, Some, None, IfSome, IfNone, option_and_then, option_map};
+ghost use Rattle.edit_bodies.specs.Grammars.{amount_of, discharge_of, flag_of_text, instant_of, pair_in, quantity_of, stage_of};
 ghost use Rattle.edit_bodies.specs.Trees.{items_stated, stated};
 ghost use Rattle.fixed_units.specs.Quantities.{IsAmount, IsDischarge, IsStage, IsStamp};
-ghost use Rattle.serde_json.specs.Data.{string};
+ghost use Rattle.serde_json.specs.Data.{Data, item, no_items, string};
 ghost use Rattle.serde_json.specs.Find.{as_array, as_str};
 
 use civil_days::read_instant;
@@ -19,6 +19,17 @@ pub(crate) fn items_in<'v, 'a>(value: &'v Value<'a>) -> Option<&'v [Value<'a>]>
         Value::Array(items) => Some(items.as_slice()),
         _ => None,
     }
+}
+
+/// The two items of a row, or `None` exactly where it is no row of two.
+pub(crate) fn both_in<'v, 'a>(row: &'v Value<'a>) -> Option<(&'v Value<'a>, &'v Value<'a>)>
+    ensures some { IfSome result (λ both. as_array (stated row.now) ≡ Some (item (stated both.0.now) (item (stated both.1.now) no_items))) }
+    ensures none { IfNone result ((first second : Data → Option ℤ) → None ≡ option_and_then (pair_in first second) (as_array (stated row.now))) }
+{
+    let [first, second] = items_in(row)? else {
+        return None;
+    };
+    Some((first, second))
 }
 
 /// The text that a string has.

@@ -1,11 +1,11 @@
-use Rattle.std.proofs.Common.{◌≡◌, length, option_and_then, sym, ap, ◌∙◌, arith}
-use Rattle.edit_bodies.proofs.RowLemmas.{wrong_pair}
+use Rattle.std.proofs.Common.{◌∙◌}
+use Rattle.edit_bodies.proofs.RowLemmas.{both_read}
 use Rattle.edit_bodies.proofs.rating_rows.row_in.Goals as goal
-use Rattle.edit_bodies.proofs.rating_rows.row_in.Goals.{in_default-via-then-branch-lt2, in_default-via-else-branch-lt2+else-this-lt3}
-use Rattle.edit_bodies.specs.Grammars.{discharge_of, pair_in, stage_of}
+use Rattle.edit_bodies.specs.Grammars.{discharge_of, stage_of}
 
-pub returns-in_default : goal.returns-in_default
-returns-in_default c =
-    let other : length c.in_ok-items_in.field-0.now ≡ 2 → ⊥ =
-    elim c.in_default.branch [ in_default-via-then-branch-lt2 w ↦ λ e. grind arith | in_default-via-else-branch-lt2+else-this-lt3 w ↦ λ e. grind arith ] in
-    sym (ap (option_and_then (pair_in stage_of discharge_of)) (sym c.in_ok-items_in.ensures) ∙ wrong_pair stage_of discharge_of c.in_ok-items_in.field-0.now other)
+pub returns-in_err-stage : goal.returns-in_err-stage
+returns-in_err-stage c = c.from_residual.ensures ∙ c.in_err-stage.ensures.none stage_of discharge_of
+
+pub returns : goal.returns
+returns c =
+    c.zip.ensures ∙ both_read stage_of discharge_of _ _ _ c.stage_in.result c.discharge_in.result c.in_ok-stage.ensures.some c.stage_in.ensures.value c.discharge_in.ensures.value

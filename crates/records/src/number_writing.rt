@@ -7,8 +7,8 @@ ghost use Rattle.records.specs.Payloads.{signed_number, point_bytes, day_number}
 use fixed_units::{Day, Micro, NoMemory, Second};
 
 /// Adds the stage of a point, and its amount or discharge.
-pub(crate) fn put_point(out: &mut Vec<u8>, point: (Micro, Micro)) -> Result<(), NoMemory>
-    ensures { OnOk result (out.new.items ≡ out.old.items ++ point_bytes point) }
+pub(crate) fn put_point(out: &mut Vec<u8>, point: &(Micro, Micro)) -> Result<(), NoMemory>
+    ensures { OnOk result (out.new.items ≡ out.old.items ++ point_bytes point.now) }
 {
     put_micro(out, point.0)?;
     put_micro(out, point.1)

@@ -173,22 +173,22 @@ fn put_readings(out: &mut Vec<u8>, readings: &[Reading]) -> Result<(), NoMemory>
 {
     put_u32(out, readings.len() as u32)?;
     for reading in readings {
-        put_reading(out, *reading)?;
+        put_reading(out, reading)?;
     }
     Ok(())
 }
 
 /// Adds the instant of a reading, its stage and its flag.
-fn put_reading(out: &mut Vec<u8>, reading: Reading) -> Result<(), NoMemory>
-    ensures { OnOk result (out.new.items ≡ out.old.items ++ reading_bytes reading) }
+fn put_reading(out: &mut Vec<u8>, reading: &Reading) -> Result<(), NoMemory>
+    ensures { OnOk result (out.new.items ≡ out.old.items ++ reading_bytes reading.now) }
 {
     out.extend_from_slice(&bytes_of(reading))?;
     Ok(())
 }
 
 /// The seventeen bytes of a reading.
-fn bytes_of(reading: Reading) -> [u8; 17]
-    ensures { result ≡ reading_bytes reading }
+fn bytes_of(reading: &Reading) -> [u8; 17]
+    ensures { result ≡ reading_bytes reading.now }
 {
     let mut bytes = [0; 17];
     bytes[..8].copy_from_slice(&reading.at.get().to_le_bytes());
@@ -253,7 +253,7 @@ fn put_points(out: &mut Vec<u8>, points: &[(Micro, Micro)]) -> Result<(), NoMemo
 {
     out.push(points.len() as u8)?;
     for point in points {
-        put_point(out, *point)?;
+        put_point(out, point)?;
     }
     Ok(())
 }
@@ -274,7 +274,7 @@ fn put_rows(out: &mut Vec<u8>, rows: &[(Micro, Micro)]) -> Result<(), NoMemory>
 {
     put_u32(out, rows.len() as u32)?;
     for row in rows {
-        put_point(out, *row)?;
+        put_point(out, row)?;
     }
     Ok(())
 }

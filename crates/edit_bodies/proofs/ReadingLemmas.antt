@@ -72,28 +72,10 @@ wrong_row (a ∷ b ∷ c ∷ d ∷ vs) two three = refl
 abbrev written : Option (List ℕ) → Option (List ℕ) → Option Flag → Option Reading
 written at raw flag = flagged_of (option_and_then stamp_of_text at) (only is_stage (option_and_then (λ text. result_ok (decimal_of text)) raw)) flag
 
-pub two_texts : (vs : List Tree) (a b : Tree) (at raw : Option (List ℕ)) → length vs ≡ 2 → a ≡ get_or vs 0 a → b ≡ get_or vs 1 b
-    → at ≡ as_str (stated a) → raw ≡ as_str (stated b) → reading_of_row (items_stated vs) ≡ written at raw (Some Usable)
-two_texts [] a b at raw count is it x y = absurd (omega (arith, count))
-two_texts (v ∷ []) a b at raw count is it x y = absurd (omega (arith, count))
-two_texts (v ∷ w ∷ []) a b at raw count is it x y =
-    ap (λ (o : Option (List ℕ)). written o (as_str (stated w)) (Some Usable)) (ap (λ (t : Tree). as_str (stated t)) (sym is) ∙ sym x)
-    ∙ ap (λ (o : Option (List ℕ)). written at o (Some Usable)) (ap (λ (t : Tree). as_str (stated t)) (sym it) ∙ sym y)
-two_texts (v ∷ w ∷ u ∷ vs) a b at raw count is it x y = absurd (omega (arith, count))
-
-pub three_texts : (vs : List Tree) (a b f : Tree) (at raw flag : Option (List ℕ)) → length vs ≡ 3 → a ≡ get_or vs 0 a → b ≡ get_or vs 1 b → f ≡ get_or vs 2 f
-    → at ≡ as_str (stated a) → raw ≡ as_str (stated b) → flag ≡ as_str (stated f) → reading_of_row (items_stated vs) ≡ written at raw (option_and_then flag_of_text flag)
-three_texts [] a b f at raw flag count is it so x y z = absurd (omega (arith, count))
-three_texts (v ∷ []) a b f at raw flag count is it so x y z = absurd (omega (arith, count))
-three_texts (v ∷ w ∷ []) a b f at raw flag count is it so x y z = absurd (omega (arith, count))
-three_texts (v ∷ w ∷ u ∷ []) a b f at raw flag count is it so x y z =
-    ap (λ (o : Option (List ℕ)). written o (as_str (stated w)) (option_and_then flag_of_text (as_str (stated u)))) (ap (λ (t : Tree). as_str (stated t)) (sym is) ∙ sym x)
-    ∙ ap (λ (o : Option (List ℕ)). written at o (option_and_then flag_of_text (as_str (stated u)))) (ap (λ (t : Tree). as_str (stated t)) (sym it) ∙ sym y)
-    ∙ ap (λ (o : Option (List ℕ)). written at raw (option_and_then flag_of_text o)) (ap (λ (t : Tree). as_str (stated t)) (sym so) ∙ sym z)
-three_texts (v ∷ w ∷ u ∷ t ∷ vs) a b f at raw flag count is it so x y z = absurd (omega (arith, count))
-
-pub row_read : (value : Data) (vs : List Tree) → Some (items_stated vs) ≡ as_array value → reading_of value ≡ reading_of_row (items_stated vs)
-row_read value vs e = ap (option_and_then reading_of_row) (sym e)
+pub texts_read : (a b : Data) (at raw : Option (List ℕ)) (flag of : Option Flag) → at ≡ as_str a → raw ≡ as_str b → flag ≡ of
+    → written at raw flag ≡ flagged_of (instant_of a) (stage_of b) of
+texts_read a b at raw flag of x y z =
+    ap (λ (o : Option (List ℕ)). written o raw flag) x ∙ ap (λ (o : Option (List ℕ)). written (as_str a) o flag) y ∙ ap (written (as_str a) (as_str b)) z
 
 -- without a stage, or without a flag that is one, there is no reading
 pub no_stage : (at : Option ℤ) (flag : Option Flag) → None ≡ flagged_of at None flag

@@ -1,12 +1,13 @@
 //! The member `readings`: rows of an instant, a stage and a flag, which are readings that rise by instant.
 
-ghost use Rattle.std.specs.Prelude.{◌≡◌, ◌++◌, ◌∷◌, [], true, IfOk, IfSome, All, int_lt, option_and_then, option_map};
+ghost use Rattle.std.specs.Prelude.{◌≡◌, ◌++◌, ◌∷◌, [], true, Some, IfOk, IfSome, All, int_lt, option_and_then, option_map};
 ghost use Rattle.edit_bodies.specs.Answers.{IsFound, IsTaken};
-ghost use Rattle.edit_bodies.specs.Grammars.{are_put, are_rising, each_of, kept_if, reading_of, readings_of};
+ghost use Rattle.edit_bodies.specs.Grammars.{are_put, are_rising, each_of, flag_of, flagged_of, instant_of, kept_if, reading_of, readings_of, stage_of};
 ghost use Rattle.edit_bodies.specs.Members.{member_text, required};
 ghost use Rattle.edit_bodies.specs.Trees.{data_of, items_stated, left, stated};
 ghost use Rattle.edit_bodies.specs.UsualForm.{row_json, row_texts};
 ghost use Rattle.edits.specs.Lawful.{ArePutReadings};
+ghost use Rattle.fixed_units.specs.declared.readings.Flag.TheVariants.{Usable};
 ghost use Rattle.serde_json.specs.Find.{get_member};
 
 use crate::faults::BodyFault;
@@ -138,18 +139,32 @@ fn reading_in(item: &Value<'_>) -> Option<Reading>
     ensures { result ≡ reading_of (stated item.now) }
 {
     match items_in(item)? {
-        [at, raw] => reading_of(&Row {
-            at: text_in(at)?,
-            raw: text_in(raw)?,
-            flag: None,
-        }),
-        [at, raw, flag] => reading_of(&Row {
-            at: text_in(at)?,
-            raw: text_in(raw)?,
-            flag: Some(text_in(flag)?),
-        }),
+        [at, raw] => usable_in(at, raw),
+        [at, raw, flag] => flagged_in(at, raw, flag),
         _ => None,
     }
+}
+
+/// The usable reading that an instant and a stage state.
+fn usable_in<'a>(at: &Value<'a>, raw: &Value<'a>) -> Option<Reading>
+    ensures { result ≡ flagged_of (instant_of (stated at.now)) (stage_of (stated raw.now)) (Some Usable) }
+{
+    reading_of(&Row {
+        at: text_in(at)?,
+        raw: text_in(raw)?,
+        flag: None,
+    })
+}
+
+/// The reading that an instant, a stage and a flag state.
+fn flagged_in<'a>(at: &Value<'a>, raw: &Value<'a>, flag: &Value<'a>) -> Option<Reading>
+    ensures { result ≡ flagged_of (instant_of (stated at.now)) (stage_of (stated raw.now)) (flag_of (stated flag.now)) }
+{
+    reading_of(&Row {
+        at: text_in(at)?,
+        raw: text_in(raw)?,
+        flag: Some(text_in(flag)?),
+    })
 }
 
 /// The reading that a row states: an instant, a stage and a flag; without a flag it is usable.

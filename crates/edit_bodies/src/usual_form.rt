@@ -1,7 +1,7 @@
 //! The usual form of a put of readings: its members each once and in order, as loggers and the programs before them send it. It is read
 //! token by token straight into readings, without a tree. Of a body that is not so nothing is said: its tree decides.
 
-ghost use Rattle.std.specs.Prelude.{◌≡◌, ◌<◌, ◌∷◌, ◌++◌, length, Ok, IfSome, codes};
+ghost use Rattle.std.specs.Prelude.{◌≡◌, ◌<◌, ◌∷◌, ◌++◌, [], length, Ok, IfSome, codes};
 ghost use Rattle.std.specs.Bool.{MatchBool, OnTrue};
 ghost use Rattle.edit_bodies.specs.Bodies.{edit_of_value, parts};
 ghost use Rattle.edit_bodies.specs.CompactForm.{StatesReview};
@@ -106,25 +106,37 @@ fn put_in<'a>(alloc: Global, reader: &mut Reader<'a>) -> Option<(Sender<'a>, Rea
     ensures tokens { IfSome result (λ put. TakesPut reader.old put.0 put.1) }
     ensures put { IfSome result (λ put. ArePutReadings put.1) }
 {
-    if !opens_object(reader) || !is_put(reader) {
-        return None;
-    }
-    let by = member(reader, Member::By)?;
-    let reference = member(reader, Member::Ref)?;
-    let site = member(reader, Member::Site)?;
+    let sender = sender_in(reader)?;
     if !is_named(reader, Member::Readings) || !opens_array(reader) {
         return None;
     }
     let readings = readings_in(alloc, reader)?;
-    if !closes_object(reader) || reader.next().is_some() {
+    if is_closed(reader) {
+        Some((sender, readings))
+    } else {
+        None
+    }
+}
+
+/// The strings of the members of a put before its readings.
+fn sender_in<'a>(reader: &mut Reader<'a>) -> Option<Sender<'a>>
+    ensures { IfSome result (λ sender. reader.old ≡ begin_object ∷ key (codes "kind") ∷ string_token (codes "PutReadings") ∷ key (codes "by") ∷ string_token sender.by.now ∷ key (codes "ref") ∷ string_token sender.reference.now ∷ key (codes "site") ∷ string_token sender.site.now ∷ reader.new) }
+{
+    if !opens_object(reader) || !is_put(reader) {
         return None;
     }
-    let sender = Sender {
-        by,
-        reference,
-        site,
-    };
-    Some((sender, readings))
+    Some(Sender {
+        by: member(reader, Member::By)?,
+        reference: member(reader, Member::Ref)?,
+        site: member(reader, Member::Site)?,
+    })
+}
+
+/// Whether the object closes, and nothing stands behind it.
+fn is_closed(reader: &mut Reader<'_>) -> bool
+    ensures { OnTrue result (reader.old ≡ end_object ∷ []) }
+{
+    closes_object(reader) && reader.next().is_none()
 }
 
 /// Whether the next member says that readings are put.

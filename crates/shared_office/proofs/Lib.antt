@@ -2,3 +2,5 @@ pub mod EntryLemmas
 pub mod CountLemmas
 pub mod FindLemmas
 pub mod ShareLemmas
+pub mod HoldingLemmas
+pub mod TaskLemmas

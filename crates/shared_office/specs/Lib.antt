@@ -1,3 +1,5 @@
 pub mod Entries
-pub mod Holdings
 pub mod Finding
+pub mod Holdings
+pub mod Passing
+pub mod Working

@@ -2,6 +2,7 @@
 #![tactic(auto)]
 
 pub mod entries;
+pub mod holdings;
 pub mod shared;
 
 pub use entries::{Entry, Fixed};

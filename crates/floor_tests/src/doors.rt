@@ -56,6 +56,9 @@ fn serves_one(rt: HostRuntime) -> bool {
     let Some(closed) = serves(input, output) else {
         return false;
     };
+    let None = doors.closed(1) else {
+        return false;
+    };
     doors.take_back(1, closed);
     is_told(&mut client, b"9.5")
         && doors.fault_count() == 0
@@ -107,20 +110,25 @@ fn doors(alloc: Global) -> Result<MemoryDoors, AllocError> {
 
 /// Whether the one connection is given after a fault, is kept with its fault, and no other comes.
 fn gives_one_back(mut doors: MemoryDoors) -> bool {
-    if doors.listen(80).is_err() || !matches!(doors.next(), Next::Failed) {
+    if doors.listen(80).is_err() || doors.given_count() != 0 {
         return false;
     }
+    let Next::Failed = doors.next() else {
+        return false;
+    };
     let Next::Open(mut input, output) = doors.next() else {
         return false;
     };
     let mut room = [0];
     let taken = input.take(&mut room) == Took::Bytes(1) && input.take(&mut room) == Took::Failed;
-    let unknown = doors.ends(1).is_none();
+    let None = doors.ends(1) else {
+        return false;
+    };
     doors.take_back(1, MemoryDoors::finish(input, output));
     let kept = doors
         .ends(1)
         .is_some_and(|ends| ends.input.fault_count() == 1);
-    taken && unknown && kept && doors.given_count() == 1 && doors.fault_count() == 1
+    taken && kept && doors.given_count() == 1 && doors.fault_count() == 1
 }
 
 #[test]

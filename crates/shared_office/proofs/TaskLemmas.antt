@@ -1,6 +1,6 @@
 -- The office behind a lock and the list that its passes see.
 use Rattle.std.proofs.Common.{◌≡◌, ℕ, zero, suc, true, List, [], ◌∷◌, ◌++◌, map, take, drop, Option, Some, None, sym, ap, ◌∙◌, refl, subst, append-nil}
-use Rattle.std.specs.Prelude.{Result, Ok, IfOk, IsSome}
+use Rattle.std.specs.Prelude.{Result, Ok, Err, IfOk, IsSome}
 use Rattle.devices.specs.declared.disks.Disk.{Ghosts}
 use Rattle.fixed_units.specs.declared.texts.NoMemory.{NoMemory}
 use Rattle.history.specs.After.{go_on}
@@ -10,7 +10,7 @@ use Rattle.office.specs.Steps.{Step, IsStep}
 use Rattle.shared_office.specs.Entries.{GoOn, entries, events_in, has_ended, history_of, with_events}
 use Rattle.shared_office.specs.Finding.{Finds, IsWorkStep}
 use Rattle.shared_office.specs.Passing.{adding, fixed_of, listed}
-use Rattle.shared_office.specs.Working.{IsDrained, IsTask}
+use Rattle.shared_office.specs.Working.{IsDrained, IsTask, MayFind}
 use Rattle.shared_office.specs.declared.entries.Entry.{Entry}
 use Rattle.shared_office.specs.declared.entries.Entry.TheVariants.{Happened, Ending}
 use Rattle.shared_office.specs.declared.entries.Fixed.{Fixed}
@@ -89,3 +89,9 @@ module _ {D : Type 0} {g : Ghosts D} where
         ended_entries w.office.register.history.events w.ending drained.0,
         ap (λ (h : History). pending_days h.events) (history_told w fixed e) ∙ drained.1,
       )
+
+  -- what was found is what an office of this list finds
+  pub found_in : (w : Shared D g) (fixed : Fixed) (result : Result Found NoMemory) → fixed_of w ≡ fixed → IfOk result (Finds w.office.register w.ending)
+      → IfOk result (MayFind fixed (listed w))
+  found_in w fixed (Ok found) e is = (w.office.register, w.ending, sym (history_told w fixed e), refl, is)
+  found_in w fixed (Err failed) e is = tt

@@ -1,12 +1,13 @@
 //! What is done in one holding of the lock: the office is taken, one thing is done to it, and it is given back.
 
-ghost use Rattle.std.specs.Prelude.{◌≡◌, ◌<◌, ◌^◌, [], List, length, Ok};
+ghost use Rattle.std.specs.Prelude.{◌≡◌, ◌<◌, ◌^◌, [], List, length, Ok, IfOk};
 ghost use Rattle.history.specs.After.{go_on};
 ghost use Rattle.history.specs.Events.{Event};
 ghost use Rattle.office.specs.Edits.{Edits};
+ghost use Rattle.register.specs.Asked.{outcome_at};
 ghost use Rattle.shared_office.specs.Finding.{published_by};
 ghost use Rattle.shared_office.specs.Passing.{GoesOnce, IsOf, adding, fixed_in, history_in};
-ghost use Rattle.shared_office.specs.Working.{IsDrained, IsTask};
+ghost use Rattle.shared_office.specs.Working.{IsDrained, IsTask, MayFind};
 ghost use Rattle.shared_office.specs.declared.entries.Entry.{Entry};
 ghost use Rattle.turnstile.specs.Passes.{seen};
 
@@ -45,7 +46,7 @@ pub fn find<R: Wait, D: Disk>(
 ) -> (Pass<Shared<D>>, Result<Found, NoMemory>)
     requires { IsOf lock.now pass }
     ensures pass { IsOf lock.now result.0 }
-    ensures held { (from : List Entry) × GoesOnce pass result.0 (adding from []) × IsTask (fixed_in lock.now) (adding from []) }
+    ensures held { (from : List Entry) × GoesOnce pass result.0 (adding from []) × IsTask (fixed_in lock.now) (adding from []) × IfOk result.1 (MayFind (fixed_in lock.now) from) }
     ensures drained { result.1 ≡ Ok Found.Drained → IsDrained (fixed_in lock.now) (seen result.0) }
 {
     let mut held = lock.enter(rt, pass);
@@ -62,7 +63,8 @@ pub fn publish<R: Wait, D: Disk>(
 ) -> (Pass<Shared<D>>, Publish)
     requires { IsOf lock.now pass }
     ensures pass { IsOf lock.now result.0 }
-    ensures held { (from : List Entry) × GoesOnce pass result.0 (adding from (published_by result.1 done.job)) × IsTask (fixed_in lock.now) (adding from (published_by result.1 done.job)) }
+    ensures held { (from : List Entry) × GoesOnce pass result.0 (adding from (published_by result.1 done.job)) × IsTask (fixed_in lock.now) (adding from (published_by result.1 done.job))
+        × (result.1 ≡ outcome_at (history_in lock.now from).events done.job) }
     ensures few { length (seen result.0) < 2 ^ 64 }
 {
     let mut held = lock.enter(rt, pass);

@@ -108,6 +108,7 @@ impl<D: Disk> Shared<D> {
         ensures list { GoOn self.old.office.register.history self.old.ending self.new.office.register.history self.new.ending [] }
         ensures step { (step : Step) × IsWorkStep step × IsStep self.old.office.register step self.new.office.register }
         ensures err { OnErr result (self.new.office ≡ self.old.office) }
+        ensures disk { self.new.office.disk ≡ self.old.office.disk }
     {
         match self.office.claim()? {
             Some(job) => Ok(Found::Job(job)),
@@ -133,6 +134,7 @@ impl<D: Disk> Shared<D> {
     pub fn publish(&mut self, done: Done) -> Publish
         ensures step { IsStep self.old.office.register (APublication done.job result) self.new.office.register }
         ensures list { GoOn self.old.office.register.history self.old.ending self.new.office.register.history self.new.ending (published_by result done.job) }
+        ensures disk { self.new.office.disk ≡ self.old.office.disk }
     {
         self.office.publish(done)
     }
@@ -151,7 +153,8 @@ impl<D: Disk> Shared<D> {
 
     /// The office, which is shared no more.
     pub fn into_office(self) -> Office<D>
-        ensures { result ≡ self.office }
+        ensures office { result ≡ self.office }
+        ensures counted { HasCounted result.register.history (D.faults result.disk) }
     {
         self.office
     }

@@ -3,7 +3,7 @@ use Rattle.turnstile.specs.Passes.{value_of, pass_of, entered}
 use Rattle.shared_office.specs.Passing.{GoesOnce, fixed_in, fixed_of, listed}
 use Rattle.shared_office.specs.declared.entries.Entry.{Entry}
 use Rattle.shared_office.proofs.HoldingLemmas.{once}
-use Rattle.shared_office.proofs.TaskLemmas.{drained_behind, task_of}
+use Rattle.shared_office.proofs.TaskLemmas.{drained_behind, found_in, task_of}
 use Rattle.shared_office.proofs.holdings.find.Goals as goal
 
 pub returns-clause-held : goal.returns-clause-held
@@ -15,6 +15,7 @@ returns-clause-held g c =
       listed w,
       subst (λ (to : List Entry). GoesOnce c.args.pass c.leave.result (record { from = listed w; to = to })) list.2 one,
       task_of w u (fixed_in c.args.lock.now) step.0 [] (ap fixed_of c.value_mut.ensures.value ∙ e.fixed) step.1 step.2 list,
+      found_in w (fixed_in c.args.lock.now) c.find-found.result (ap fixed_of c.value_mut.ensures.value ∙ e.fixed) c.find-found.ensures.found,
     )
 
 pub returns-clause-drained : goal.returns-clause-drained

@@ -8,7 +8,7 @@ ghost use Rattle.devices.specs.Loopback.{counts_told, told_by_counts, untold};
 use crate::{DoorFailed, Doors, Next, ReaderSource, Sink, Source, WriterSink};
 use std::alloc::Global;
 use std::io::ErrorKind;
-use std::net::{TcpListener, TcpStream};
+use std::net::{Ipv4Addr, TcpListener, TcpStream};
 use std::time::Duration;
 use std::{io, thread};
 
@@ -21,14 +21,17 @@ pub type TcpSink = WriterSink<TcpStream>;
 // How many connections doors may give.
 const MOST_CONNECTIONS: usize = 10_000;
 
-// How long one read or one write may wait for the other side. One that waits longer is a fault of that end.
+// How long one read or one write may wait for the other side, unless it is said.
 const PATIENCE_SECONDS: u64 = 300;
 
 // How long to wait before the system is asked again for what it did not have.
 const PAUSE_MILLISECONDS: u64 = 10;
 
-// The system's numbers for: it has no descriptor free, and no room for what it keeps of a socket.
+// The system's numbers for: it has no descriptor free, a connection broke while it was set up, and there is no room for
+// what is kept of a socket.
 const ENFILE: i32 = 23;
+
+const EPROTO: i32 = 71;
 
 const ENOBUFS: i32 = 105;
 
@@ -41,20 +44,32 @@ pub struct ClosedEnds {
     pub output_faults: u64,
 }
 
-/// The doors of this machine, at 127.0.0.1. A read or a write of a connection that waits for more than five minutes is a
-/// fault of that end. A connection that the client gave up before it was given is not given. While the system has no
-/// descriptor or no memory for another connection, the doors wait for it.
+/// The doors of this machine, at 127.0.0.1. A read or a write of a connection that waits for longer than their patience,
+/// which is five minutes unless it is said, is a fault of that end. A connection that the client gave up before it was
+/// given is given on Linux, and its first read fails; another system may leave it out. While the system has no descriptor
+/// or no memory for another connection, the doors wait for it.
 #[derive(Drop)]
 pub struct LoopbackDoors {
     rt: HostRuntime,
     listener: Option<TcpListener>,
     places: Vec<Option<ClosedEnds>>,
     faults: u64,
+    patience: Duration,
 }
 
 impl LoopbackDoors {
-    /// Doors that do not listen yet, with no fault so far.
+    /// Doors that do not listen yet, with no fault so far. A read or a write of a connection waits for five minutes at most.
     pub fn new(rt: HostRuntime, alloc: Global) -> Self
+        ensures listener { result.listener ≡ None }
+        ensures places { result.places.items ≡ [] }
+        ensures faults { result.faults ≡ 0 }
+    {
+        LoopbackDoors::with_patience(rt, alloc, Duration::from_secs(PATIENCE_SECONDS))
+    }
+
+    /// Doors that do not listen yet, with no fault so far. A read or a write of a connection waits for so long at most; of
+    /// no time at all no connection could be set up, and none would be given.
+    pub fn with_patience(rt: HostRuntime, alloc: Global, patience: Duration) -> Self
         ensures listener { result.listener ≡ None }
         ensures places { result.places.items ≡ [] }
         ensures faults { result.faults ≡ 0 }
@@ -64,6 +79,7 @@ impl LoopbackDoors {
             listener: None,
             places: Vec::new(alloc),
             faults: 0,
+            patience,
         }
     }
 
@@ -103,7 +119,7 @@ impl LoopbackDoors {
         ensures faults { self.new.faults ≡ self.old.faults }
     {
         self.places.reserve(MOST_CONNECTIONS)?;
-        TcpListener::bind(&self.rt, ("127.0.0.1", port))
+        TcpListener::bind(&self.rt, (Ipv4Addr::LOCALHOST, port))
     }
 
     // Waits for a connection, and keeps a place for it.
@@ -113,7 +129,7 @@ impl LoopbackDoors {
         ensures faults { self.new.faults ≡ self.old.faults }
     {
         self.places.reserve(1).ok()?;
-        let ends = accept(&self.rt, self.listener.as_ref()?)?;
+        let ends = accept(&self.rt, self.listener.as_ref()?, self.patience)?;
         self.places.push_reserved(None);
         Some(ends)
     }
@@ -172,14 +188,18 @@ impl Doors for LoopbackDoors {
     }
 }
 
-// Waits for a connection that can be had. One whose client has gone, or whose socket can't be set up, is not waited for.
-fn accept(rt: &HostRuntime, listener: &TcpListener) -> Option<(TcpSource, TcpSink)>
+// Waits for a connection that can be had. One whose socket can't be set up is not waited for.
+fn accept(
+    rt: &HostRuntime,
+    listener: &TcpListener,
+    patience: Duration,
+) -> Option<(TcpSource, TcpSink)>
     ensures { IfSome result (λ ends. ends_of ⟦<TcpSource as Source>⟧ ⟦<TcpSink as Sink>⟧ ends.0 ends.1 ≡ untold) }
 {
     for _ in 0..u64::MAX {
         match listener.accept() {
             Ok((stream, _)) => {
-                if let Ok(ends) = ends_over(rt, stream) {
+                if let Ok(ends) = ends_over(rt, stream, patience) {
                     return Some(ends);
                 }
             }
@@ -194,7 +214,8 @@ fn pause(rt: &HostRuntime) {
     thread::sleep(rt, Duration::from_millis(PAUSE_MILLISECONDS));
 }
 
-// Whether an error of the system passes by itself: it has no descriptor or no memory now, or the client went away.
+// Whether an error of the system passes by itself: it has no descriptor or no memory now, or the client went away while
+// the connection was set up.
 fn passes(error: &io::Error) -> bool {
     match error.raw_os_error() {
         Some(number) => [
@@ -203,6 +224,7 @@ fn passes(error: &io::Error) -> bool {
             ENOBUFS,
             libc::ENOMEM,
             libc::ECONNABORTED,
+            EPROTO,
         ]
         .contains(&number),
         None => false,
@@ -210,12 +232,15 @@ fn passes(error: &io::Error) -> bool {
 }
 
 // The two ends of a stream. The reads and writes of both are bounded, and a reply goes out at once.
-fn ends_over(rt: &HostRuntime, stream: TcpStream) -> io::Result<(TcpSource, TcpSink)>
+fn ends_over(
+    rt: &HostRuntime,
+    stream: TcpStream,
+    patience: Duration,
+) -> io::Result<(TcpSource, TcpSink)>
     ensures { IfOk result (λ ends. ends_of ⟦<TcpSource as Source>⟧ ⟦<TcpSink as Sink>⟧ ends.0 ends.1 ≡ untold) }
 {
-    let patience = Some(Duration::from_secs(PATIENCE_SECONDS));
-    stream.set_read_timeout(patience)?;
-    stream.set_write_timeout(patience)?;
+    stream.set_read_timeout(Some(patience))?;
+    stream.set_write_timeout(Some(patience))?;
     // Where it can't be set, a reply is late and no more.
     let _ = stream.set_nodelay(true);
     let other = second_handle(rt, &stream)?;

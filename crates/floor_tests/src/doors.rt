@@ -9,6 +9,7 @@ use std::io;
 use std::io::{Read, Write};
 use std::net::{Shutdown, TcpStream};
 use std::test::Fail;
+use std::time::Duration;
 
 /// Asks at a port, as a client that then has nothing more to say.
 fn ask(rt: &HostRuntime, port: u16) -> io::Result<TcpStream> {
@@ -91,6 +92,63 @@ fn refuses_a_port_in_use(rt: HostRuntime) -> bool {
 #[test]
 fn a_port_in_use(rt: HostRuntime) {
     assert!(rt; refuses_a_port_in_use(rt));
+}
+
+/// Listens where the system chooses, at this machine's own address and no other of its addresses.
+fn refuses_another_address(rt: HostRuntime) -> bool {
+    let mut doors = LoopbackDoors::new(rt, rt.alloc());
+    if doors.listen(0).is_err() {
+        return false;
+    }
+    match doors.port() {
+        Some(port) => TcpStream::connect(&rt, ("127.0.0.2", port)).is_err(),
+        None => false,
+    }
+}
+
+#[test]
+fn another_address_of_this_machine(rt: HostRuntime) {
+    assert!(rt; refuses_another_address(rt));
+}
+
+/// Whether a connection whose client says nothing has a fault of its input, and of that alone.
+fn waits_in_vain(mut input: TcpSource, output: TcpSink) -> bool {
+    let failed = input.take(&mut [0]) == Took::Failed;
+    let closed = LoopbackDoors::finish(input, output);
+    failed && closed.input_faults == 1 && closed.output_faults == 0
+}
+
+/// Listens with little patience, and gives a client that says nothing and then one that asks.
+fn serves_behind_a_silent_one(rt: HostRuntime) -> bool {
+    let mut doors = LoopbackDoors::with_patience(rt, rt.alloc(), Duration::from_millis(50));
+    if doors.listen(0).is_err() {
+        return false;
+    }
+    let Some(port) = doors.port() else {
+        return false;
+    };
+    let Ok(_silent) = TcpStream::connect(&rt, ("127.0.0.1", port)) else {
+        return false;
+    };
+    let Next::Open(input, output) = doors.next() else {
+        return false;
+    };
+    let in_vain = waits_in_vain(input, output);
+    let Ok(mut client) = ask(&rt, port) else {
+        return false;
+    };
+    let Next::Open(input, output) = doors.next() else {
+        return false;
+    };
+    in_vain
+        && serves(input, output).is_some()
+        && is_told(&mut client, b"9.5")
+        && doors.fault_count() == 0
+}
+
+#[test]
+fn a_client_that_says_nothing(rt: HostRuntime) {
+    assert!(rt; serves_behind_a_silent_one(rt));
 }
 
 /// The two ends of a connection in memory, the second of whose reads is to fail.

@@ -1,13 +1,13 @@
 -- What can be asked.
-use Rattle.std.proofs.Common.{◌≡◌, ◌≢◌, ◌<◌, ◌^◌, ℕ, List, [], ◌∷◌, ◌++◌, IsPermutation, codes, decimal, refl, sym, ◌∙◌, subst, arith}
-use Rattle.std.specs.Str.Parse.{digits_value}
+use Rattle.std.proofs.Common.{◌<◌, ◌^◌, ℕ, List, [], ◌∷◌, ◌++◌, All, Contains, IsPermutation, codes, decimal, refl, sym, ◌∙◌, subst, arith}
 use Rattle.std.proofs.lemmas.Fmt.{decimal_is_IsNumeral, length-decimal-le}
-use Rattle.std.proofs.lemmas.List.Sorted.{IsPermutation-refl}
-use Rattle.std.proofs.lemmas.Str.Parse.{digits_value_short}
-use Rattle.command_words.specs.Words.{Asked, Init, Batch, Stations, Trial, Given, Journal, Number, IsAsked, IsNumber, IsOption, IsValueOf, AreOptions, command_word, option_word, options_of}
-use Rattle.command_words.specs.Laws.{EachIsAsked, NothingElseIsAsked}
-use Rattle.command_words.proofs.OptionLemmas.{digits}
-use Rattle.command_words.proofs.WordLemmas.{in_order}
+use Rattle.std.proofs.lemmas.List.{append-nil}
+use Rattle.std.proofs.lemmas.List.Elements.{All-append, All-cons, All-contains, All-from_recursion, All-head, All-nil, All-tail, All-weaker}
+use Rattle.std.proofs.lemmas.List.Sorted.{IsPermutation-refl, All-permutation}
+use Rattle.command_words.specs.Words.{Asked, Batch, Given, Journal, Numeric, IsInRange, IsNumber, IsOption, IsValueOf, AreOptions, command_word, defaults_of, option_word, options_of}
+use Rattle.command_words.specs.Laws.{CanBeGiven, EachIsAsked, NothingElseIsAsked}
+use Rattle.command_words.specs.declared.numbers.NumericOption.{NumericOption}
+use Rattle.command_words.specs.declared.numbers.NumericOption.TheVariants.{Number, Port, Workers, Connections}
 
 -- an option has a value that says it
 value_said : (option : Given) (first : List (List ℕ)) → IsOption option first → (value : List ℕ) × IsValueOf option value
@@ -16,47 +16,58 @@ value_said option (word ∷ []) h = (h.0, h.2)
 value_said option (word ∷ value ∷ []) h = (value, h.1)
 value_said option (word ∷ value ∷ more ∷ words) h = absurd h
 
-one_said : (option : Given) (options : List Given) (words : List (List ℕ)) → IsPermutation options (option ∷ []) → AreOptions options words
-    → (value : List ℕ) × IsValueOf option value
-one_said option options words order are =
-    let whole : AreOptions (option ∷ []) words = subst (λ (l : List Given). AreOptions l words) (in_order options option order) are in
-    value_said option whole.1.0 whole.1.2
+what_says : (option : Given) (value : List ℕ) → IsValueOf option value → CanBeGiven option
+what_says (Journal name) value h = λ e. h.1 (sym h.0 ∙ e)
+what_says (Numeric option number) value h = h.1
 
-name_said : (name : List ℕ) → (value : List ℕ) × IsValueOf (Journal name) value → name ≢ []
-name_said name said e = said.1.1 (sym said.1.0 ∙ e)
+all_can : (options : List Given) (words : List (List ℕ)) → AreOptions options words → All CanBeGiven options
+all_can [] words h = All-nil CanBeGiven
+all_can (option ∷ options) words h =
+    let said = value_said option h.1.0 h.1.2 in
+    All-cons CanBeGiven option options (what_says option said.0 said.1) (all_can options h.0 h.2)
 
-number_said : (number : ℕ) → (value : List ℕ) × IsValueOf (Number number) value → number < 10 ^ 9
-number_said number said =
-    let short : digits_value 10 said.0 < 10 ^ 9 = digits_value_short digits said.0 9 said.1.0.1 said.1.1 in
-    omega (arith, said.1.2, short)
+-- what holds of the defaults holds of those that are left out
+pub left_out_too : (P : Given → Type 0) (defaults left : List Given) → All P defaults → All (Contains defaults) left → All P left
+left_out_too P defaults left all are = All-weaker (Contains defaults) P (λ option at. All-contains P defaults option all at) left are
+
+defaults_can : (asked : Asked) → All CanBeGiven (defaults_of asked)
+defaults_can (Batch name workers) = All-from_recursion CanBeGiven (defaults_of (Batch name workers)) ((omega arith, omega arith), tt)
+defaults_can asked = All-nil CanBeGiven
 
 pub nothing_else : NothingElseIsAsked
 nothing_else [] asked h = absurd h
-nothing_else (word ∷ words) (Init name) h = name_said name (one_said (Journal name) h.1 words h.2 h.3)
-nothing_else (word ∷ words) (Batch name) h = name_said name (one_said (Journal name) h.1 words h.2 h.3)
-nothing_else (word ∷ words) (Stations name) h = name_said name (one_said (Journal name) h.1 words h.2 h.3)
-nothing_else (word ∷ words) (Trial number) h = number_said number (one_said (Number number) h.1 words h.2 h.3)
+nothing_else (word ∷ words) asked h =
+    All-permutation CanBeGiven (h.1 ++ h.2.0) (options_of asked) h.2.2
+    (All-append CanBeGiven h.1 h.2.0 (all_can h.1 words h.3) (left_out_too CanBeGiven (defaults_of asked) h.2.0 (defaults_can asked) h.2.1))
 
--- an option is asked for by the word that says it
-by_one : (asked : Asked) (option : Given) (value : List ℕ) → options_of asked ≡ option ∷ [] → IsValueOf option value → (words : List (List ℕ)) × IsAsked words asked
-by_one asked option value needs says =
-    let word : List ℕ = option_word option ++ (codes "=" ++ value) in (
-      command_word asked ∷ word ∷ [],
-      (
-        refl,
-        option ∷ [],
-        subst (IsPermutation (option ∷ [])) (sym needs) (IsPermutation-refl (option ∷ [])),
-        ([], (word ∷ [], refl, (value, refl, says)), refl),
-      ),
-    )
+-- a number that an option takes has nine digits at most
+small : (option : NumericOption) (number : ℕ) → IsInRange option number → number < 10 ^ 9
+small Number number h = omega (arith, h.1)
+small Port number h = omega (arith, h.1)
+small Workers number h = omega (arith, h.1)
+small Connections number h = omega (arith, h.1)
 
 number_written : (number : ℕ) → number < 10 ^ 9 → IsNumber (decimal number) number
 number_written number small =
     let numeral = decimal_is_IsNumeral number (omega arith) in
     (numeral.0, length-decimal-le 9 number (omega arith) small (omega arith), sym numeral.1)
 
+-- what can be given has a value that says it
+one_said : (option : Given) → CanBeGiven option → (value : List ℕ) × IsValueOf option value
+one_said (Journal name) some = (name, (refl, some))
+one_said (Numeric option number) range = (decimal number, (number_written number (small option number range), range))
+
+all_said : (options : List Given) → All CanBeGiven options → (words : List (List ℕ)) × AreOptions options words
+all_said [] can = ([], refl)
+all_said (option ∷ options) can =
+    let one = one_said option (All-head CanBeGiven option options can) in
+    let rest = all_said options (All-tail CanBeGiven option options can) in
+    let word : List ℕ = option_word option ++ (codes "=" ++ one.0) in
+    (word ∷ rest.0, (rest.0, (word ∷ [], refl, (one.0, refl, one.1)), rest.1))
+
 pub each_is_asked : EachIsAsked
-each_is_asked (Init name) some = by_one (Init name) (Journal name) name refl (refl, some)
-each_is_asked (Batch name) some = by_one (Batch name) (Journal name) name refl (refl, some)
-each_is_asked (Stations name) some = by_one (Stations name) (Journal name) name refl (refl, some)
-each_is_asked (Trial number) small = by_one (Trial number) (Number number) (decimal number) refl (number_written number small)
+each_is_asked asked can =
+    let options : List Given = options_of asked in
+    let said = all_said options can in
+    let order : IsPermutation (options ++ []) options = subst (λ (l : List Given). IsPermutation l options) (sym (append-nil options)) (IsPermutation-refl options) in
+    (command_word asked ∷ said.0, (refl, options, ([], All-nil (Contains (defaults_of asked)), order), said.1))

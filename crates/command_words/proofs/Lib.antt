@@ -1,4 +1,5 @@
 pub mod LawLemmas
 pub mod OptionLemmas
 pub mod ReadLemmas
+pub mod TakeLemmas
 pub mod WordLemmas

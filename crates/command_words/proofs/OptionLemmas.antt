@@ -7,35 +7,66 @@ use Rattle.std.proofs.lemmas.Str.Parse.{IsNumeralModel, numerals_by_value, tells
 use Rattle.std.proofs.lemmas.Str.Pattern.{IsSplitOnceResult, split_parts, split_once_first}
 use Rattle.command_words.specs.Reading.{NoneStandsFirst, given_by}
 use Rattle.command_words.specs.declared.options.CommandOption.{CommandOption}
-use Rattle.command_words.specs.Words.{Given, Journal, Number, option_word, IsNumber, IsValueOf, IsOption, AreOptions}
+use Rattle.command_words.specs.Words.{Given, Journal, Numeric, option_word, numeric_word, IsNumber, IsValueOf, IsOption, AreOptions}
+use Rattle.command_words.specs.declared.numbers.NumericOption.{NumericOption}
+use Rattle.command_words.specs.declared.numbers.NumericOption.TheVariants.{Number, Port, Workers, Connections}
 
 -- no option's word has an equals sign
 pub cut_word : (option : Given) → position_or_len (λ b. b == 61) (option_word option) ≡ length (option_word option)
 cut_word (Journal name) = refl
-cut_word (Number number) = refl
+cut_word (Numeric Number number) = refl
+cut_word (Numeric Port number) = refl
+cut_word (Numeric Workers number) = refl
+cut_word (Numeric Connections number) = refl
 
 -- so what stands before the first one is the option's word, and what stands behind it the value
 pub word_before : (option : Given) (value : List ℕ) → before_first (λ b. b == 61) (option_word option ++ (61 ∷ value)) ≡ option_word option
 word_before (Journal name) value = refl
-word_before (Number number) value = refl
+word_before (Numeric Number number) value = refl
+word_before (Numeric Port number) value = refl
+word_before (Numeric Workers number) value = refl
+word_before (Numeric Connections number) value = refl
 
 pub value_after : (option : Given) (value : List ℕ) → after_first (λ b. b == 61) (option_word option ++ (61 ∷ value)) ≡ value
 value_after (Journal name) value = refl
-value_after (Number number) value = refl
+value_after (Numeric Number number) value = refl
+value_after (Numeric Port number) value = refl
+value_after (Numeric Workers number) value = refl
+value_after (Numeric Connections number) value = refl
 
 pub cut_joined : (option : Given) (value : List ℕ) → position_or_len (λ b. b == 61) (option_word option ++ (61 ∷ value)) < length (option_word option ++ (61 ∷ value))
 cut_joined (Journal name) value = omega arith
-cut_joined (Number number) value = omega arith
+cut_joined (Numeric Number number) value = omega arith
+cut_joined (Numeric Port number) value = omega arith
+cut_joined (Numeric Workers number) value = omega arith
+cut_joined (Numeric Connections number) value = omega arith
 
-other_third : codes "--journal" ≡ codes "--number" → ⊥
-other_third e = omega (arith, ap (λ (t : List ℕ). get_or t 2 0) e)
+-- the third letters of their words tell options apart
+third : {a b : List ℕ} → a ≡ b → get_or a 2 0 ≡ get_or b 2 0
+third e = ap (λ (t : List ℕ). get_or t 2 0) e
+
+same_numeric : (a b : NumericOption) → numeric_word a ≡ numeric_word b → a ≡ b
+same_numeric Number Number w = refl
+same_numeric Port Port w = refl
+same_numeric Workers Workers w = refl
+same_numeric Connections Connections w = refl
+same_numeric a b w = absurd (omega (arith, third w))
+
+pub no_numeric : (a : NumericOption) → numeric_word a ≡ codes "--journal" → ⊥
+no_numeric Number w = omega (arith, third w)
+no_numeric Port w = omega (arith, third w)
+no_numeric Workers w = omega (arith, third w)
+no_numeric Connections w = omega (arith, third w)
 
 -- options of one word and one value are one
 same_option : (a b : Given) (value : List ℕ) → option_word a ≡ option_word b → IsValueOf a value → IsValueOf b value → a ≡ b
 same_option (Journal a) (Journal b) value w h k = ap Journal (h.0 ∙ sym k.0)
-same_option (Number a) (Number b) value w h k = ap Number (h.2 ∙ sym k.2)
-same_option (Journal a) (Number b) value w h k = absurd (other_third w)
-same_option (Number a) (Journal b) value w h k = absurd (other_third (sym w))
+same_option (Numeric a n) (Numeric b m) value w h k =
+    let option = same_numeric a b w in
+    let number : n ≡ m = h.0.2 ∙ sym k.0.2 in
+    cc
+same_option (Journal a) (Numeric b m) value w h k = absurd (no_numeric b (sym w))
+same_option (Numeric a n) (Journal b) value w h k = absurd (no_numeric a w)
 
 -- an option in one word has another word than one in two
 apart : (a b : Given) (value : List ℕ) → option_word a ++ (61 ∷ value) ≡ option_word b → ⊥

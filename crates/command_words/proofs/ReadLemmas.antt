@@ -1,28 +1,17 @@
 -- What is read while options are taken one after another, and where they are refused.
-use Rattle.std.proofs.Common.{◌≡◌, ◌≢◌, ℕ, ◌+◌, ◌≤◌, Bool, true, false, ◌||◌, cond, is_some, Option, Some, None, Bor, length, map, ◌==◌, List, [], ◌∷◌, ◌++◌, IsPermutation, refl, sym, ◌∙◌, ap, subst, append_assoc, rules, arith}
-use Rattle.std.specs.List.{list_any, sum_by}
+use Rattle.std.proofs.Common.{◌≡◌, ◌≢◌, ℕ, ◌≤◌, Bool, true, false, length, map, ◌==◌, List, [], ◌∷◌, ◌++◌, refl, sym, ◌∙◌, ap, subst, append_assoc, rules, arith}
 use Rattle.std.proofs.lemmas.Bool.Decides.{nat_tests}
-use Rattle.std.proofs.lemmas.List.Sorted.{IsPermutation-refl, IsPermutation-append_comm, IsPermutation-push_more, sum_by-IsPermutation}
-use Rattle.std.proofs.lemmas.List.Sums.{sum_by-append, sum_by-cons}
-use Rattle.command_words.specs.Words.{Asked, Init, Batch, Stations, Trial, Given, Journal, Number, AreOptions, StandsFirst, options_of}
-use Rattle.command_words.specs.Reading.{are_like, given_in, HasLike, AreNoCommands, NoneStandsFirst}
-use Rattle.command_words.specs.declared.options.Options.{Options}
-use Rattle.command_words.proofs.OptionLemmas.{one_option, no_empty_option, true_is_not_false}
+use Rattle.std.proofs.lemmas.List.{length-append, length-map, map-append}
+use Rattle.std.proofs.lemmas.List.Sorted.{length_permutation}
+use Rattle.command_words.specs.Words.{Asked, Init, Batch, Serve, Stations, Trial, Given, AreOptions, StandsFirst, options_of}
+use Rattle.command_words.specs.Reading.{AreNoCommands, NoneStandsFirst, given_by}
+use Rattle.command_words.specs.declared.options.CommandOption.{CommandOption}
+use Rattle.command_words.proofs.OptionLemmas.{one_option, no_empty_option}
 
--- these options were read of the words, in an order of their own, and these words are left
+-- these options were read of the words, and these words are left
 pub record IsReadTo (words : List (List ℕ)) (read : List Given) (rest : List (List ℕ)) : Type 0 where
-  pub before : List Given
-  pub order : IsPermutation before read
-  pub joins : (after : List Given) → AreOptions after rest → AreOptions (before ++ after) words
-  pub splits : (all : List Given) → AreOptions all words → (after : List Given) × (all ≡ before ++ after) × AreOptions after rest
-
-pub nothing_read : (words : List (List ℕ)) → IsReadTo words [] words
-nothing_read words = record {
-  before = [];
-  order = IsPermutation-refl [];
-  joins = λ after h. h;
-  splits = λ all h. (all, refl, h);
-}
+  pub joins : (after : List Given) → AreOptions after rest → AreOptions (read ++ after) words
+  pub splits : (all : List Given) → AreOptions all words → (after : List Given) × (all ≡ read ++ after) × AreOptions after rest
 
 -- what is left of the options behind one that stands first
 behind_one : (option : Given) (rest behind : List (List ℕ)) (after : List Given) → StandsFirst option rest behind
@@ -33,27 +22,25 @@ behind_one option rest behind (other ∷ more) h k =
     (more, ap (λ (o : Given). o ∷ more) one.0, subst (AreOptions more) one.1 k.2)
 
 -- one option is read
-pub one_read : (words : List (List ℕ)) (read : List Given) (rest : List (List ℕ)) (option : Given) (behind : List (List ℕ)) (now : List Given)
-    → IsReadTo words read rest → StandsFirst option rest behind → IsPermutation (option ∷ read) now → IsReadTo words now behind
-one_read words read rest option behind now so_far first more = record {
-  before = so_far.before ++ (option ∷ []);
-  order = IsPermutation-push_more so_far.before read now option so_far.order more;
+pub one_read : (words : List (List ℕ)) (read : List Given) (rest : List (List ℕ)) (option : Given) (behind : List (List ℕ))
+    → IsReadTo words read rest → StandsFirst option rest behind → IsReadTo words (read ++ (option ∷ [])) behind
+one_read words read rest option behind so_far first = record {
   joins = λ after k.
-      subst (λ (all : List Given). AreOptions all words) (sym (append_assoc so_far.before (option ∷ []) after))
+      subst (λ (all : List Given). AreOptions all words) (sym (append_assoc read (option ∷ []) after))
       (so_far.joins (option ∷ after) (behind, first, k));
   splits = λ all k.
       let parts = so_far.splits all k in
       let left = behind_one option rest behind parts.0 first parts.2 in
-      let whole : all ≡ so_far.before ++ (option ∷ left.0) = parts.1 ∙ ap (λ (l : List Given). so_far.before ++ l) left.1 in
-      (left.0, whole ∙ sym (append_assoc so_far.before (option ∷ []) left.0), left.2);
+      let whole : all ≡ read ++ (option ∷ left.0) = parts.1 ∙ ap (λ (l : List Given). read ++ l) left.1 in
+      (left.0, whole ∙ sym (append_assoc read (option ∷ []) left.0), left.2);
 }
 
 -- all is read
 pub all_read : (words : List (List ℕ)) (read : List Given) (rest : List (List ℕ)) → IsReadTo words read rest → rest ≡ []
-    → (options : List Given) × IsPermutation options read × AreOptions options words
+    → AreOptions read words
 all_read words read rest so_far e =
-    let same : so_far.before ++ [] ≡ so_far.before = search rules in
-    (so_far.before ++ [], subst (λ (l : List Given). IsPermutation l read) (sym same) so_far.order, so_far.joins [] e)
+    let same : read ++ [] ≡ read = search rules in
+    subst (λ (l : List Given). AreOptions l words) same (so_far.joins [] e)
 
 no_first : (rest : List (List ℕ)) (after : List Given) → rest ≢ [] → NoneStandsFirst rest → AreOptions after rest → ⊥
 no_first rest [] some none h = some h
@@ -62,60 +49,48 @@ no_first rest (option ∷ more) some none h = none option h.0 h.1
 -- where no option stands first, the words are no command's
 pub none_first : (words : List (List ℕ)) (read : List Given) (rest : List (List ℕ)) → IsReadTo words read rest → rest ≢ []
     → NoneStandsFirst rest → AreNoCommands words
-none_first words read rest so_far some none = λ options asked are needed.
+none_first words read rest so_far some none = λ options asked are its.
     let parts = so_far.splits options are in
     no_first rest parts.0 some none parts.2
 
--- how many options of that name there are
-abbrev likeness : Given → Given → ℕ
-likeness option other = cond (are_like option other) 1 0
+-- a command has four options at most
+few : (asked : Asked) → length (options_of asked) ≤ 4
+few (Init name) = omega arith
+few (Batch name workers) = omega arith
+few (Serve name port workers connections) = omega arith
+few (Stations name) = omega arith
+few (Trial number) = omega arith
 
--- a command needs each once at most
-needed_once : (option : Given) (asked : Asked) → sum_by (likeness option) (options_of asked) ≤ 1
-needed_once (Journal name) (Init other) = omega arith
-needed_once (Journal name) (Batch other) = omega arith
-needed_once (Journal name) (Stations other) = omega arith
-needed_once (Journal name) (Trial number) = omega arith
-needed_once (Number number) (Init other) = omega arith
-needed_once (Number number) (Batch other) = omega arith
-needed_once (Number number) (Stations other) = omega arith
-needed_once (Number number) (Trial other) = omega arith
-
-like_itself : (option : Given) → likeness option option ≡ 1
-like_itself (Journal name) = refl
-like_itself (Number number) = refl
-
-more_counts : (b c : Bool) (n : ℕ) → (b || c) ≡ true → (c ≡ true → 1 ≤ n) → 1 ≤ cond b 1 0 + n
-more_counts true c n h more = omega arith
-more_counts false c n h more = omega (arith, more h)
-
--- one of that name counts
-like_counts : (option : Given) (options : List Given) → list_any (are_like option) options ≡ true → 1 ≤ sum_by (likeness option) options
-like_counts option [] h = cc
-like_counts option (other ∷ options) h =
-    rw sum_by-cons (more_counts (are_like option other) (list_any (are_like option) options) (sum_by (likeness option) options) h (like_counts option options))
-
--- where the next option has the name of one that was read, the words are no command's
-pub one_twice : (words : List (List ℕ)) (read : List Given) (rest : List (List ℕ)) (option : Given) (behind : List (List ℕ))
-    → IsReadTo words read rest → StandsFirst option rest behind → HasLike option read → AreNoCommands words
-one_twice words read rest option behind so_far first like = λ options asked are needed.
+-- so where one more follows four, the words are no command's
+pub one_more : (words : List (List ℕ)) (read : List Given) (rest : List (List ℕ)) (option : Given) (behind : List (List ℕ))
+    → IsReadTo words read rest → StandsFirst option rest behind → length read ≡ 4 → AreNoCommands words
+one_more words read rest option behind so_far first four = λ options asked are its.
     let parts = so_far.splits options are in
     let left = behind_one option rest behind parts.0 first parts.2 in
-    let whole : options ≡ so_far.before ++ (option ∷ left.0) = parts.1 ∙ ap (λ (l : List Given). so_far.before ++ l) left.1 in
-    let count = sum_by-IsPermutation (likeness option) options (options_of asked) needed in
-    let split = ap (sum_by (likeness option)) whole ∙ sum_by-append (likeness option) so_far.before (option ∷ left.0) in
-    let read_count = sum_by-IsPermutation (likeness option) so_far.before read so_far.order in
-    let next = sum_by-cons (likeness option) option left.0 in
-    omega (arith, count, split, read_count, next, like_counts option read like, needed_once option asked, like_itself option)
+    let whole : options ≡ read ++ (option ∷ left.0) = parts.1 ∙ ap (λ (l : List Given). read ++ l) left.1 in
+    omega (
+      arith,
+      few asked,
+      length_permutation (options ++ its.0) (options_of asked) its.2,
+      length-append options its.0,
+      ap (length {A = Given}) whole,
+      length-append read (option ∷ left.0),
+      four,
+    )
 
--- a number joins what was read
-pub number_joins : (journal : Option (Bor (List ℕ))) (number : Option ℕ) (one : ℕ) → is_some number ≡ false
-    → let before : Options = record { journal = journal; number = number } in
-    let after : Options = record { journal = journal; number = Some one } in
-    IsPermutation (Number one ∷ given_in before) (given_in after)
-number_joins None None one none = IsPermutation-refl (Number one ∷ [])
-number_joins (Some name) None one none = IsPermutation-append_comm (Number one ∷ []) (Journal name.now ∷ [])
-number_joins journal (Some number) one none = absurd (true_is_not_false none)
+-- one is pushed behind those that were read
+pub one_pushed : (words : List (List ℕ)) (read : List CommandOption) (rest : List (List ℕ)) (option : CommandOption) (behind : List (List ℕ)) (now : List CommandOption)
+    → now ≡ read ++ (option ∷ []) → IsReadTo words (map given_by read) rest → StandsFirst (given_by option) rest behind
+    → IsReadTo words (map given_by now) behind
+one_pushed words read rest option behind now is so_far first =
+    subst (λ (l : List Given). IsReadTo words l behind) (sym (ap (map given_by) is ∙ map-append given_by read (option ∷ [])))
+    (one_read words (map given_by read) rest (given_by option) behind so_far first)
+
+-- four are read
+pub full : (read : List CommandOption) (tested : Bool) → tested ≡ (length read == 4) → tested ≡ true → length (map given_by read) ≡ 4
+full read tested is holds =
+    let four : length read ≡ 4 = grind (arith, nat_tests) in
+    length-map read given_by ∙ four
 
 -- whether words are left
 pub words_left : {X Y : Type 0} (f : X → Y) (rest : List X) (empty : Bool) → empty ≡ (length rest == 0) → empty ≡ false → map f rest ≢ []

@@ -7,7 +7,7 @@ pub fn one_thing_is_asked()
     ensures { OneIsAsked }
 {}
 
-/// What can be asked is a journal of any name but the empty one, and a trial of any number below a thousand million.
+/// What can be asked is a command with a journal of any name but the empty one and with any numbers that its options take, and some words ask each.
 pub fn what_can_be_asked()
     ensures nothing_else { NothingElseIsAsked }
     ensures each { EachIsAsked }

@@ -3,6 +3,7 @@
 #![tactic(auto)]
 
 pub mod laws;
+mod numbers;
 mod options;
 mod reading;
 mod second_reading;

@@ -1,87 +1,93 @@
-//! The options behind a command's word: `--name value` in two words or `--name=value` in one, in any order, each once.
+//! The options behind a command's word: `--name value` in two words or `--name=value` in one, in any order.
 
-ghost use Rattle.std.specs.Prelude.{◌≡◌, ◌≢◌, ℕ, List, [], ◌∷◌, ◌++◌, ◌<◌, length, map, string_bytes, IsPermutation, MatchOption, IfSome};
-ghost use Rattle.command_words.specs.Words.{Given, Journal, Number, IsNumber, IsOption, IsValueOf, StandsFirst, option_word};
-ghost use Rattle.command_words.specs.Reading.{AreNoCommands, AreRead, HasLike, NoneStandsFirst, given_by, given_in};
+ghost use Rattle.std.specs.Prelude.{◌≡◌, ◌≢◌, ◌<◌, ◌↔◌, ℕ, List, [], ◌∷◌, ◌++◌, length, map, string_bytes, true, IsPermutation, MatchOption, IfSome};
+ghost use Rattle.std.specs.List.{count_by};
+ghost use Rattle.command_words.specs.Words.{Given, Journal, Numeric, AreOptions, IsOption, IsValueOf, StandsFirst, option_word};
+ghost use Rattle.command_words.specs.Reading.{AreNoCommands, NoneStandsFirst, given_by, given_in, is_journal, is_numeric};
+
+use crate::numbers::NumericOption;
+use arrayvec::ArrayVec;
+
+/// The most options that a command has.
+const MOST: usize = 4;
 
 /// An option, with what its value says.
 #[derive(Clone, Copy)]
 pub(crate) enum CommandOption<'a> {
     /// The journal's name, which is not empty.
     Journal(&'a str),
-    /// The number of a trial, at most 999,999,999.
-    Number(u32),
+    /// A number.
+    Numeric(NumericOption, u32),
 }
 
-/// The options that were read, each at most once.
-#[derive(Clone, Copy)]
+impl Default for CommandOption<'_> {
+    fn default() -> Self {
+        CommandOption::Journal("")
+    }
+}
+
+/// The options that were read, and not yet taken.
+#[derive(Drop)]
 pub(crate) struct Options<'a> {
-    journal: Option<&'a str>,
-    number: Option<u32>,
+    given: ArrayVec<CommandOption<'a>, MOST>,
 }
 
 impl<'a> Options<'a> {
-    /// The journal's name, where that is the one option.
-    pub(crate) fn only_journal(self) -> Option<&'a str>
-        ensures { MatchOption result
-            ((name : List ℕ) → ¬ (IsPermutation (given_in self.entry) (Journal name ∷ [])))
-            (λ name. given_in self.entry ≡ Journal name.now ∷ []) }
+    /// Takes the journal's name out, where it is there.
+    pub(crate) fn take_journal(&mut self) -> Option<&'a str>
+        ensures { MatchOption result (count_by is_journal (given_in self.old) ≡ 0)
+            (λ name. IsPermutation (given_in self.old) (Journal name.now ∷ given_in self.new)) }
     {
-        if self.number.is_none() {
-            self.journal
-        } else {
-            None
+        for at in 0..self.given.len() {
+            if let CommandOption::Journal(name) = self.given[at] {
+                self.given.swap_remove(at);
+                return Some(name);
+            }
         }
+        None
     }
 
-    /// The number, where that is the one option.
-    pub(crate) fn only_number(self) -> Option<u32>
-        ensures { MatchOption result
-            ((number : ℕ) → ¬ (IsPermutation (given_in self.entry) (Number number ∷ [])))
-            (λ number. given_in self.entry ≡ Number number ∷ []) }
+    /// Takes the number of this option out, where it is there.
+    pub(crate) fn take_number(&mut self, option: NumericOption) -> Option<u32>
+        ensures taken { MatchOption result (count_by (is_numeric option) (given_in self.old) ≡ 0)
+            (λ number. IsPermutation (given_in self.old) (Numeric option number ∷ given_in self.new)) }
+        ensures kept { result ≡ None → given_in self.new ≡ given_in self.old }
     {
-        if self.journal.is_none() {
-            self.number
-        } else {
-            None
+        for at in 0..self.given.len() {
+            if let CommandOption::Numeric(other, number) = self.given[at]
+                && other == option
+            {
+                self.given.swap_remove(at);
+                return Some(number);
+            }
         }
+        None
     }
 
-    /// These options and one more, or `None` where it is one of them.
-    fn with(self, option: CommandOption<'a>) -> Option<Options<'a>>
-        ensures { MatchOption result (HasLike (given_by option.entry) (given_in self.entry))
-            (λ options. IsPermutation (given_by option.entry ∷ given_in self.entry) (given_in options)) }
+    /// Whether all are taken.
+    pub(crate) fn is_empty(&self) -> bool
+        ensures { (result ≡ true) ↔ (given_in self.now ≡ []) }
     {
-        match option {
-            CommandOption::Journal(name) if self.journal.is_none() => Some(Options {
-                journal: Some(name),
-                ..self
-            }),
-            CommandOption::Number(number) if self.number.is_none() => Some(Options {
-                number: Some(number),
-                ..self
-            }),
-            CommandOption::Journal(_) | CommandOption::Number(_) => None,
-        }
+        self.given.is_empty()
     }
 }
 
-/// The options that the words are, or `None` where they are none, or one stands there twice.
+/// The options that the words are, in their order, or `None` where they are none, or more than a command has.
 pub(crate) fn read_options(words: &[String]) -> Option<Options<'_>>
     ensures { MatchOption result (AreNoCommands (map string_bytes words.now))
-        (AreRead (map string_bytes words.now)) }
+        (λ options. AreOptions (given_in options) (map string_bytes words.now)) }
 {
-    let mut options = Options {
-        journal: None,
-        number: None,
-    };
+    let mut given = ArrayVec::new();
     let mut rest = words;
     while !rest.is_empty() {
         let (option, behind) = first_option(rest)?;
-        options = options.with(option)?;
+        if given.is_full() {
+            return None;
+        }
+        given.push(option);
         rest = behind;
     }
-    Some(options)
+    Some(Options { given })
 }
 
 /// The option that the first words are, and the words behind it.
@@ -126,11 +132,11 @@ fn option_of<'a>(word: &str, value: &'a str) -> Option<CommandOption<'a>>
         ((option : Given) → ¬ ((word.now ≡ option_word option) × IsValueOf option value.now))
         (λ option. (word.now ≡ option_word (given_by option)) × IsValueOf (given_by option) value.now) }
 {
-    match word {
-        "--journal" => Some(CommandOption::Journal(name_of(value)?)),
-        "--number" => Some(CommandOption::Number(number_of(value)?)),
-        _ => None,
+    if word == "--journal" {
+        return Some(CommandOption::Journal(name_of(value)?));
     }
+    let option = NumericOption::named(word)?;
+    Some(CommandOption::Numeric(option, option.number_in(value)?))
 }
 
 /// The name that a value is: any text but the empty one.
@@ -138,14 +144,4 @@ fn name_of(value: &str) -> Option<&str>
     ensures { MatchOption result (value.now ≡ []) (λ name. (name.now ≡ value.now) × (value.now ≢ [])) }
 {
     if value.is_empty() { None } else { Some(value) }
-}
-
-/// The number that a value states with 1 to 9 decimal digits.
-fn number_of(value: &str) -> Option<u32>
-    ensures { MatchOption result ((number : ℕ) → ¬ (IsNumber value.now number)) (IsNumber value.now) }
-{
-    if value.len() > 9 || value.starts_with('+') {
-        return None;
-    }
-    value.parse().ok()
 }

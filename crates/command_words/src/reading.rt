@@ -1,10 +1,11 @@
 //! What the words of the command line ask.
 
-ghost use Rattle.std.specs.Prelude.{◌≡◌, ◌↔◌, List, ℕ, map, string_bytes, MatchOption, IfOk, IsPermutation};
-ghost use Rattle.command_words.specs.Words.{Asked, IsAsked, command_word, options_of};
+ghost use Rattle.std.specs.Prelude.{◌≡◌, ◌↔◌, List, ℕ, codes, map, string_bytes, MatchOption, IfOk};
+ghost use Rattle.command_words.specs.Words.{Asked, IsAsked};
 ghost use Rattle.command_words.specs.Commands.{asked_by};
-ghost use Rattle.command_words.specs.Reading.{given_in};
+ghost use Rattle.command_words.specs.Reading.{IsReadOf, given_in};
 
+use crate::numbers::NumericOption;
 use crate::options::{Options, read_options};
 use crate::second_reading::is_read_alike;
 use std::alloc::Global;
@@ -15,8 +16,24 @@ use thiserror::Error;
 pub enum Command<'a> {
     /// To make a journal of this name.
     Init(&'a str),
-    /// To serve the requests on the input over the journal of this name.
-    Batch(&'a str),
+    /// To serve the requests on the input over a journal.
+    Batch {
+        /// The journal's name.
+        journal: &'a str,
+        /// How many workers are started, at most 16.
+        workers: u32,
+    },
+    /// To serve connections over a journal.
+    Serve {
+        /// The journal's name.
+        journal: &'a str,
+        /// The port that is listened on, at least 1.
+        port: u16,
+        /// How many workers are started, at most 16.
+        workers: u32,
+        /// How many connections are served, 1 to 10,000.
+        connections: u32,
+    },
     /// To add the stations of the document on the input to the journal of this name.
     Stations(&'a str),
     /// To run the trial of this number, at most 999,999,999.
@@ -34,8 +51,8 @@ pub enum WordsFault {
     NoMemory,
 }
 
-/// What the words behind the program's name ask: a command, and the options that it needs, each once and in any order,
-/// as `--name value` or `--name=value`.
+/// What the words behind the program's name ask: a command and its options, each once at most and in any order, as
+/// `--name value` or `--name=value`. `--workers` may be left out of `batch`, and is 0 then.
 ///
 /// # Errors
 ///
@@ -62,21 +79,87 @@ fn command_in(words: &[String]) -> Option<Command<'_>>
         (λ command. IsAsked (map string_bytes words.now) (asked_by command)) }
 {
     let (word, behind) = words.split_first()?;
-    let options = read_options(behind)?;
-    command_of(word.as_str(), options)
+    let mut options = read_options(behind)?;
+    command_of(word.as_str(), &mut options)
 }
 
-/// The command of this word, where the options are those that it needs.
-fn command_of<'a>(word: &str, options: Options<'a>) -> Option<Command<'a>>
-    ensures { MatchOption result
-        ((asked : Asked) → word.now ≡ command_word asked → ¬ (IsPermutation (given_in options.entry) (options_of asked)))
-        (λ command. (word.now ≡ command_word (asked_by command)) × (given_in options.entry ≡ options_of (asked_by command))) }
+/// The command of this word, where the options are its own.
+fn command_of<'a>(word: &str, options: &mut Options<'a>) -> Option<Command<'a>>
+    ensures { IsReadOf word.now (given_in options.old) result }
 {
     match word {
-        "init" => Some(Command::Init(options.only_journal()?)),
-        "batch" => Some(Command::Batch(options.only_journal()?)),
-        "stations" => Some(Command::Stations(options.only_journal()?)),
-        "trial" => Some(Command::Trial(options.only_number()?)),
+        "init" => init(options),
+        "batch" => batch(options),
+        "serve" => serve(options),
+        "stations" => stations(options),
+        "trial" => trial(options),
         _ => None,
+    }
+}
+
+fn init<'a>(options: &mut Options<'a>) -> Option<Command<'a>>
+    ensures { IsReadOf (codes "init") (given_in options.old) result }
+{
+    let journal = options.take_journal()?;
+    if options.is_empty() {
+        Some(Command::Init(journal))
+    } else {
+        None
+    }
+}
+
+fn batch<'a>(options: &mut Options<'a>) -> Option<Command<'a>>
+    ensures { IsReadOf (codes "batch") (given_in options.old) result }
+{
+    let journal = options.take_journal()?;
+    let workers = options.take_number(NumericOption::Workers).unwrap_or(0);
+    if options.is_empty() {
+        Some(Command::Batch { journal, workers })
+    } else {
+        None
+    }
+}
+
+fn serve<'a>(options: &mut Options<'a>) -> Option<Command<'a>>
+    ensures { IsReadOf (codes "serve") (given_in options.old) result }
+{
+    let journal = options.take_journal()?;
+    let port = options.take_number(NumericOption::Port)?;
+    let workers = options.take_number(NumericOption::Workers)?;
+    let connections = options.take_number(NumericOption::Connections)?;
+    let Ok(port) = u16::try_from(port) else {
+        return None;
+    };
+    if options.is_empty() {
+        Some(Command::Serve {
+            journal,
+            port,
+            workers,
+            connections,
+        })
+    } else {
+        None
+    }
+}
+
+fn stations<'a>(options: &mut Options<'a>) -> Option<Command<'a>>
+    ensures { IsReadOf (codes "stations") (given_in options.old) result }
+{
+    let journal = options.take_journal()?;
+    if options.is_empty() {
+        Some(Command::Stations(journal))
+    } else {
+        None
+    }
+}
+
+fn trial<'a>(options: &mut Options<'a>) -> Option<Command<'a>>
+    ensures { IsReadOf (codes "trial") (given_in options.old) result }
+{
+    let number = options.take_number(NumericOption::Number)?;
+    if options.is_empty() {
+        Some(Command::Trial(number))
+    } else {
+        None
     }
 }

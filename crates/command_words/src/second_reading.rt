@@ -23,11 +23,24 @@ fn command_read<'a>(matches: &ArgMatches<'a>) -> Option<Command<'a>> {
     let (word, options) = matches.subcommand()?;
     match word {
         "init" => Some(Command::Init(options.get_str("journal")?)),
-        "batch" => Some(Command::Batch(options.get_str("journal")?)),
+        "batch" => Some(Command::Batch {
+            journal: options.get_str("journal")?,
+            workers: options.get_one::<u32>("workers").unwrap_or(0),
+        }),
+        "serve" => serve_read(options),
         "stations" => Some(Command::Stations(options.get_str("journal")?)),
         "trial" => Some(Command::Trial(options.get_one::<u32>("number")?)),
         _ => None,
     }
+}
+
+fn serve_read<'a>(options: &ArgMatches<'a>) -> Option<Command<'a>> {
+    Some(Command::Serve {
+        journal: options.get_str("journal")?,
+        port: u16::try_from(options.get_one::<u32>("port")?).ok()?,
+        workers: options.get_one::<u32>("workers")?,
+        connections: options.get_one::<u32>("connections")?,
+    })
 }
 
 /// The program's commands with their options, as `clap` is told of them.
@@ -37,23 +50,31 @@ fn program<'a>(alloc: Global) -> Result<clap::Command<'a>, AllocError> {
         .subcommand_required(true)
         .disable_help_flag(true)
         .disable_help_subcommand(true)
-        .subcommand(with_option(alloc, "init", "journal")?)?
-        .subcommand(with_option(alloc, "batch", "journal")?)?
-        .subcommand(with_option(alloc, "stations", "journal")?)?
-        .subcommand(with_option(alloc, "trial", "number")?)
+        .subcommand(needing(alloc, "init", &["journal"])?)?
+        .subcommand(needing(alloc, "batch", &["journal"])?.arg(option(alloc, "workers"))?)?
+        .subcommand(needing(
+            alloc,
+            "serve",
+            &["journal", "port", "workers", "connections"],
+        )?)?
+        .subcommand(needing(alloc, "stations", &["journal"])?)?
+        .subcommand(needing(alloc, "trial", &["number"])?)
 }
 
-/// A command that needs one option.
-fn with_option<'a>(
+/// A command that needs these options.
+fn needing<'a>(
     alloc: Global,
     name: &'a str,
-    option: &'a str,
+    options: &[&'a str],
 ) -> Result<clap::Command<'a>, AllocError> {
-    let option = Arg::new(alloc, option)
-        .long(option)
-        .required(true)
-        .action(ArgAction::Set);
-    clap::Command::new(alloc, name)
-        .disable_help_flag(true)
-        .arg(option)
+    let mut command = clap::Command::new(alloc, name).disable_help_flag(true);
+    for name in options {
+        command = command.arg(option(alloc, name).required(true))?;
+    }
+    Ok(command)
+}
+
+/// An option.
+fn option<'a>(alloc: Global, name: &'a str) -> Arg<'a> {
+    Arg::new(alloc, name).long(name).action(ArgAction::Set)
 }

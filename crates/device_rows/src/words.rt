@@ -51,10 +51,29 @@ fn push_asked(asked: Result<Command<'_>, WordsFault>, came: &mut Text) -> Result
 fn push_command(command: Command<'_>, came: &mut Text) -> Result<(), NoMemory> {
     match command {
         Command::Init(name) => push_named(b"init ", name, came),
-        Command::Batch(name) => push_named(b"batch ", name, came),
+        Command::Batch { journal, workers } => push_batch(journal, workers, came),
+        Command::Serve {
+            journal,
+            port,
+            workers,
+            connections,
+        } => push_serve(journal, [u32::from(port), workers, connections], came),
         Command::Stations(name) => push_named(b"stations ", name, came),
         Command::Trial(number) => push_counted(b"trial ", u64::from(number), came),
     }
+}
+
+fn push_batch(journal: &str, workers: u32, came: &mut Text) -> Result<(), NoMemory> {
+    push_named(b"batch ", journal, came)?;
+    push_counted(b" workers ", u64::from(workers), came)
+}
+
+fn push_serve(journal: &str, numbers: [u32; 3], came: &mut Text) -> Result<(), NoMemory> {
+    let [port, workers, connections] = numbers;
+    push_named(b"serve ", journal, came)?;
+    push_counted(b" port ", u64::from(port), came)?;
+    push_counted(b" workers ", u64::from(workers), came)?;
+    push_counted(b" connections ", u64::from(connections), came)
 }
 
 fn push_named(command: &[u8], name: &str, came: &mut Text) -> Result<(), NoMemory> {

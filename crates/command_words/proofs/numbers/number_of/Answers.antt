@@ -1,7 +1,7 @@
 use Rattle.std.proofs.Common.{◌≢◌, get_or, sym, ◌∙◌, lit<, arith}
 use Rattle.std.proofs.lemmas.Str.Pattern.{starts_char}
 use Rattle.command_words.proofs.OptionLemmas.{number_parsed, true_is_not_false}
-use Rattle.command_words.proofs.options.number_of.Goals as goal
+use Rattle.command_words.proofs.numbers.number_of.Goals as goal
 
 pub returns : goal.returns
 returns c =

@@ -1,0 +1,10 @@
+use Rattle.std.proofs.Common.{◌≡◌, length, take}
+use Rattle.std.specs.List.{sum_by}
+use Rattle.command_words.specs.Reading.{is_numeric}
+use Rattle.command_words.proofs.TakeLemmas.{read_passing}
+use Rattle.command_words.proofs.options.Options.take_number.Given as goal
+
+abbrev pub invariant-loop-at : goal.invariant-loop-at
+invariant-loop-at l =
+    (l.self ≡ l.fn.self) × (l.at-end ≡ length l.fn.self.given.items)
+    × (sum_by (read_passing (is_numeric l.option)) (take l.at l.fn.self.given.items) ≡ 0)

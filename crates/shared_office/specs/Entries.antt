@@ -1,5 +1,5 @@
 -- The list of a shared office: what has happened in it, and among that where its end was told.
-use Rattle.std.specs.Prelude.{◌≡◌, ℕ, ◌+◌, ◌-◌, ◌<◌, ◌^◌, Bool, true, false, List, [], ◌∷◌, ◌++◌, length, map, take, drop, Option, Some, None}
+use Rattle.std.specs.Prelude.{◌≡◌, ℕ, ◌+◌, ◌-◌, ◌<◌, ◌^◌, Bool, true, false, if◌then◌else◌, List, [], ◌∷◌, ◌++◌, length, map, take, drop, Option, Some, None}
 use Rattle.history.specs.After.{go_on}
 use Rattle.history.specs.Awaited.{pending_days}
 use Rattle.history.specs.Events.{Event, History}
@@ -40,6 +40,10 @@ history_of fixed list = record { opened = fixed.opened; limits = fixed.limits; e
 -- a list that goes on by these events
 abbrev pub with_events : List Entry → List Event → List Entry
 with_events list added = list ++ map Happened added
+
+-- a list in which the end is told, which is told once
+abbrev pub with_ending : List Entry → List Entry
+with_ending list = if has_ended list then list else list ++ Ending ∷ []
 
 -- the history goes on by these events, and the list with it
 abbrev pub GoOn : History → Option ℕ → History → Option ℕ → List Event → Type 0

@@ -4,7 +4,7 @@ use mathlib.Core.List.{IsPrefix}
 use Rattle.atomic_table.specs.declared.shared.Seat.{Seat}
 use Rattle.devices.specs.declared.disks.Disk.{Ghosts}
 use Rattle.history.specs.Events.{Event, History}
-use Rattle.shared_office.specs.Entries.{entries, fixed_part, history_of, with_events}
+use Rattle.shared_office.specs.Entries.{entries, fixed_part, history_of, with_ending, with_events}
 use Rattle.shared_office.specs.Holdings.{Holding, Follow, places_of}
 use Rattle.shared_office.specs.declared.entries.Entry.{Entry}
 use Rattle.shared_office.specs.declared.entries.Fixed.{Fixed}
@@ -42,6 +42,7 @@ module _ {D : Type 0} {g : Ghosts D} where
 
   -- the pass has gone through these holdings, which are all that its tally grew by
   pub record Goes (given back : PassTo D g) (xs : List (Holding (List Entry))) : Type 0 where
+    pub begins : IsPrefix (seen given) (seen back)
     pub follow : Follow IsPrefix (seen given) xs (seen back)
     pub share_is : share back ≡ share given
     pub tally_is : tally back ≡ tally given ++ places_of length xs
@@ -49,6 +50,7 @@ module _ {D : Type 0} {g : Ghosts D} where
   -- the pass was in one holding
   pub record GoesOnce (given back : PassTo D g) (x : Holding (List Entry)) : Type 0 where
     pub begins : IsPrefix (seen given) x.from
+    pub grows : IsPrefix x.from x.to
     pub seen_is : seen back ≡ x.to
     pub share_is : share back ≡ share given
     pub tally_is : tally back ≡ tally given ++ places (length x.from) (length x.to - length x.from)
@@ -56,3 +58,7 @@ module _ {D : Type 0} {g : Ghosts D} where
 -- a holding that added these events
 abbrev pub adding : List Entry → List Event → Holding (List Entry)
 adding list added = record { from = list; to = with_events list added }
+
+-- a holding in which the end was told, where it was not told yet
+abbrev pub telling_end : List Entry → Holding (List Entry)
+telling_end list = record { from = list; to = with_ending list }

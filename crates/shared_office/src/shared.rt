@@ -8,13 +8,13 @@ ghost use Rattle.office.specs.Edits.{Edits};
 ghost use Rattle.office.specs.Steps.{APublication, AnEdit, IsStep, Step};
 ghost use Rattle.register.specs.Registered.{first_unclaimed};
 ghost use Rattle.shared_office.specs.Entries.{CanEnd, GoOn, entries, fixed_part};
-ghost use Rattle.shared_office.specs.Finding.{Finds, IsWorkStep, published_by};
+ghost use Rattle.shared_office.specs.Finding.{Finds, FindsBy, IsLooked, published_by};
 ghost use Rattle.shared_office.specs.declared.entries.Entry.TheVariants as entry;
 
 use crate::entries::{Entry, Fixed};
 use devices::Disk;
 use edits::Edit;
-use fixed_units::NoMemory;
+use fixed_units::{Day, NoMemory, Site};
 use office::{Accepted, Office};
 use office_inputs::Refusal;
 use recompute::{Done, Job, Publish};
@@ -62,6 +62,15 @@ pub enum Found {
     Drained,
 }
 
+/// What is told by a look.
+#[derive(Drop)]
+pub struct Looked {
+    /// The job of the first pending day after the last one, or of all.
+    pub job: Option<Job>,
+    /// How many days are pending.
+    pub pending: u64,
+}
+
 /// Whether the events of an office, a publication of each pending day and the ending can be counted, whatever is still accepted.
 fn can_end<D: Disk>(office: &Office<D>) -> bool
     ensures { result ≡ true ↔ CanEnd office.now.register.history }
@@ -101,32 +110,44 @@ impl<D: Disk> Shared<D> {
         self.office.take(edit)
     }
 
-    /// What there is to do for a worker. The claim of a day that is found is out from then on. Nothing happens to the office; after
-    /// `NoMemory` all is as before.
+    /// The job of the first pending day after `last`, or of all, as [`Office::after`] gives it, and how many days are pending.
+    pub fn look(&self, last: Option<(Site, Day)>) -> Result<Looked, NoMemory>
+        ensures { IfOk result (IsLooked self.now.office.register.history last) }
+    {
+        let job = self.office.after(last)?;
+        let pending = self.office.pending();
+        Ok(Looked { job, pending })
+    }
+
+    /// What there is to do for a worker. The claim of a day that it finds by a claim is out from then on; all others are as before.
+    /// Nothing happens to the office; after `NoMemory` all is as before.
     pub fn find(&mut self) -> Result<Found, NoMemory>
-        ensures found { IfOk result (Finds self.old.office.register self.old.ending) }
+        ensures found { IfOk result (Finds self.old.office.register self.old.ending self.new.office.register) }
+        ensures step { (step : Step) × FindsBy step result × IsStep self.old.office.register step self.new.office.register }
         ensures list { GoOn self.old.office.register.history self.old.ending self.new.office.register.history self.new.ending [] }
-        ensures step { (step : Step) × IsWorkStep step × IsStep self.old.office.register step self.new.office.register }
         ensures err { OnErr result (self.new.office ≡ self.old.office) }
         ensures disk { self.new.office.disk ≡ self.old.office.disk }
     {
-        match self.office.claim()? {
-            Some(job) => Ok(Found::Job(job)),
-            None => self.find_behind_claims(),
+        match self.office.claim() {
+            Ok(Some(job)) => Ok(Found::Job(job)),
+            Ok(None) => self.find_behind_claims(),
+            Err(failed) => Err(failed),
         }
     }
 
     /// What there is to do where the claim of each pending day is out.
     fn find_behind_claims(&self) -> Result<Found, NoMemory>
         requires { first_unclaimed self.now.office.register ≡ None }
-        ensures { IfOk result (Finds self.now.office.register self.now.ending) }
+        ensures found { IfOk result (Finds self.now.office.register self.now.ending self.now.office.register) }
+        ensures step { (step : Step) × FindsBy step result × IsStep self.now.office.register step self.now.office.register }
     {
         let Some(_) = self.ending else {
             return Ok(Found::Nothing);
         };
-        match self.office.after(None)? {
-            Some(job) => Ok(Found::Job(job)),
-            None => Ok(Found::Drained),
+        match self.office.after(None) {
+            Ok(Some(job)) => Ok(Found::Job(job)),
+            Ok(None) => Ok(Found::Drained),
+            Err(failed) => Err(failed),
         }
     }
 

@@ -1,5 +1,5 @@
 -- Passes and holdings of a turnstile, and what they know.
-use Rattle.std.specs.Prelude.{◌≡◌, ◌<◌, ℕ, true, false, List, [], ◌∷◌, length, Option, Some, None, All}
+use Rattle.std.specs.Prelude.{◌≡◌, ◌<◌, ◌≤◌, ℕ, true, false, List, [], ◌∷◌, length, Option, Some, None, All}
 use Rattle.atomic_table.specs.Seated.{TableId}
 use Rattle.atomic_table.specs.declared.shared.Seat.{Seat}
 use Rattle.turnstile.specs.declared.parties.Party.{Party}
@@ -53,10 +53,12 @@ module _ {T E F : Type 0} where
       (pass.table_id ≡ table) × (pass.me.1 ≡ (0, None) ∷ []) × ((knows pass).holds ≡ true) × (0 < share pass) × ((knows pass).told ≡ [])
 
   module _ (history : T → List E) (fixed : T → F) where
-    -- what each party knows of the first value, and that each place of its tally lies in what it has seen
+    -- what each party knows of the first value, whose history is no longer than what it has seen, and that each place of its tally lies in
+    -- what it has seen
     pub record Belongs (turnstile : Turnstile T E F) (pass : Seat (Option T) (Party E F)) : Type 0 where
       pub fixed_part : (knows pass).fixed ≡ Some (fixed (first_value turnstile))
       pub start : (knows pass).start ≡ length (history (first_value turnstile))
+      pub begun : length (history (first_value turnstile)) ≤ length (seen pass)
       pub within : All (λ place. place < length (seen pass)) (tally pass)
 
     -- a pass of this turnstile

@@ -1,20 +1,17 @@
 //! A worker's loop.
 
-ghost use Rattle.std.specs.Prelude.{◌≡◌, ◌<◌, ◌≤◌, ℕ, length};
+ghost use Rattle.std.specs.Prelude.{◌≡◌, ◌≤◌, ℕ, length};
 ghost use Rattle.shared_office.specs.Passing.{IsOf, fixed_in};
 ghost use Rattle.shared_office.specs.Working.{IsDrained};
 ghost use Rattle.turnstile.specs.Passes.{seen};
-ghost use Rattle.workers.specs.Work.{IsMore, IsWork, count_told};
+ghost use Rattle.workers.specs.Work.{IsMore, IsWork};
 
-use chronicle::Steps;
 use devices::{Disk, Gate};
 use fixed_units::NoMemory;
-use recompute::{Done, Job, Publish};
+use recompute::{Done, Publish};
 use shared_office::holdings::{find, publish};
-use shared_office::{Found, Shared};
-use std::marker::Brand;
+use shared_office::{Found, Shared, compute};
 use std::sync::Wait;
-use std::sync::ledger::{Blank, Ledger};
 use std::thread;
 use std::time::{Clock, Duration};
 use turnstile::{Pass, Turnstile};
@@ -42,7 +39,7 @@ pub fn worker<R: Wait + Clock, D: Disk, G: Gate>(
 ) -> (Pass<Shared<D>>, WorkerEnd)
     requires { IsOf lock.now given }
     ensures pass { IsOf lock.now result.0 }
-    ensures worked { IsWork (fixed_in lock.now) given result.0 (count_told result.1) }
+    ensures worked { IsWork lock.now given result.0 result.1 }
     ensures drained { (count : ℕ) → result.1 ≡ WorkerEnd.Drained count → IsDrained (fixed_in lock.now) (seen result.0) }
 {
     let mut pass = given;
@@ -78,27 +75,12 @@ fn publish_more<R: Wait, D: Disk>(
     requires pass { IsOf lock.now pass }
     requires few { published ≤ length (seen pass) }
     ensures pass { IsOf lock.now result.0 }
-    ensures held { IsMore (fixed_in lock.now) pass published result.0 result.1 }
+    ensures held { IsMore lock.now pass published result.0 result.1 }
     ensures few { result.1 ≤ length (seen result.0) }
 {
-    let (back, told) = publish(rt, lock, pass, done);
+    let (back, told, _) = publish(rt, lock, pass, done);
     match told {
         Publish::Published => (back, published + 1),
         Publish::Settled | Publish::Superseded(_) | Publish::Foreign => (back, published),
     }
-}
-
-/// Computes a day, with a counter that nobody reads.
-fn compute(job: Job) -> Done {
-    compute_counted::<Brand>(job, Blank::new(1))
-}
-
-/// The same, over the ledger of a counter.
-fn compute_counted<L: Ledger>(job: Job, blank: Blank) -> Done
-    requires name { blank.name ≡ L.name }
-    requires parts { blank.parts ≡ L.parts }
-    requires some { 0 < blank.parts }
-{
-    let mut steps = Steps::<L>::new(blank);
-    job.compute(&mut steps)
 }

@@ -1,4 +1,4 @@
-use Rattle.std.proofs.Common.{length, ap, ◌∙◌}
+use Rattle.std.proofs.Common.{length, ap, ◌∙◌, arith}
 use Rattle.turnstile.specs.Passes.{tally, entered}
 use Rattle.turnstile.proofs.ListLemmas.{prefix_length, tally_within}
 use Rattle.turnstile.proofs.lock.Turnstile.leave.Goals as goal
@@ -12,6 +12,7 @@ returns-clause-pass g c =
       record {
         fixed_part = ap (λ m. m.0.fixed) p.1 ∙ b.fixed_part;
         start = ap (λ m. m.0.start) p.1 ∙ b.start;
+        begun = (let a = b.begun in let l = prefix_length (entered c.args.held) log c.requires.begins in let e = ap (λ m. length m.0.seen) p.1 in omega (arith, a, l, e));
         within = rw p.1 within;
       },
     )

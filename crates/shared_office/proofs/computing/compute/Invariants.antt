@@ -1,4 +1,4 @@
-use Rattle.workers.proofs.workers.compute.Given as goal
+use Rattle.shared_office.proofs.computing.compute.Given as goal
 
 abbrev pub ghosts-compute_counted : goal.ghosts-compute_counted
 ghosts-compute_counted a = record { name = a.blank.name; parts = a.blank.parts }

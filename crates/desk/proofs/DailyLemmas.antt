@@ -10,7 +10,7 @@ use Rattle.depend.proofs.CalendarLemmas.{within_cons, within_none}
 use Rattle.desk.specs.Answering.{IsKnown, answer_of}
 use Rattle.desk.specs.Replies.{answer_bytes, day_reply, sheet_reply, table_reply}
 use Rattle.fixed_units.specs.Quantities.{IsDay, SiteNumber, first_day}
-use Rattle.history.specs.Awaited.{NoStation, answer_at}
+use Rattle.history.specs.Awaited.{answer_at}
 use Rattle.history.specs.Events.{Event}
 use Rattle.history.specs.Sheets.{Text}
 use Rattle.history.specs.Statuses.{status_at}

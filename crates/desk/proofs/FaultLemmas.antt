@@ -1,11 +1,12 @@
 -- Each reply of the status 503 is that to an edit which a fault of the journal refused, and each such edit has one.
 use Rattle.std.specs.Prelude.{◌≡◌, ◌⊎◌, ℕ, ◌+◌, Bool, true, false, cond, List, [], ◌∷◌, ◌++◌, map, count_by, Option, Some, None, Result, Ok, Err}
 use Rattle.std.specs.Fmt.{digits}
-use Rattle.std.proofs.Common.{refl, ap, subst, ◌∙◌, inl, inr, arith}
+use Rattle.std.proofs.Common.{refl, ap, ◌∙◌, inl, inr, arith}
 use Rattle.std.proofs.lemmas.List.Sums.{sum_by-cons}
 use Rattle.approval.specs.declared.status.Status.{Status}
 use Rattle.edits.specs.declared.content.Edit.{Edit}
-use Rattle.desk.specs.Replies.{AreReplies, Alone, Fails, IsAnswered, IsAnsweredBy, IsLeftBy, IsReplied, IsTold, day_reply, departure_reply, edit_reply, fault_reply, history_after, history_by, measurement_reply, memory_reply, reply_to, sheet_reply, station_reply, table_reply, tells_fault}
+use Rattle.desk.specs.Replies.{AreReplies, Fails, IsAnswered, IsLeftBy, day_reply, departure_reply, edit_reply, fault_reply, history_after, history_by, measurement_reply, reply_to, sheet_reply, station_reply, table_reply, tells_fault}
+use Rattle.desk.specs.Replying.{IsAnsweredBy, IsReplied, IsTold, memory_reply}
 use Rattle.desk.proofs.PassingLemmas.{Publishes}
 use Rattle.desk.proofs.TurnLemmas.{publishes_turns}
 use Rattle.history.specs.After.{after_edit, after_fault, publication, reopen}
@@ -255,13 +256,13 @@ answered h ask reply next (inr (inr none)) = plain_as h next memory_reply reply 
 forgone : (h next : History) (reply : List ℕ) → (reply ≡ memory_reply) × (next ≡ h) → TellsFault h reply next
 forgone h next reply none = plain_as h next memory_reply reply plain_memory none.0 (ap (λ (x : History). fault_count x.events) none.1)
 
-answered_by : (h : History) (asked : Result Question Denied) (reply : List ℕ) (next : History) → IsAnsweredBy h asked reply next → TellsFault h reply next
+answered_by : (h : History) (asked : Result Question Denied) (reply : List ℕ) (next : History) → IsAnsweredBy IsAnswered h asked reply next → TellsFault h reply next
 answered_by h (Ok asked) reply next is = answered h is.0 reply next is.2
 answered_by h (Err denied) reply next is =
     plain_as h next (bytes_of (replies.Denied denied)) reply (plain_denied denied) is.0 (ap (λ (x : History). fault_count x.events) is.1)
 
 requested : (h : History) (asked : Result Question Denied) (reply : List ℕ) (next : History)
-    → IsAnsweredBy h asked reply next ⊎ ((reply ≡ memory_reply) × (next ≡ h)) → TellsFault h reply next
+    → IsAnsweredBy IsAnswered h asked reply next ⊎ ((reply ≡ memory_reply) × (next ≡ h)) → TellsFault h reply next
 requested h asked reply next (inl is) = answered_by h asked reply next is
 requested h asked reply next (inr none) = forgone h next reply none
 
@@ -269,10 +270,10 @@ due_plain : (due reply : List ℕ) → tells_fault due ≡ false → (reply ≡ 
 due_plain due reply none (inl is) = ap tells_fault is ∙ none
 due_plain due reply none (inr is) = ap tells_fault is ∙ plain_memory
 
-told : (h : History) (due reply : List ℕ) (next : History) → tells_fault due ≡ false → IsTold h due reply next → TellsFault h reply next
+told : (h : History) (due reply : List ℕ) (next : History) → tells_fault due ≡ false → IsTold IsAnswered h due reply next → TellsFault h reply next
 told h due reply next none is = tells_none tells_fault h next reply (due_plain due reply none is.0) (ap (λ (x : History). fault_count x.events) is.1)
 
-replied : (h : History) (message : Message) (reply : List ℕ) (next : History) → IsReplied h message reply next → TellsFault h reply next
+replied : (h : History) (message : Message) (reply : List ℕ) (next : History) → IsReplied IsAnswered h message reply next → TellsFault h reply next
 replied h (messages.Request verb target body) reply next is = requested h (ask_of verb target body) reply next is
 replied h messages.NoLength reply next is = told h (bytes_of replies.NoLength) reply next plain_no_length is
 replied h messages.TooLarge reply next is = told h (bytes_of replies.TooLarge) reply next plain_too_large is
@@ -282,13 +283,13 @@ replied h (messages.Malformed at) reply next is = absurd is
 replied h messages.Long reply next is = absurd is
 replied h messages.Failed reply next is = absurd is
 
-pub all_told : (h : History) (ms : List Message) (rs : List (List ℕ)) (after : History) → AreReplies Alone h ms rs after
+pub all_told : (h : History) (ms : List Message) (rs : List (List ℕ)) (after : History) → AreReplies h ms rs after
     → fault_count after.events ≡ fault_count h.events + count_by tells_fault rs
 all_told h [] [] after is = none_told tells_fault h after is
 all_told h [] (r ∷ rs) after is = absurd is
 all_told h (m ∷ ms) [] after is = absurd is
 all_told h (m ∷ ms) (r ∷ rs) after is =
-    more_told tells_fault h is.2.0 after r rs (replied h m r is.2.0 (subst (λ (f : History). IsReplied f m r is.2.0) is.1 is.2.1)) (all_told is.2.0 ms rs after is.2.2)
+    more_told tells_fault h is.0 after r rs (replied h m r is.0 is.1) (all_told is.0 ms rs after is.2)
 
 -- no fault is among the edits that were found
 pub count_reopened : (pieces : List Record) (since : List Event) → fault_count (map Accepted pieces ++ since) ≡ fault_count since
@@ -296,7 +297,7 @@ count_reopened [] since = refl
 count_reopened (piece ∷ pieces) since = count_reopened pieces since
 
 pub all_opened : (limits : Limits) (pieces : List Record) (ms : List Message) (rs : List (List ℕ)) (after : History)
-    → AreReplies Alone (reopen limits pieces) ms rs after → fault_count after.events ≡ count_by tells_fault rs
+    → AreReplies (reopen limits pieces) ms rs after → fault_count after.events ≡ count_by tells_fault rs
 all_opened limits pieces ms rs after is =
     let whole = all_told (reopen limits pieces) ms rs after is in
     omega (arith, whole, none_accepted pieces)

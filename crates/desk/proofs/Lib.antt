@@ -1,5 +1,9 @@
 mod DailyLemmas
+pub mod AloneLemmas
 pub mod AnswerLemmas
+pub mod AtOnceLemmas
+pub mod ChainLemmas
+pub mod DayByDayLemmas
 pub mod EndLemmas
 pub mod FaultLemmas
 pub mod OneReplyLemmas

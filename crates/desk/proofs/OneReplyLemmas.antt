@@ -2,7 +2,8 @@
 use Rattle.std.specs.Prelude.{◌≡◌, ◌⊎◌, ℕ, List, [], ◌∷◌, Result, Ok, Err, All}
 use Rattle.std.proofs.Common.{refl, ap, sym, subst, ◌∙◌, inl, inr}
 use Rattle.std.proofs.lemmas.List.Elements.{All-head, All-tail}
-use Rattle.desk.specs.Replies.{AreReplies, Alone, Fails, IsAnswered, IsAnsweredBy, IsOwn, IsReplied, IsTold, history_after, memory_reply, reply_to}
+use Rattle.desk.specs.Replies.{AreReplies, Fails, IsAnswered, IsOwn, history_after, reply_to}
+use Rattle.desk.specs.Replying.{IsAnsweredBy, IsReplied, IsTold, memory_reply}
 use Rattle.history.specs.Events.{History}
 use Rattle.http_api.specs.Asks.{Question, ask_of}
 use Rattle.http_api.specs.Replies.{bytes_of}
@@ -32,7 +33,7 @@ own_answer h ask reply next (inl due) own = due
 own_answer h ask reply next (inr (inl failed)) own = absurd (failed_not h ask reply next failed own)
 own_answer h ask reply next (inr (inr none)) own = absurd (own.0 none.0)
 
-one_answer : (h : History) (asked : Result Question Denied) (r s : List ℕ) (n k : History) → IsAnsweredBy h asked r n → IsAnsweredBy h asked s k
+one_answer : (h : History) (asked : Result Question Denied) (r s : List ℕ) (n k : History) → IsAnsweredBy IsAnswered h asked r n → IsAnsweredBy IsAnswered h asked s k
     → IsOwn r → IsOwn s → (r ≡ s) × (n ≡ k)
 one_answer h (Ok asked) r s n k a b own other =
     let same : a.0 ≡ b.0 = are_told a.0 b.0 (a.1 ∙ sym b.1) in
@@ -45,16 +46,16 @@ told_due : (due reply : List ℕ) → (reply ≡ due) ⊎ (reply ≡ memory_repl
 told_due due reply (inl is) own = is
 told_due due reply (inr none) own = absurd (own.0 none)
 
-one_told : (h : History) (due r s : List ℕ) (n k : History) → IsTold h due r n → IsTold h due s k → IsOwn r → IsOwn s → (r ≡ s) × (n ≡ k)
+one_told : (h : History) (due r s : List ℕ) (n k : History) → IsTold IsAnswered h due r n → IsTold IsAnswered h due s k → IsOwn r → IsOwn s → (r ≡ s) × (n ≡ k)
 one_told h due r s n k a b own other = (told_due due r a.0 own ∙ sym (told_due due s b.0 other), a.1 ∙ sym b.1)
 
-one_asked : (h : History) (asked : Result Question Denied) (r s : List ℕ) (n k : History) → IsAnsweredBy h asked r n ⊎ ((r ≡ memory_reply) × (n ≡ h))
-    → IsAnsweredBy h asked s k ⊎ ((s ≡ memory_reply) × (k ≡ h)) → IsOwn r → IsOwn s → (r ≡ s) × (n ≡ k)
+one_asked : (h : History) (asked : Result Question Denied) (r s : List ℕ) (n k : History) → IsAnsweredBy IsAnswered h asked r n ⊎ ((r ≡ memory_reply) × (n ≡ h))
+    → IsAnsweredBy IsAnswered h asked s k ⊎ ((s ≡ memory_reply) × (k ≡ h)) → IsOwn r → IsOwn s → (r ≡ s) × (n ≡ k)
 one_asked h asked r s n k (inl a) (inl b) own other = one_answer h asked r s n k a b own other
 one_asked h asked r s n k (inl a) (inr none) own other = absurd (other.0 none.0)
 one_asked h asked r s n k (inr none) b own other = absurd (own.0 none.0)
 
-one_reply : (h : History) (m : Message) (r s : List ℕ) (n k : History) → IsReplied h m r n → IsReplied h m s k → IsOwn r → IsOwn s → (r ≡ s) × (n ≡ k)
+one_reply : (h : History) (m : Message) (r s : List ℕ) (n k : History) → IsReplied IsAnswered h m r n → IsReplied IsAnswered h m s k → IsOwn r → IsOwn s → (r ≡ s) × (n ≡ k)
 one_reply h (messages.Request verb target body) r s n k a b own other = one_asked h (ask_of verb target body) r s n k a b own other
 one_reply h messages.NoLength r s n k a b own other = one_told h (bytes_of replies.NoLength) r s n k a b own other
 one_reply h messages.TooLarge r s n k a b own other = one_told h (bytes_of replies.TooLarge) r s n k a b own other
@@ -67,7 +68,7 @@ one_reply h messages.Failed r s n k a b own other = absurd a
 same_lists : (r s : List ℕ) (rs ss : List (List ℕ)) → r ≡ s → rs ≡ ss → r ∷ rs ≡ s ∷ ss
 same_lists r s rs ss e f = cc
 
-pub one_list : (h : History) (ms : List Message) (rs ss : List (List ℕ)) (next after : History) → AreReplies Alone h ms rs next → AreReplies Alone h ms ss after
+pub one_list : (h : History) (ms : List Message) (rs ss : List (List ℕ)) (next after : History) → AreReplies h ms rs next → AreReplies h ms ss after
     → All IsOwn rs → All IsOwn ss → (rs ≡ ss) × (next ≡ after)
 one_list h [] [] [] next after a b own other = (refl, a ∙ sym b)
 one_list h [] [] (s ∷ ss) next after a b own other = absurd b
@@ -75,10 +76,8 @@ one_list h [] (r ∷ rs) ss next after a b own other = absurd a
 one_list h (m ∷ ms) [] ss next after a b own other = absurd a
 one_list h (m ∷ ms) (r ∷ rs) [] next after a b own other = absurd b
 one_list h (m ∷ ms) (r ∷ rs) (s ∷ ss) next after a b own other =
-    let one =
-    one_reply h m r s a.2.0 b.2.0 (subst (λ (f : History). IsReplied f m r a.2.0) a.1 a.2.1) (subst (λ (f : History). IsReplied f m s b.2.0) b.1 b.2.1)
-    (All-head IsOwn r rs own) (All-head IsOwn s ss other) in
+    let one = one_reply h m r s a.0 b.0 a.1 b.1 (All-head IsOwn r rs own) (All-head IsOwn s ss other) in
     let rest =
-    one_list a.2.0 ms rs ss next after a.2.2 (subst (λ (f : History). AreReplies Alone f ms ss after) (sym one.1) b.2.2) (All-tail IsOwn r rs own)
+    one_list a.0 ms rs ss next after a.2 (subst (λ (from : History). AreReplies from ms ss after) (sym one.1) b.2) (All-tail IsOwn r rs own)
     (All-tail IsOwn s ss other) in
     (same_lists r s rs ss one.0 rest.0, rest.1)

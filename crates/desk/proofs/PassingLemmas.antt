@@ -1,5 +1,5 @@
 -- What passes in the office while an ask is answered.
-use Rattle.std.proofs.Common.{◌≡◌, ℕ, ◌≤◌, Bool, true, false, List, [], ◌∷◌, ◌++◌, map, Option, IsSome, is_some, refl, sym, ◌∙◌, ap, subst, inl, append_assoc, append-nil, arith}
+use Rattle.std.proofs.Common.{◌≡◌, ℕ, ◌≤◌, Bool, true, false, List, [], ◌∷◌, ◌++◌, map, Option, Result, Ok, Err, IsSome, is_some, refl, sym, ◌∙◌, ap, subst, inl, append_assoc, append-nil, arith}
 use Rattle.std.proofs.lemmas.List.{map-append}
 use Rattle.desk.specs.Passing.{Passes, RoseBy}
 use Rattle.devices.specs.Faults.{Rose}
@@ -14,7 +14,8 @@ use Rattle.journal.specs.Moments.{LeavesOnly}
 use Rattle.office.proofs.CountLemmas.{none_published}
 use Rattle.office.specs.Counting.{fault_count}
 use Rattle.office.specs.Stops.{IsLeft, IsLeftBefore, IsLeftBetween}
-use Rattle.office.specs.Edits.{IsRefusedBy, IsTaken}
+use Rattle.office.specs.Edits.{Edits, IsRefusedBy, IsTaken}
+use Rattle.office.specs.declared.offices.Accepted.{Accepted as Done}
 use Rattle.office_inputs.specs.declared.refusals.Refusal.{Refusal}
 use Rattle.office_inputs.specs.declared.refusals.Refusal.TheVariants as refusals
 use Rattle.records.specs.Sheets.{Record}
@@ -109,7 +110,7 @@ module _ {D : Type 0} (g : Ghosts D) where
   }
 
   -- an edit is in force
-  pub passes_taken : (h after : History) (edit : Edit) (n : ℕ) (again : Bool) (old new : D) → IsTaken h edit after n again
+  passes_taken : (h after : History) (edit : Edit) (n : ℕ) (again : Bool) (old new : D) → IsTaken h edit after n again
       → g.faults old ≤ g.faults new
       → (IsSome (g.content old) → LeavesOnly g old new (IsLeftBetween h after)) → is_some (g.content new) ≡ is_some (g.content old)
       → Passes g h after old new
@@ -117,7 +118,7 @@ module _ {D : Type 0} (g : Ghosts D) where
   passes_taken h after edit n false old new is counted leaves told = passes_edit h after edit old new is.2 counted leaves told
 
   -- an edit was refused
-  pub passes_refused : (h after : History) (edit : Edit) (refusal : Refusal) (old new : D) → IsRefusedBy h edit after refusal
+  passes_refused : (h after : History) (edit : Edit) (refusal : Refusal) (old new : D) → IsRefusedBy h edit after refusal
       → g.faults old ≤ g.faults new
       → ((in_doubt : Bool) → refusal ≡ refusals.JournalFault in_doubt → Rose (g.faults old) (g.faults new))
       → (IsSome (g.content old) → LeavesOnly g old new (IsLeftBetween h after)) → is_some (g.content new) ≡ is_some (g.content old)
@@ -141,3 +142,14 @@ module _ {D : Type 0} (g : Ghosts D) where
   passes_refused h after edit refusals.NoMemory old new is counted cause leaves told = passes_none h after old new is counted leaves told
   passes_refused h after edit (refusals.JournalFault in_doubt) old new is counted cause leaves told =
       passes_fault h after is.left old new is.faulted (cause in_doubt refl) leaves told
+
+  -- by what is answered to an edit
+  pub passes_told : (h after : History) (edit : Edit) (told : Result Done Refusal) (old new : D) → Edits h edit after told
+      → g.faults old ≤ g.faults new
+      → ((in_doubt : Bool) → told ≡ Err (refusals.JournalFault in_doubt) → Rose (g.faults old) (g.faults new))
+      → (IsSome (g.content old) → LeavesOnly g old new (IsLeftBetween h after)) → is_some (g.content new) ≡ is_some (g.content old)
+      → Passes g h after old new
+  passes_told h after edit (Ok told) old new is counted cause leaves tells =
+      passes_taken h after edit told.number told.repeated old new is counted leaves tells
+  passes_told h after edit (Err refusal) old new is counted cause leaves tells =
+      passes_refused h after edit refusal old new is counted (λ in_doubt same. cause in_doubt (ap Err same)) leaves tells

@@ -1,6 +1,7 @@
 -- Which bytes are told, and what is known of a day.
 use Rattle.std.specs.Prelude.{◌≡◌, ◌⊎◌, ℕ, List, Option, Some, None, false, ℤ}
-use Rattle.desk.specs.Replies.{fault_reply, memory_reply}
+use Rattle.desk.specs.Replies.{fault_reply}
+use Rattle.desk.specs.Replying.{memory_reply}
 use Rattle.desk.specs.declared.answers.Told.{Told}
 use Rattle.desk.specs.declared.answers.Told.TheVariants as told
 use Rattle.fixed_units.specs.Quantities.{SiteNumber}

@@ -1,11 +1,9 @@
 -- What a session has read and written when it ends.
 use Rattle.std.specs.Prelude.{◌≡◌, ◌⊎◌, ℕ, ◌+◌, ◌≤◌, Bool, true, false, List, [], ◌∷◌, ◌++◌, length}
 use Rattle.std.specs.List.{concat}
-use Rattle.desk.specs.Replies.{AreReplies, Alone}
 use Rattle.desk.specs.declared.sessions.SessionEnd.{SessionEnd}
 use Rattle.desk.specs.declared.sessions.SessionEnd.TheVariants.{End, InputFault, OutputFault, Malformed, Long, NoMemory}
 use Rattle.devices.specs.Sinks.{IsCutShort}
-use Rattle.history.specs.Events.{History}
 use Rattle.wire.specs.Incoming.{IsNeeded, IsUnread}
 use Rattle.wire.specs.Messages.{AreMessages, IsMalformed, is_blank}
 use Rattle.wire.specs.declared.limits.TheConstants.{BLOCK_BYTES, STREAM_BYTES}
@@ -47,13 +45,10 @@ EndsBy OutputFault input replies rest left written =
     ⊎ (IsMalformed rest × IsNeeded rest left × StopsWithin (concat replies) MALFORMED_REPLY.now written)
 EndsBy NoMemory input replies rest left written = (left ≡ input) × (replies ≡ []) × (written ≡ [])
 
--- A session over this input, from one history to another: the messages that it read, one behind another, a reply to each, and how it
--- ended. No more was taken than may be of a stream.
-pub record Serves (h after : History) (end : SessionEnd) (input left written : List ℕ) : Type 0 where
-  pub messages : List Message
-  pub replies : List (List ℕ)
+-- A session over this input ended so, behind these messages, one behind another, and the replies to them. No more was taken than may be
+-- of a stream.
+pub record IsHeard (messages : List Message) (replies : List (List ℕ)) (end : SessionEnd) (input left written : List ℕ) : Type 0 where
   pub rest : List ℕ
   pub reads : AreMessages input messages rest
-  pub answers : AreReplies Alone h messages replies after
   pub ends : EndsBy end input replies rest left written
   pub taken : length input ≤ STREAM_BYTES + length left

@@ -1,5 +1,9 @@
 pub mod Answering
+pub mod Asked
+pub mod Behind
 pub mod Endings
 pub mod Passing
 pub mod Replies
+pub mod Replying
+pub mod Serving
 pub mod Sessions

@@ -1,8 +1,10 @@
 -- What is replied to a message, and what has happened then.
-use Rattle.std.specs.Prelude.{◌≡◌, ◌≢◌, ◌⊎◌, ℕ, ◌+◌, ◌-◌, ◌≤◌, Bool, true, false, List, [], ◌∷◌, ◌++◌, length, take, bytes_eq, Option, Some, None, is_some, Result, Ok, Err, ℤ}
+use Rattle.std.specs.Prelude.{◌≡◌, ◌≢◌, ◌⊎◌, ℕ, ◌+◌, ◌-◌, ◌≤◌, Bool, true, false, List, [], ◌∷◌, ◌++◌, length, take, bytes_eq, Option, Some, None, is_some, ℤ}
 use Rattle.std.specs.List.{flat_map}
 use Rattle.approval.specs.declared.status.Status.{Status}
 use Rattle.depend.specs.Compared.{days_within}
+use Rattle.desk.specs.Replying.{memory_reply}
+use Rattle.desk.specs.Replying as replying
 use Rattle.edits.specs.declared.content.Edit.{Edit}
 use Rattle.fixed_units.specs.Quantities.{SiteNumber}
 use Rattle.history.specs.Accepted.{accepted, stations_at}
@@ -14,14 +16,12 @@ use Rattle.history.specs.Sheets.{Shown, shown_at}
 use Rattle.history.specs.Sheets as shown
 use Rattle.history.specs.Statuses.{status_at}
 use Rattle.history.specs.Verdicts.{Verdict, Repeats, Refuses, Accepts, verdict}
-use Rattle.http_api.specs.Asks.{Question, ask_of, question}
 use Rattle.http_api.specs.Days.{answer_members, status_member, value_members}
 use Rattle.http_api.specs.Replies.{bytes_of, status_by}
 use Rattle.http_api.specs.Stations.{station_text}
 use Rattle.http_api.specs.Tables.{Row, pending_row, table_text, value_row}
 use Rattle.http_api.specs.declared.asks.Ask.{Ask}
 use Rattle.http_api.specs.declared.asks.Ask.TheVariants as asks
-use Rattle.http_api.specs.declared.asks.Denied.{Denied}
 use Rattle.http_api.specs.declared.days.DayAnswer.TheVariants as told
 use Rattle.http_api.specs.declared.replies.Reply.TheVariants as replies
 use Rattle.measurements.specs.Departures.{departure_of}
@@ -32,7 +32,6 @@ use Rattle.station_inputs.specs.Stations.{StationState}
 use Rattle.office_inputs.specs.declared.refusals.Refusal.TheVariants.{JournalFault}
 use Rattle.wire.specs.ReplyHead.{reply_bytes, status_line}
 use Rattle.wire.specs.declared.messages.Message.{Message}
-use Rattle.wire.specs.declared.messages.Message.TheVariants as messages
 use Rattle.wire.specs.declared.replies.Kind.TheVariants.{Csv, Json, Plain}
 
 -- an answer of this body
@@ -123,12 +122,9 @@ reply_to h (asks.Turns count) = turned_reply h (after_turns count h)
 reply_to h asks.Settle = turned_reply h (after_settlement h)
 reply_to h asks.Counts = bytes_of (replies.Counts (length (accepted h.events)) (length (pending_days h.events)))
 
--- the reply of a journal that failed at an edit, and of want of memory
+-- the reply of a journal that failed at an edit
 abbrev pub fault_reply : Bool → List ℕ
 fault_reply in_doubt = bytes_of (replies.Refused (JournalFault in_doubt))
-
-abbrev pub memory_reply : List ℕ
-memory_reply = bytes_of replies.NoMemory
 
 -- the reply is neither that of want of memory nor that of a journal that failed
 abbrev pub IsOwn : List ℕ → Type 0
@@ -168,36 +164,6 @@ IsAnswered h ask reply next =
     ((reply ≡ reply_to h ask) × (next ≡ history_after h ask))
     ⊎ (Fails h ask reply next ⊎ ((reply ≡ memory_reply) × IsLeftBy h ask next))
 
--- the same, by what a request asks
-abbrev pub IsAnsweredBy : History → Result Question Denied → List ℕ → History → Type 0
-IsAnsweredBy h (Ok asked) reply next = (ask : Ask) × (question ask ≡ asked) × IsAnswered h ask reply next
-IsAnsweredBy h (Err denied) reply next = (reply ≡ bytes_of (replies.Denied denied)) × (next ≡ h)
-
--- nothing has happened, and the reply is this one, or that of want of memory
-abbrev pub IsTold : History → List ℕ → List ℕ → History → Type 0
-IsTold h due reply next = ((reply ≡ due) ⊎ (reply ≡ memory_reply)) × (next ≡ h)
-
--- The reply to a message, and what has happened then. Behind a message without a reply nothing is read.
-abbrev pub IsReplied : History → Message → List ℕ → History → Type 0
-IsReplied h (messages.Request verb target body) reply next =
-    IsAnsweredBy h (ask_of verb target body) reply next ⊎ ((reply ≡ memory_reply) × (next ≡ h))
-IsReplied h messages.NoLength reply next = IsTold h (bytes_of replies.NoLength) reply next
-IsReplied h messages.TooLarge reply next = IsTold h (bytes_of replies.TooLarge) reply next
-IsReplied h messages.NoMemory reply next = (reply ≡ memory_reply) × (next ≡ h)
-IsReplied h messages.End reply next = ⊥
-IsReplied h (messages.Malformed at) reply next = ⊥
-IsReplied h messages.Long reply next = ⊥
-IsReplied h messages.Failed reply next = ⊥
-
--- The replies to messages, one to each in order, and what has happened behind them. `Passed` is what may pass in the office between
--- two replies, by others.
-abbrev pub AreReplies : (History → History → Type 0) → History → List Message → List (List ℕ) → History → Type 0
-AreReplies Passed h [] [] after = Passed h after
-AreReplies Passed h [] (reply ∷ replies) after = ⊥
-AreReplies Passed h (message ∷ messages) [] after = ⊥
-AreReplies Passed h (message ∷ messages) (reply ∷ replies) after =
-    (from : History) × Passed h from × ((next : History) × IsReplied from message reply next × AreReplies Passed next messages replies after)
-
--- nothing passes between two replies of an office that nobody else asks
-abbrev pub Alone : History → History → Type 0
-Alone before after = after ≡ before
+-- the replies of an office that nobody else asks, one to each message in order, and what has happened behind them
+abbrev pub AreReplies : History → List Message → List (List ℕ) → History → Type 0
+AreReplies h messages replies after = replying.AreReplies IsAnswered h messages replies after

@@ -1,11 +1,17 @@
 //! What is asked is answered by the office, in texts.
 
-ghost use Rattle.std.specs.Prelude.{◌≡◌, ◌≤◌, ◌<◌, ◌-◌, ◌^◌, ℕ, Bool, Some, length, OnOk, OnErr, IfOk, true, false};
+ghost use Rattle.std.specs.Prelude.{◌≡◌, ◌≤◌, ◌<◌, ◌+◌, ◌-◌, ◌^◌, ℕ, Bool, Some, length, min, OnOk, OnErr, IfOk, true, false};
 ghost use Rattle.desk.specs.Answering.{IsMade, IsRefusedBy, acceptance_or, told_bytes};
+ghost use Rattle.desk.specs.Asked.{IsReading};
 ghost use Rattle.desk.specs.Passing.{Passes};
-ghost use Rattle.desk.specs.Replies.{IsAnswered, IsLeftBy, fault_reply, history_after, memory_reply, reply_to};
+ghost use Rattle.desk.specs.Replies.{IsAnswered, IsLeftBy, fault_reply, history_after, reply_to};
+ghost use Rattle.desk.specs.Replying.{memory_reply};
+ghost use Rattle.edits.specs.declared.content.Edit.{Edit};
+ghost use Rattle.history.specs.Accepted.{accepted};
+ghost use Rattle.history.specs.Events.{History};
 ghost use Rattle.http_api.specs.Replies.{bytes_of};
 ghost use Rattle.http_api.specs.declared.asks.Ask.TheVariants as asks;
+ghost use Rattle.office.specs.Edits.{Edits, asks_disk};
 ghost use Rattle.register.specs.Registered.{NoneOut};
 
 use crate::days::{tell_daily, tell_day, tell_sheet};
@@ -16,8 +22,8 @@ use http_api::replies::constants_are_replies;
 use http_api::{Ask, DayReply, Reply, write_reply};
 use json::Scratch;
 use measurements::station_departure;
-use office::Office;
 use office::laws::an_office_stands_on_its_disk;
+use office::{Accepted, Office};
 use office_inputs::{Refusal, Station};
 use std::alloc::Global;
 use std::mem::swap;
@@ -89,7 +95,7 @@ impl Texts {
     }
 
     /// Makes the reply to an edit that will be accepted under a number, unless it stands ready since an earlier one was refused.
-    fn prepare(&mut self, number: u64) -> Result<(), NoMemory>
+    pub(crate) fn prepare(&mut self, number: u64) -> Result<(), NoMemory>
         ensures { OnOk result (self.new.accepts ≡ Some number) }
     {
         if let Some(ready) = self.accepts {
@@ -151,14 +157,29 @@ pub(crate) fn answer<D: Disk>(office: &mut Office<D>, ask: Ask, texts: &mut Text
     an_office_stands_on_its_disk(office);
     match ask {
         Ask::Edit(edit) => take_edit(office, edit, texts),
-        Ask::Station(site) => told_by(tell_station(office, site, texts)),
-        Ask::DayOf(site, day) => told_by(tell_day(office, site, day, texts)),
-        Ask::SheetOf(site, day) => told_by(tell_sheet(office, site, day, texts)),
-        Ask::Daily(site, from, to) => told_by(tell_daily(office, site, from, to, texts)),
-        Ask::Measurement(site, number) => told_by(tell_measurement(office, site, number, texts)),
         Ask::Turns(count) => told_by(take_turns(office, count, texts)),
         Ask::Settle => told_by(settle(office, texts)),
-        Ask::Counts => told_by(tell_counts(office, texts)),
+        reading => told_by(tell(office, reading, texts)),
+    }
+}
+
+/// Tells what an ask that only reads asks for; for no turns, how many days are pending.
+pub(crate) fn tell<D: Disk>(office: &Office<D>, ask: Ask, texts: &mut Texts) -> Result<(), NoMemory>
+    requires { IsReading ask }
+    ensures { OnOk result (texts.new.reply ≡ reply_to office.now.register.history ask) }
+{
+    match ask {
+        Ask::Station(site) => tell_station(office, site, texts),
+        Ask::DayOf(site, day) => tell_day(office, site, day, texts),
+        Ask::SheetOf(site, day) => tell_sheet(office, site, day, texts),
+        Ask::Daily(site, from, to) => tell_daily(office, site, from, to, texts),
+        Ask::Measurement(site, number) => tell_measurement(office, site, number, texts),
+        Ask::Counts => tell_counts(office, texts),
+        Ask::Turns(_) => texts.make(&Reply::Turned {
+            pending: office.pending(),
+            published: 0,
+        }),
+        Ask::Edit(_) | Ask::Settle => unreachable!(),
     }
 }
 
@@ -176,7 +197,16 @@ fn take_edit<D: Disk>(office: &mut Office<D>, edit: Edit, texts: &mut Texts) -> 
     if texts.prepare(office.edits().saturating_add(1)).is_err() {
         return Told::NoMemory;
     }
-    match office.take(edit) {
+    tell_edit(office.take(edit), texts)
+}
+
+/// Tells what became of an edit. Where it was accepted, the reply to that stands ready.
+pub(crate) fn tell_edit(told: Result<Accepted, Refusal>, texts: &mut Texts) -> Told
+    ensures answered { (h next : History) (edit : Edit) → Edits h edit next told → texts.old.accepts ≡ Some (min (length (accepted h.events) + 1) (2 ^ 64 - 1))
+        → IsAnswered h (asks.Edit edit) (told_bytes result texts.new.reply) next }
+    ensures memory { (number : ℕ) → texts.old.accepts ≡ Some number → told_bytes result texts.new.reply ≡ memory_reply → asks_disk told ≡ false }
+{
+    match told {
         Ok(told) if told.repeated => texts.tell(&Reply::Edit {
             number: told.number,
             repeated: true,
@@ -281,7 +311,7 @@ fn settle<D: Disk>(office: &mut Office<D>, texts: &mut Texts) -> Result<(), NoMe
 }
 
 /// Which reply is told, where one was made or was not for want of memory.
-fn told_by(made: Result<(), NoMemory>) -> Told
+pub(crate) fn told_by(made: Result<(), NoMemory>) -> Told
     ensures made { OnOk made (result ≡ Told.Made) }
     ensures not { OnErr made (result ≡ Told.NoMemory) }
 {

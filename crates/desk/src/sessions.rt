@@ -1,21 +1,22 @@
-//! A session: messages are read from a source one after another, and each is replied to on a sink.
+//! A session: messages are read from a source one after another, and each is replied to on a sink. One body serves an office of one's own and
+//! one behind a lock.
 
 ghost use Rattle.std.specs.Prelude.{◌≡◌, ◌≢◌, ◌<◌, ◌≤◌, ℕ, List, Option, None, Some, IfSome, IfOk, IfErr, OnErr, if◌then◌else◌};
 ghost use Rattle.desk.specs.Answering.{told_bytes};
 ghost use Rattle.desk.specs.Endings.{is_malformed};
 ghost use Rattle.desk.specs.Passing.{Passes};
-ghost use Rattle.desk.specs.Replies.{IsReplied, memory_reply};
-ghost use Rattle.desk.specs.Sessions.{GoesOn, HasCause, IsEndOf, IsFinished, IsServed, IsUnderWay};
+ghost use Rattle.desk.specs.Replying.{IsReplied};
+ghost use Rattle.desk.specs.Sessions.{GoesOn, HasCause, IsEndOf, IsFinished, IsServed, IsServedBy, IsUnderWay};
 ghost use Rattle.devices.specs.Faults.{Rose};
 ghost use Rattle.devices.specs.Sinks.{AreWritten};
-ghost use Rattle.history.specs.Events.{History};
 ghost use Rattle.register.specs.Registered.{NoneOut};
 ghost use Rattle.wire.specs.Incoming.{taken};
 ghost use Rattle.wire.specs.declared.limits.TheConstants.{STREAM_BYTES};
 ghost use Rattle.wire.specs.declared.messages.Message.TheVariants as messages;
 ghost use Rattle.wire.specs.declared.replies.TheConstants.{MALFORMED_REPLY};
 
-use crate::answers::{Texts, Told, answer};
+use crate::answers::{Texts, Told};
+use crate::asked::Asked;
 use devices::{Disk, Sink, Source, put_all};
 use http_api::{Reply, Router};
 use office::Office;
@@ -40,10 +41,10 @@ pub enum SessionEnd {
     NoMemory,
 }
 
-/// Serves the messages of a source until it ends. What is written is what the office replies to what is read. Each edit is in the
-/// journal before it is replied to, and a stop at any moment leaves the journal of the edits that were accepted up to some point of the
-/// history, or of these and one more.
-pub fn session<D: Disk, S: Source, K: Sink>(
+/// Serves the messages of a source over an office that nobody else asks, until it ends. What is written is what the office replies to what is
+/// read. Each edit is in the journal before it is replied to, and a stop at any moment leaves the journal of the edits that were accepted up to
+/// some point of the history, or of these and one more.
+pub fn session_alone<D: Disk, S: Source, K: Sink>(
     alloc: Global,
     office: &mut Office<D>,
     source: &mut S,
@@ -60,6 +61,24 @@ pub fn session<D: Disk, S: Source, K: Sink>(
 {
     // this runs nothing: it tells the proof what passes until the first message
     stands_still(office);
+    serve(alloc, office, source, sink)
+}
+
+/// Serves the messages of a source until it ends.
+pub(crate) fn serve<A: Asked, S: Source, K: Sink>(
+    alloc: Global,
+    asked: &mut A,
+    source: &mut S,
+    sink: &mut K,
+) -> SessionEnd
+    requires { A.ready asked.old }
+    ensures served { IsServedBy A.answers asked.old asked.new result (S.left source.old) (S.left source.new) (K.written sink.old) (K.written sink.new) }
+    ensures ready { A.ready asked.new }
+    ensures input_counted { S.faults source.old ≤ S.faults source.new }
+    ensures output_counted { K.faults sink.old ≤ K.faults sink.new }
+    ensures cause { HasCause result (S.faults source.old) (S.faults source.new) (K.faults sink.old) (K.faults sink.new) }
+    ensures unserved { result ≡ SessionEnd.NoMemory → (source.new ≡ source.old) × (sink.new ≡ sink.old) × (asked.new ≡ asked.old) }
+{
     let Ok(router) = Router::new(alloc) else {
         return SessionEnd::NoMemory;
     };
@@ -72,7 +91,7 @@ pub fn session<D: Disk, S: Source, K: Sink>(
     loop {
         let end = serve_next(
             alloc,
-            office,
+            asked,
             &router,
             &mut incoming,
             &mut texts,
@@ -86,32 +105,30 @@ pub fn session<D: Disk, S: Source, K: Sink>(
 }
 
 /// Serves the next message; the end of the session, where that is one.
-fn serve_next<D: Disk, S: Source, K: Sink>(
+fn serve_next<A: Asked, S: Source, K: Sink>(
     alloc: Global,
-    office: &mut Office<D>,
+    asked: &mut A,
     router: &Router,
     incoming: &mut Incoming,
     texts: &mut Texts,
     source: &mut S,
     sink: &mut K,
 ) -> Option<SessionEnd>
-    requires claims { NoneOut office.old.register }
+    requires ready { A.ready asked.old }
     requires limit { taken incoming.old ≤ STREAM_BYTES }
-    ensures goes_on { (h : History) (left written : Option (List ℕ))
-        → IsUnderWay h office.old.register.history incoming.old left (S.left source.old) written (K.written sink.old)
-        → GoesOn h office.new.register.history result incoming.new left (S.left source.new) written (K.written sink.new) }
-    ensures passed { Passes D.Disk office.old.register.history office.new.register.history office.old.disk office.new.disk }
-    ensures claims { NoneOut office.new.register }
+    ensures goes_on { (x : A) (left written : Option (List ℕ))
+        → IsUnderWay A.answers x asked.old incoming.old left (S.left source.old) written (K.written sink.old)
+        → GoesOn A.answers x asked.new result incoming.new left (S.left source.new) written (K.written sink.new) }
+    ensures ready { A.ready asked.new }
     ensures limit { taken incoming.new ≤ STREAM_BYTES }
     ensures proceeds { result ≡ None → incoming.old.offset < incoming.new.offset }
-    ensures disk_counted { D.faults office.old.disk ≤ D.faults office.new.disk }
     ensures input_counted { S.faults source.old ≤ S.faults source.new }
     ensures output_counted { K.faults sink.old ≤ K.faults sink.new }
     ensures cause { IfSome result (λ end. HasCause end (S.faults source.old) (S.faults source.new) (K.faults sink.old) (K.faults sink.new)) }
     ensures begun { result ≢ Some SessionEnd.NoMemory }
 {
     let message = incoming.next(alloc, source);
-    match reply_on(alloc, office, router, message, texts) {
+    match reply_on(alloc, asked, router, message, texts) {
         Ok(told) => end_unless(put_all(sink, texts.bytes(told))),
         Err(end) => Some(finish(end, sink)),
     }
@@ -155,31 +172,25 @@ fn end_malformed<K: Sink>(at: u64, sink: &mut K) -> SessionEnd
     }
 }
 
-/// Replies to a message, in the texts; the end of the session, where the message is none that is replied to. Where the reply is that
-/// of want of memory, the disk is as it was.
-fn reply_on<D: Disk>(
+/// Replies to a message, in the texts; the end of the session, where the message is none that is replied to.
+fn reply_on<A: Asked>(
     alloc: Global,
-    office: &mut Office<D>,
+    asked: &mut A,
     router: &Router,
     message: Message,
     texts: &mut Texts,
 ) -> Result<Told, SessionEnd>
-    requires { NoneOut office.old.register }
-    ensures replied { IfOk result (λ told. IsReplied office.old.register.history message (told_bytes told texts.new.reply) office.new.register.history) }
+    requires { A.ready asked.old }
+    ensures replied { IfOk result (λ told. IsReplied A.answers asked.old message (told_bytes told texts.new.reply) asked.new) }
     ensures ended { IfErr result (IsEndOf message) }
-    ensures kept { OnErr result (office.new.register.history ≡ office.old.register.history) }
-    ensures unwritten { IfOk result (λ told. told_bytes told texts.new.reply ≡ memory_reply → office.new.disk ≡ office.old.disk) }
-    ensures passed { Passes D.Disk office.old.register.history office.new.register.history office.old.disk office.new.disk }
-    ensures claims { NoneOut office.new.register }
-    ensures counted { D.faults office.old.disk ≤ D.faults office.new.disk }
+    ensures kept { OnErr result (asked.new ≡ asked.old) }
+    ensures ready { A.ready asked.new }
 {
-    // this runs nothing: it tells the proof what passes where the office is not asked
-    stands_still(office);
     match message {
         Message::Request { verb, target, body } => {
             let told = reply_to(
                 alloc,
-                office,
+                asked,
                 router,
                 verb,
                 target.as_slice(),
@@ -198,27 +209,22 @@ fn reply_on<D: Disk>(
     }
 }
 
-/// Answers a request, in the texts. Where the reply is that of want of memory, the disk is as it was.
-fn reply_to<D: Disk>(
+/// Answers a request, in the texts.
+fn reply_to<A: Asked>(
     alloc: Global,
-    office: &mut Office<D>,
+    asked: &mut A,
     router: &Router,
     verb: Verb,
     target: &[u8],
     body: &[u8],
     texts: &mut Texts,
 ) -> Told
-    requires { NoneOut office.old.register }
-    ensures replied { IsReplied office.old.register.history (messages.Request verb target.now body.now) (told_bytes result texts.new.reply) office.new.register.history }
-    ensures unwritten { told_bytes result texts.new.reply ≡ memory_reply → office.new.disk ≡ office.old.disk }
-    ensures passed { Passes D.Disk office.old.register.history office.new.register.history office.old.disk office.new.disk }
-    ensures claims { NoneOut office.new.register }
-    ensures counted { D.faults office.old.disk ≤ D.faults office.new.disk }
+    requires { A.ready asked.old }
+    ensures replied { IsReplied A.answers asked.old (messages.Request verb target.now body.now) (told_bytes result texts.new.reply) asked.new }
+    ensures ready { A.ready asked.new }
 {
-    // this runs nothing: it tells the proof what passes where the office is not asked
-    stands_still(office);
     match router.read(alloc, verb, target, body, &mut texts.scratch) {
-        Ok(ask) => answer(office, ask, texts),
+        Ok(ask) => asked.answer(ask, texts),
         Err(denied) => texts.tell(&Reply::Denied(denied)),
     }
 }

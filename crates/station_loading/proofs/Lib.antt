@@ -2,5 +2,4 @@ pub mod FaultLemmas
 pub mod InputLemmas
 pub mod LineLemmas
 pub mod LoadedLemmas
-pub mod PassingLemmas
 pub mod TellingLemmas

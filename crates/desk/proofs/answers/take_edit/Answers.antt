@@ -1,11 +1,8 @@
-use Rattle.std.proofs.Common.{◌≡◌, Err, Some, ap, false, rules}
-use Rattle.desk.specs.Answering.{told_bytes}
-use Rattle.desk.specs.declared.answers.Told.{Told}
-use Rattle.desk.proofs.AnswerLemmas.{made_told, refused_by, takes_none, unwritten}
-use Rattle.desk.proofs.PassingLemmas.{passes_published, passes_refused, passes_taken, publishes_none}
+use Rattle.std.proofs.Common.{◌≡◌, ◌+◌, ◌-◌, ◌^◌, Some, length, min, ◌∙◌, ap, rules}
+use Rattle.desk.proofs.AnswerLemmas.{edits_none}
+use Rattle.desk.proofs.PassingLemmas.{passes_published, passes_told, publishes_none}
 use Rattle.desk.proofs.answers.take_edit.Goals as goal
-use Rattle.http_api.specs.Replies.{bytes_of}
-use Rattle.http_api.specs.declared.replies.Reply.TheVariants as replies
+use Rattle.history.specs.Accepted.{accepted}
 
 -- there was no memory for the reply, and the office was not asked
 pub returns-then-is_err-clause-passed : goal.returns-then-is_err-clause-passed
@@ -14,33 +11,19 @@ returns-then-is_err-clause-passed g c =
     let h = c.args.office.now.register.history in
     passes_published g.D.Disk h h c.args.office.now.disk (only c.args.office.now.disk) c.an_office_stands_on_its_disk.ensures.images (publishes_none h)
 
-pub returns-in-Ok-clause-passed : goal.returns-in-Ok-clause-passed
-returns-in-Ok-clause-passed g c =
-    passes_taken g.D.Disk c.args.office.now.register.history c.take.new.self.register.history c.args.edit c.in-Ok.told.number c.in-Ok.told.repeated
-    c.args.office.now.disk c.take.new.self.disk c.in-Ok.ensures.edited c.in-Ok.ensures.counted c.in-Ok.ensures.any_moment c.in-Ok.ensures.told
-
-pub returns-in-Err-clause-answered : goal.returns-in-Err-clause-answered
-returns-in-Err-clause-answered g c =
-    refused_by c.args.office.now.register.history c.args.edit (told_bytes c.refuse.result c.refuse.new.self.reply) c.take.new.self.register.history
-    c.in-Err.refusal c.in-Err.ensures.edited c.refuse.ensures.refused
-    (λ in_doubt is. ap (λ (told : Told). told_bytes told c.refuse.new.self.reply) (c.refuse.ensures.fault in_doubt is))
-
-pub returns-in-Err-clause-unwritten : goal.returns-in-Err-clause-unwritten
-returns-in-Err-clause-unwritten g c =
-    unwritten c.in-Err.refusal c.refuse.result c.refuse.new.self.reply c.args.office.now.disk c.take.new.self.disk c.refuse.ensures.fault c.in-Err.ensures.disk
-
-pub returns-in-Err-clause-passed : goal.returns-in-Err-clause-passed
-returns-in-Err-clause-passed g c =
-    passes_refused g.D.Disk c.args.office.now.register.history c.take.new.self.register.history c.args.edit c.in-Err.refusal
-    c.args.office.now.disk c.take.new.self.disk c.in-Err.ensures.edited c.in-Err.ensures.counted
-    (λ in_doubt is. c.in-Err.ensures.cause in_doubt (ap Err is)) c.in-Err.ensures.any_moment c.in-Err.ensures.told
-
-pub returns-in-Ok-2-clause-unwritten : goal.returns-in-Ok-2-clause-unwritten
-returns-in-Ok-2-clause-unwritten g c =
+pub returns-clause-answered : goal.returns-clause-answered
+returns-clause-answered g c =
     let ready : c.prepare.new.self.accepts ≡ Some c.saturating_add.result = search rules in
-    let made : c.accept.new.self.reply ≡ bytes_of (replies.Edit c.saturating_add.result false) = c.accept.ensures c.saturating_add.result ready in
-    made_told c.made_for.result c.accept.new.self.reply c.saturating_add.result false c.args.office.now.disk c.take.new.self.disk c.made_for.ensures.made made
+    let number : c.saturating_add.result ≡ min (length (accepted c.args.office.now.register.history.events) + 1) (2 ^ 64 - 1) =
+    rw c.edits.ensures at c.saturating_add.ensures in
+    c.tell_edit.ensures.answered c.args.office.now.register.history c.take.new.self.register.history c.args.edit c.take.ensures.edited
+    (ready ∙ ap Some number)
 
-pub returns-in-Ok-2-clause-claims : goal.returns-in-Ok-2-clause-claims
-returns-in-Ok-2-clause-claims g c =
-    takes_none c.args.office.now.register c.take.new.self.register c.args.edit c.in-Ok-2.told.repeated c.in-Ok-2.ensures.claims c.requires.claims
+pub returns-clause-passed : goal.returns-clause-passed
+returns-clause-passed g c =
+    passes_told g.D.Disk c.args.office.now.register.history c.take.new.self.register.history c.args.edit c.take.result
+    c.args.office.now.disk c.take.new.self.disk c.take.ensures.edited c.take.ensures.counted c.take.ensures.cause c.take.ensures.any_moment
+    c.take.ensures.told
+
+pub returns-clause-claims : goal.returns-clause-claims
+returns-clause-claims g c = edits_none c.args.office.now.register c.take.new.self.register c.args.edit c.take.result c.take.ensures.claims c.requires.claims

@@ -1,4 +1,4 @@
-use Rattle.station_loading.proofs.PassingLemmas.{passes_told}
+use Rattle.desk.proofs.PassingLemmas.{passes_told}
 use Rattle.station_loading.proofs.loading.add_station.Goals as goal
 
 pub returns-clause-passed : goal.returns-clause-passed

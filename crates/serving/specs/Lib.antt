@@ -1,0 +1,4 @@
+pub mod Connections
+pub mod Crews
+pub mod Serving
+pub mod Taking

@@ -1,0 +1,11 @@
+//! Connections of a shared office, served in threads beside workers.
+#![tactic(auto)]
+
+mod accepting;
+pub mod connections;
+pub mod crews;
+mod sending;
+mod taking;
+pub mod whole;
+
+pub use whole::{ServeEnd, serve_all};

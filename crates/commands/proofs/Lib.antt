@@ -1,5 +1,12 @@
+pub mod BatchLemmas
+pub mod BesideLemmas
+pub mod Lawful
+pub mod LoadingLemmas
 pub mod MakingLemmas
+pub mod OpeningLemmas
 pub mod PlaceLemmas
 pub mod ReopenLemmas
+pub mod RunLemmas
 pub mod ServingLemmas
-pub mod TopLemmas
+pub mod SharingLemmas
+pub mod TryingLemmas

@@ -1,16 +1,13 @@
 -- How a disk is taken out of a cabinet and kept again.
-use Rattle.std.proofs.Common.{◌≡◌, ◌⊎◌, ℕ, ◌<◌, ◌≤◌, Bool, false, if◌then◌else◌, List, Option, Some, None, IfSome, IsSomeAnd, refl, sym, ◌∙◌, ap, subst, inl, inr, ⊎_elim, arith}
+use Rattle.std.proofs.Common.{◌≡◌, ℕ, ◌<◌, ◌≤◌, Bool, false, if◌then◌else◌, List, Option, Some, None, IfSome, IsSomeAnd, sym, ◌∙◌, ap, subst, inl, inr, ⊎_elim, arith}
 use Rattle.std.proofs.lemmas.Bool.{lt-ltb}
 use Rattle.devices.specs.declared.disks.Disk.{Ghosts}
-use Rattle.devices.specs.Cabinets.{Place, Free, Kept, Out, OthersStay, AllStay, IsSameDisk, IsGiven, IsOpened, IsKept, IsCounted}
+use Rattle.devices.specs.Cabinets.{Place, Free, Kept, Out, OthersStay, IsSameDisk, IsGiven, IsOpened, IsKept, IsCounted}
 use Rattle.devices.specs.Failures.{one_more}
 use Rattle.devices.specs.Faults.{Rose}
 use Rattle.devices.specs.declared.cabinets.Opened.TheVariants as opens
 use Rattle.journal.specs.Moments.{LeavesOnly}
-use Rattle.command_words.specs.Words.{Asked}
-use Rattle.commands.specs.Places.{HasKept, IsCountedUnder, journal_of}
-use Rattle.commands.specs.declared.runs.RunEnd.{RunEnd}
-use Rattle.commands.specs.declared.runs.RunEnd.TheVariants.{DiskFault}
+use Rattle.commands.specs.Places.{HasKept, IsCountedUnder}
 
 -- a disk that was given leaves its place
 pub taken_out : {D : Type 0} (g : Ghosts D)
@@ -58,48 +55,33 @@ leaves_kept g held disk left P Q given leaves wider = record {
 }
 
 -- a disk that was given and is kept again is counted
-pub counts_kept : {D : Type 0} (g : Ghosts D) (end : RunEnd)
+pub counts_kept : {D : Type 0} (g : Ghosts D) (failed : Type 0)
     (name : List ℕ) (make : Bool) (p0 p1 p2 : Option (List ℕ → Place D)) (disk left : D) (c0 c1 c2 : ℕ)
     → IsOpened g name make p0 p1 (opens.Disk disk) → IsKept name left p1 p2 → c1 ≡ c0 → IsCounted (g.faults left) c1 c2
-    → IsCountedUnder g end name p0 p2 c0 c2
-counts_kept g end name make None p1 p2 disk left c0 c1 c2 opened kept same count = tt
-counts_kept g end name make (Some b) None p2 disk left c0 c1 c2 opened kept same count = absurd opened
-counts_kept g end name make (Some b) (Some m) None disk left c0 c1 c2 opened kept same count = absurd kept
-counts_kept {D} g end name make (Some b) (Some m) (Some a) disk left c0 c1 c2 opened kept same count =
+    → IsCountedUnder g name failed (record { places = p0; faults = c0 }) (record { places = p2; faults = c2 })
+counts_kept g failed name make None p1 p2 disk left c0 c1 c2 opened kept same count = tt
+counts_kept g failed name make (Some b) None p2 disk left c0 c1 c2 opened kept same count = absurd opened
+counts_kept g failed name make (Some b) (Some m) None disk left c0 c1 c2 opened kept same count = absurd kept
+counts_kept {D} g failed name make (Some b) (Some m) (Some a) disk left c0 c1 c2 opened kept same count =
     inl (subst (λ (place : Place D). HasKept (λ disk. IsCounted (g.faults disk) c0 c2) place) (sym kept.0)
     (subst (λ (c : ℕ). IsCounted (g.faults left) c c2) same count))
 
 -- none is, where no disk was given
-pub counts_absent : {D : Type 0} (g : Ghosts D) (end : RunEnd)
+pub counts_absent : {D : Type 0} (g : Ghosts D) (failed : Type 0)
     (name : List ℕ) (make : Bool) (p0 p2 : Option (List ℕ → Place D)) (c0 c2 : ℕ)
-    → IsOpened g name make p0 p2 opens.Absent → (c2 ≡ c0) ⊎ (end ≡ DiskFault) → IsCountedUnder g end name p0 p2 c0 c2
-counts_absent g end name make None p2 c0 c2 opened cause = tt
-counts_absent g end name make (Some b) None c0 c2 opened cause = absurd opened
-counts_absent g end name make (Some b) (Some a) c0 c2 opened cause = inr (opened.2 name, cause)
+    → IsOpened g name make p0 p2 opens.Absent → c2 ≡ c0
+    → IsCountedUnder g name failed (record { places = p0; faults = c0 }) (record { places = p2; faults = c2 })
+counts_absent g failed name make None p2 c0 c2 opened same = tt
+counts_absent g failed name make (Some b) None c0 c2 opened same = absurd opened
+counts_absent g failed name make (Some b) (Some a) c0 c2 opened same = inr (opened.2 name, inl same)
 
-pub counts_failed : {D : Type 0} (g : Ghosts D)
+pub counts_failed : {D : Type 0} (g : Ghosts D) (failed : Type 0)
     (name : List ℕ) (make : Bool) (p0 p2 : Option (List ℕ → Place D)) (c0 c2 : ℕ)
-    → IsOpened g name make p0 p2 opens.Failed → IsCountedUnder g DiskFault name p0 p2 c0 c2
-counts_failed g name make None p2 c0 c2 opened = tt
-counts_failed g name make (Some b) None c0 c2 opened = absurd opened
-counts_failed g name make (Some b) (Some a) c0 c2 opened = inr (opened name, inr refl)
-
-pub counts_nothing : {D : Type 0} (g : Ghosts D) (end : RunEnd) (name : List ℕ) (places : Option (List ℕ → Place D)) (count : ℕ)
-    → IsCountedUnder g end name places places count count
-counts_nothing g end name None count = tt
-counts_nothing g end name (Some b) count = inr (refl, inl refl)
-
--- what is counted of the journal that a command names, is of that of what is asked
-pub counted_under : {D : Type 0} (g : Ghosts D) (end : RunEnd) (one other : Asked) (name : List ℕ) (p0 p2 : Option (List ℕ → Place D)) (c0 c2 : ℕ)
-    → one ≡ other → journal_of other ≡ Some name → IfSome (journal_of one) (λ n. IsCountedUnder g end n p0 p2 c0 c2)
-    → IsCountedUnder g end name p0 p2 c0 c2
-counted_under g end one other name p0 p2 c0 c2 same names counted =
-    subst (λ (o : Option (List ℕ)). IfSome o (λ n. IsCountedUnder g end n p0 p2 c0 c2)) (ap journal_of same ∙ names) counted
-
--- where nothing has changed
-pub all_stay : {D : Type 0} (name : List ℕ) (b a : List ℕ → Place D) (P : Place D → Place D → Type 0)
-    → AllStay b a → P (b name) (b name) → P (b name) (a name) × OthersStay name b a
-all_stay {D} name b a P stay same = (subst (λ (p : Place D). P (b name) p) (sym (stay name)) same, λ other ne. stay other)
+    → IsOpened g name make p0 p2 opens.Failed → failed
+    → IsCountedUnder g name failed (record { places = p0; faults = c0 }) (record { places = p2; faults = c2 })
+counts_failed g failed name make None p2 c0 c2 opened is = tt
+counts_failed g failed name make (Some b) None c0 c2 opened is = absurd opened
+counts_failed g failed name make (Some b) (Some a) c0 c2 opened is = inr (opened name, inr is)
 
 -- a disk with a fault is one fault of the cabinet
 pub rose_kept : (f f' c0 c1 c2 : ℕ) → f ≡ 0 → Rose f f' → c0 ≤ c1 → IsCounted f' c1 c2 → Rose c0 c2

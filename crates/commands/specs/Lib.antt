@@ -1,7 +1,13 @@
+pub mod Batch
+pub mod Beside
+pub mod Loading
 pub mod Making
+pub mod Opening
 pub mod Places
-pub mod RunEnds
+pub mod Ready
+pub mod Runs
 pub mod Serving
+pub mod Sharing
 pub mod Statuses
-pub mod Top
 pub mod Trying
+pub mod Worlds

@@ -1,9 +1,16 @@
-//! The commands of the program: a journal is made, or the messages of an input are served over one, or a document's stations are added; or
-//! the trial of a number is run.
+//! The commands of the program: a journal is made, or the messages of an input or of connections are served over one, or a document's stations
+//! are added; or the trial of a number is run.
 #![tactic(auto)]
 
+mod batch;
+mod beside;
+mod connections;
 pub mod endings;
-mod runs;
+pub mod laws;
+mod loading;
+mod making;
+mod opening;
+mod sharing;
 pub mod top;
 mod trying;
 

@@ -4,6 +4,7 @@ ghost use Rattle.std.specs.Prelude.{◌≡◌};
 ghost use Rattle.devices.specs.Faults.{Rose};
 ghost use Rattle.commands.specs.Trying.{IsTried};
 
+use crate::endings::Ending;
 use devices::{Sink, put_all};
 use std::alloc::Global;
 use trial::run_trial;
@@ -17,6 +18,21 @@ pub enum TrialEnd {
     OutputFault,
     /// There was no memory for the trial.
     NoMemory,
+}
+
+impl From<TrialEnd> for Ending {
+    ghost use Rattle.std.specs.Prelude.{◌≡◌};
+    ghost use Rattle.commands.specs.Trying.{trial_ending};
+
+    ghost from_gives = { λ end ending. ending ≡ trial_ending end };
+
+    fn from(end: TrialEnd) -> Ending {
+        match end {
+            TrialEnd::Done => Ending::Done,
+            TrialEnd::OutputFault => Ending::OutputFault,
+            TrialEnd::NoMemory => Ending::NoMemory,
+        }
+    }
 }
 
 /// Runs the trial of a number, and writes its text. Nothing is written before the whole text is there.

@@ -8,6 +8,9 @@ use crate::texts::{At, push_bytes, push_shown, push_text};
 use devices::MemoryCabinet;
 use fixed_units::{NoMemory, Text};
 use std::alloc::Global;
+use std::sync::Wait;
+use std::thread::Threads;
+use std::time::Clock;
 
 /// How the runs of a file ended.
 #[derive(Clone, Copy)]
@@ -43,13 +46,18 @@ impl Room {
 }
 
 /// Plays each row of a file.
-pub fn play_cases<'a>(alloc: Global, file: &'a str, room: &mut Room) -> Ended<'a> {
+pub fn play_cases<'a, R: Threads + Wait + Clock + Copy + Drop + Send + 'static>(
+    rt: R,
+    alloc: Global,
+    file: &'a str,
+    room: &mut Room,
+) -> Ended<'a> {
     let flawed = flawed_line(file);
     if !flawed.is_empty() {
         return Ended::Otherwise(flawed, "a line is");
     }
     for row in file.split("\n==").skip(1) {
-        match play_case(alloc, file, row, room) {
+        match play_case(rt, alloc, file, row, room) {
             Ok("") => {}
             Ok(what) => return Ended::Otherwise(row, what),
             Err(NoMemory) => return Ended::NoMemory,
@@ -59,7 +67,8 @@ pub fn play_cases<'a>(alloc: Global, file: &'a str, room: &mut Room) -> Ended<'a
 }
 
 /// What of a row is not as due; an empty text where all is.
-fn play_case(
+fn play_case<R: Threads + Wait + Clock + Copy + Drop + Send + 'static>(
+    rt: R,
     alloc: Global,
     file: &str,
     row: &str,
@@ -70,7 +79,7 @@ fn play_case(
         return Ok(flaw);
     }
     let mut cabinet = cabinet_of(alloc, file, row)?;
-    let what = play_runs(alloc, file, row, &mut cabinet, room)?;
+    let what = play_runs(rt, alloc, file, row, &mut cabinet, room)?;
     if what.is_empty() {
         judge_cabinet(file, row, &cabinet, room)
     } else {
@@ -101,7 +110,8 @@ fn fails(row: &str) -> bool {
 }
 
 /// What of the runs over a cabinet is not as due.
-fn play_runs(
+fn play_runs<R: Threads + Wait + Clock + Copy + Drop + Send + 'static>(
+    rt: R,
     alloc: Global,
     file: &str,
     row: &str,
@@ -109,7 +119,7 @@ fn play_runs(
     room: &mut Room,
 ) -> Result<&'static str, NoMemory> {
     for run in row.split("\nrun").skip(1) {
-        let what = play_run(alloc, file, run, cabinet, room)?;
+        let what = play_run(rt, alloc, file, run, cabinet, room)?;
         if !what.is_empty() {
             return Ok(what);
         }
@@ -118,14 +128,15 @@ fn play_runs(
     Ok("")
 }
 
-fn play_run(
+fn play_run<R: Threads + Wait + Clock + Copy + Drop + Send + 'static>(
+    rt: R,
     alloc: Global,
     file: &str,
     run: &str,
     cabinet: &mut MemoryCabinet,
     room: &mut Room,
 ) -> Result<&'static str, NoMemory> {
-    let ran = ran_over(alloc, file, run, cabinet, &mut room.body)?;
+    let ran = ran_over(rt, alloc, file, run, cabinet, &mut room.body)?;
     judge(file, run, &ran, room)
 }
 

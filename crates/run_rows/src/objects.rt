@@ -6,9 +6,14 @@ use crate::rows::told;
 use crate::streams::{Side, push_stream};
 use crate::texts::push_bytes;
 use commands::run_office;
-use devices::{MemoryCabinet, MemoryDisk, MemorySink, MemorySource};
+use devices::{
+    MemoryCabinet, MemoryDisk, MemoryDoors, MemorySink, MemorySource, OpenGate, ThreadSpawner,
+};
 use fixed_units::{NoMemory, Text};
 use std::alloc::Global;
+use std::sync::Wait;
+use std::thread::Threads;
+use std::time::Clock;
 
 /// What a run answered, wrote and told, and how often it asked for input.
 #[derive(Drop)]
@@ -70,7 +75,8 @@ fn numbers(alloc: Global, line: &str) -> Result<Vec<u64>, NoMemory> {
 }
 
 /// A run over a cabinet.
-pub fn ran_over(
+pub fn ran_over<R: Threads + Wait + Clock + Copy + Drop + Send + 'static>(
+    rt: R,
     alloc: Global,
     file: &str,
     run: &str,
@@ -79,10 +85,11 @@ pub fn ran_over(
 ) -> Result<Ran, NoMemory> {
     let words = words_of(alloc, run)?;
     let mut source = source_of(alloc, file, run, body)?;
-    run_with(alloc, run, &words, &mut source, cabinet)
+    run_with(rt, alloc, run, &words, &mut source, cabinet)
 }
 
-fn run_with(
+fn run_with<R: Threads + Wait + Clock + Copy + Drop + Send + 'static>(
+    rt: R,
     alloc: Global,
     run: &str,
     words: &[String],
@@ -91,13 +98,39 @@ fn run_with(
 ) -> Result<Ran, NoMemory> {
     let mut output = sink_of(alloc, run, "fail output ")?;
     let mut faults = sink_of(alloc, run, "fail faults ")?;
-    let status = run_office(&(), alloc, words, source, &mut output, &mut faults, cabinet);
+    let status = status_of(rt, alloc, words, source, &mut output, &mut faults, cabinet);
     Ok(Ran {
         status,
         output,
         faults,
         reads: source.calls(),
     })
+}
+
+/// The status of a run, at whose doors nobody waits.
+fn status_of<R: Threads + Wait + Clock + Copy + Drop + Send + 'static>(
+    rt: R,
+    alloc: Global,
+    words: &[String],
+    source: &mut MemorySource,
+    output: &mut MemorySink,
+    faults: &mut MemorySink,
+    cabinet: &mut MemoryCabinet,
+) -> u8 {
+    let mut doors = MemoryDoors::new(alloc, Vec::new(alloc));
+    let mut spawner = ThreadSpawner::new();
+    run_office(
+        rt,
+        alloc,
+        words,
+        source,
+        output,
+        faults,
+        cabinet,
+        &mut doors,
+        &mut spawner,
+        &OpenGate,
+    )
 }
 
 /// The words of a run.

@@ -4,7 +4,10 @@
 mod words;
 
 use commands::{end_without_memory, run_office};
-use devices::{FileCabinet, StderrSink, StdinSource, StdoutSink, take_up_missing_streams};
+use devices::{
+    FileCabinet, LoopbackDoors, OpenGate, StderrSink, StdinSource, StdoutSink, ThreadSpawner,
+    take_up_missing_streams,
+};
 use std::process::ExitCode;
 use words::words_behind_name;
 
@@ -14,15 +17,20 @@ fn main(rt: HostRuntime) -> ExitCode {
     let mut output = StdoutSink::new(rt.stdout());
     let mut faults = StderrSink::new(rt.stderr());
     let mut cabinet = FileCabinet::new(rt);
+    let mut doors = LoopbackDoors::new(rt, rt.alloc());
+    let mut spawner = ThreadSpawner::new();
     let status = match words_behind_name(&rt) {
         Ok(words) => run_office(
-            &rt,
+            rt,
             rt.alloc(),
             &words,
             &mut input,
             &mut output,
             &mut faults,
             &mut cabinet,
+            &mut doors,
+            &mut spawner,
+            &OpenGate,
         ),
         Err(_) => end_without_memory(&mut faults),
     };

@@ -1,6 +1,6 @@
 #!/usr/bin/env python3
-"""Runs the commands to each of their statuses, and looks at all three standard streams; status 6 of `init` and of `trial`
-is not among them.
+"""Runs the commands to each of their statuses, and looks at all three standard streams; status 6 of `init`, of `serve` and of
+`trial` is not among them.
 
     python3 tests/statuses.py PROGRAM [--long]
 
@@ -13,16 +13,18 @@ import json
 import os
 import pathlib
 import resource
+import socket
 import subprocess
 import sys
 import tempfile
 
 import journals
+import servers
 from journals import request, requests
 
 USAGE = b"streamoffice: usage: init, batch, serve, stations or trial\n"
 INPUT_FAULT, OUTPUT_FAULT = b"streamoffice: input fault\n", b"streamoffice: output fault\n"
-DISK_FAULT = b"streamoffice: disk fault\n"
+DISK_FAULT, DOOR_FAULT = b"streamoffice: disk fault\n", b"streamoffice: door fault\n"
 NOT_A_JOURNAL, EXISTS = b"streamoffice: not a journal\n", b"streamoffice: journal exists\n"
 NO_DOCUMENT = b"streamoffice: not a station document\n"
 # Journals of no edits, of a station, and of a station with a reading.
@@ -88,7 +90,8 @@ def usage(place):
         ["init", "--journal", name, "--journal", name],
         ["init", "--journal", name, "more"],
         ["serve", "--journal", name],
-        ["batch", "--journal", name, "--workers", "2"],
+        ["batch", "--journal", name, "--workers", "17"],
+        ["serve", "--journal", name, "--port", "0", "--workers", "0", "--connections", "1"],
         ["stations"],
         ["stations", "--number", "1"],
         ["stations", "--journal", name, "--"],
@@ -147,6 +150,30 @@ def ends(place):
     ]:
         expect(what, wanted, place.on_journal(command, before, data))
         expect("    what is left", after, place.content())
+
+
+def served(place):
+    """`serve` ends before its first connection where the journal or the port can't be had, and with 0 once its connections were served."""
+    words = ["serve", "--journal", str(place.journal), "--workers", "2", "--connections", "1", "--port"]
+    cut = READING[:-3]
+    with socket.create_server(("127.0.0.1", 0)) as taken:
+        port = str(taken.getsockname()[1])
+        for what, content, wanted in [
+            ("serve on a port that another has", READING, (7, b"", DOOR_FAULT)),
+            ("serve on no journal", None, (5, b"", NOT_A_JOURNAL)),
+            ("serve on a damaged one", cut, (5, b"", b"streamoffice: damaged at %d\n" % (len(STATION) - 1))),
+        ]:
+            place.journal.unlink(missing_ok=True)
+            if content is not None:
+                place.journal.write_bytes(content)
+            expect(what, wanted, place.run([*words, port]))
+            expect("    what is left", content, place.content())
+    place.journal.write_bytes(STATION)
+    with servers.Server(place.program, place.journal, 2, 1) as server:
+        expect("batch while it serves", (4, b"", DISK_FAULT), place.run(["batch", "--journal", str(place.journal)], request(2)))
+        expect("its one connection", reply(2), server.ask(request(2)))
+        expect("    and its end", (0, b"", b""), server.close_by_connections())
+    expect("    what is left", READING, place.content())
 
 
 def document(*tables):
@@ -363,7 +390,7 @@ def main():
     if len(sys.argv) not in (2, 3):
         raise SystemExit(__doc__)
     program = str(pathlib.Path(sys.argv[1]).resolve())
-    cases = [usage, own_name, ends, stations, trial, replies, closed_streams, failing_streams, another_run, little_memory]
+    cases = [usage, own_name, ends, served, stations, trial, replies, closed_streams, failing_streams, another_run, little_memory]
     for case in cases + [long_input] * ("--long" in sys.argv):
         with tempfile.TemporaryDirectory() as folder:
             case(Place(program, folder))

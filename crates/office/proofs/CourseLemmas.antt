@@ -10,9 +10,8 @@ use Rattle.daily_values.specs.declared.day_values.DayValue.{DayValue}
 use Rattle.edits.specs.declared.content.Edit.{Edit}
 use Rattle.fixed_units.specs.Quantities.{SiteNumber}
 use Rattle.history.specs.Accepted.{accepted, edit_of, edits_of}
-use Rattle.history.specs.After.{publication}
 use Rattle.history.specs.Awaited.{SiteDay, DayAnswer, NoStation, Pending, Computed, answer_at, answer_by, awaited, pending_days, value_at}
-use Rattle.history.specs.Events.{Event, Accepted, Faulted, History}
+use Rattle.history.specs.Events.{Event, History}
 use Rattle.history.specs.LastChanges.{ChangedLast}
 use Rattle.history.specs.Legal.{IsLegal}
 use Rattle.history.specs.Verdicts.{Repeats, record_of, verdict}
@@ -22,7 +21,8 @@ use Rattle.history.proofs.RepeatLemmas.{is_repeated, repeats_still}
 use Rattle.office.specs.Edits.{IsTaken}
 use Rattle.office.specs.Steps.{Step, AnEdit, AClaim, ALook, APublication, ATurn, ASettlement, AnAnswer, AStop, Gives, GoesOver, IsCall, IsStep, added, added_by, cut_off}
 use Rattle.office.specs.declared.offices.Accepted as told
-use Rattle.office.proofs.StepLemmas.{Adds, Course, Still, Taken, Failed, Shown, adds_step, legal_step, limit_course, step_course}
+use Rattle.office.proofs.LastingLemmas.{lasting_outcome}
+use Rattle.office.proofs.StepLemmas.{Adds, Course, adds_step, legal_step, limit_course, step_course}
 use Rattle.office_inputs.specs.Stations.{station_of, stations_of, inputs_of_day}
 use Rattle.recompute.specs.Jobs.{DayJob}
 use Rattle.recompute.specs.declared.jobs.Publish.{Publish}
@@ -31,7 +31,6 @@ use Rattle.records.specs.Sheets.{Record}
 use Rattle.register.specs.Asked.{comes_after, job_at, next_after, outcome_at}
 use Rattle.register.specs.Keeping.{KeepsToTheLimit}
 use Rattle.register.specs.Registered.{Registered, first_unclaimed}
-use Rattle.register.proofs.CourseLemmas.{job_outcome}
 use Rattle.register.proofs.FoundLemmas.{found_of_all}
 use Rattle.register.proofs.TurnLemmas.{IsPending, all_pending, awaited_some}
 
@@ -185,38 +184,12 @@ told_next old new before after edit taken first g =
     let all = ap (λ (l : List Edit). length l) (edits_after old before p.at p.before) in
     omega (arith, number, long, all)
 
--- calls keep the events, and add others behind them
-record GoesOn (h new : History) : Type 0 where
-  since : List Event
-  events_are : new.events ≡ h.events ++ since
-
-events_in : History → List Event
-events_in h = h.events
-
-course_goes_on : (h : History) (asked : Option Edit) (edits : List Edit) (new : History) → Course h asked edits new → GoesOn h new
-unfolding events_in
-course_goes_on h asked edits new (Still e is) = record { since = []; events_are = ap events_in is ∙ sym (append-nil h.events) }
-course_goes_on h asked edits new (Taken edit its e v is) = record { since = Accepted (record_of h edit) ∷ []; events_are = ap events_in is }
-course_goes_on h asked edits new (Failed edit left its e v may is) = record { since = Faulted left ∷ []; events_are = ap events_in is }
-course_goes_on h asked edits new (Shown days e p is) = record { since = map publication days; events_are = ap events_in is }
-
 pub call_course : (old : Registered) (step : Step) (new : Registered) → IsCall step → IsStep old step new
     → Course old.history (cut_off step) (added_by step) new.history
 call_course old step new call is = elim (step_course old step new is) [
   | inl course ↦ course
   | inr stop ↦ absurd (subst IsCall stop.2 call)
 ]
-
-calls_go_on : (old : Registered) (steps : List Step) (new : Registered) → All IsCall steps → GoesOver old steps new → GoesOn old.history new.history
-unfolding events_in
-calls_go_on old [] new calls g = record { since = []; events_are = ap (λ (r : Registered). r.history.events) g ∙ sym (append-nil old.history.events) }
-calls_go_on old (step ∷ steps) new calls g =
-    let first = course_goes_on old.history (cut_off step) (added_by step) g.0.history (call_course old step g.0 (All-head IsCall step steps calls) g.1) in
-    let rest = calls_go_on g.0 steps new (All-tail IsCall step steps calls) g.2 in
-    record {
-      since = first.since ++ rest.since;
-      events_are = rest.events_are ∙ ap (λ (l : List Event). l ++ rest.since) first.events_are ∙ append_assoc old.history.events first.since rest.since;
-    }
 
 -- the limit is kept by calls
 pub limit_steps : (old : Registered) (steps : List Step) (new : Registered) → All IsCall steps → GoesOver old steps new → KeepsToTheLimit old.history
@@ -263,31 +236,28 @@ was_given old (ASettlement result) new job gives is = absurd gives
 was_given old (AnAnswer site day answer) new job gives is = absurd gives
 was_given old (AStop cut found) new job gives is = absurd gives
 
--- what becomes of the publication of a job that was given before, where these events have come since
-job_published : (events since now : List Event) (d : SiteDay) (job : DayJob) (outcome : Publish) → job ≡ job_at events d
-    → awaited events d.site d.day ≡ Some (job_at events d).awaits → now ≡ events ++ since → outcome ≡ outcome_at now job
+-- what becomes of the publication of a job that was given before, where these edits have come since
+job_published : (events now : List Event) (more : List Edit) (d : SiteDay) (job : DayJob) (outcome : Publish) → job ≡ job_at events d
+    → awaited events d.site d.day ≡ Some (job_at events d).awaits → edits_of now ≡ edits_of events ++ more → outcome ≡ outcome_at now job
     → (outcome ≡ Published ↔ awaited now job.site job.day ≡ Some job.awaits) × (outcome ≢ Foreign)
-job_published events since now d job outcome job_is awaits now_is e =
+job_published events now more d job outcome job_is awaits now_is e =
     subst (λ (j : DayJob). (outcome ≡ Published ↔ awaited now j.site j.day ≡ Some j.awaits) × (outcome ≢ Foreign)) (sym job_is)
-    (subst (λ (l : List Event). (outcome ≡ Published ↔ awaited l d.site d.day ≡ Some (job_at events d).awaits) × (outcome ≢ Foreign)) (sym now_is)
-    (subst (λ (o : Publish). (o ≡ Published ↔ awaited (events ++ since) d.site d.day ≡ Some (job_at events d).awaits) × (o ≢ Foreign))
-    (sym (e ∙ ap (outcome_at now) job_is ∙ ap (λ (l : List Event). outcome_at l (job_at events d)) now_is))
-    (job_outcome events since d awaits)))
+    (subst (λ (o : Publish). (o ≡ Published ↔ awaited now d.site d.day ≡ Some (job_at events d).awaits) × (o ≢ Foreign))
+    (sym (e ∙ ap (outcome_at now) job_is)) (lasting_outcome events now more d now_is awaits))
 
 pub jobs_published : (old new : Registered) (before between after : List Step) (given : Step) (job : DayJob) (outcome : Publish) → Gives given job
-    → All IsCall between → GoesOver old (before ++ given ∷ (between ++ APublication job outcome ∷ after)) new
+    → GoesOver old (before ++ given ∷ (between ++ APublication job outcome ∷ after)) new
     → (at : Registered) × GoesOver old (before ++ given ∷ between) at × GoesOver at (APublication job outcome ∷ after) new
     × ((outcome ≡ Published ↔ awaited at.history.events job.site job.day ≡ Some job.awaits) × (outcome ≢ Foreign))
-jobs_published old new before between after given job outcome gives calls g =
+jobs_published old new before between after given job outcome gives g =
     let p = parted old before (given ∷ (between ++ APublication job outcome ∷ after)) new g in
     let next = p.behind.0 in
     let was = was_given p.at given next job gives p.behind.1 in
     let q = parted next between (APublication job outcome ∷ after) new p.behind.2 in
-    let on = calls_go_on next between q.at calls q.before in
-    let now : q.at.history.events ≡ p.at.history.events ++ on.since =
-    on.events_are ∙ ap (λ (h : History). h.events ++ on.since) was.same in (
+    let now : edits_of q.at.history.events ≡ edits_of p.at.history.events ++ added between =
+    edits_after next between q.at q.before ∙ ap (λ (h : History). edits_of h.events ++ added between) was.same in (
       q.at,
       joined old before (given ∷ between) p.at q.at p.before (next, p.behind.1, q.before),
       q.behind,
-      job_published p.at.history.events on.since q.at.history.events was.d job outcome was.job_is was.awaits now q.behind.1.1,
+      job_published p.at.history.events q.at.history.events (added between) was.d job outcome was.job_is was.awaits now q.behind.1.1,
     )

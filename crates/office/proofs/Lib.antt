@@ -6,8 +6,11 @@ pub mod DoubtLemmas
 pub mod EditLemmas
 pub mod KeepingLemmas
 pub mod KeptSheetLemmas
+pub mod LastingLemmas
 pub mod LeftLemmas
 pub mod RefusedLemmas
 pub mod ReplayLemmas
+pub mod ShownLemmas
 pub mod StepLemmas
 pub mod StopLemmas
+pub mod UsedLemmas

@@ -5,6 +5,8 @@ pub mod KeptSheets
 pub mod Offices
 pub mod Openings
 pub mod Replaying
+pub mod ShownSheets
 pub mod Standing
 pub mod Steps
 pub mod Stops
+pub mod UsedDays

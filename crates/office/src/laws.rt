@@ -4,16 +4,18 @@ ghost use Rattle.std.specs.Prelude.{◌≡◌, ◌≢◌, ◌↔◌, ◌⊎◌, 
 ghost use Rattle.approval.specs.Statuses.{is_approved};
 ghost use Rattle.daily_values.specs.DayValue.{day_value};
 ghost use Rattle.daily_values.specs.declared.day_values.DayValue.{DayValue};
+ghost use Rattle.day_cells.specs.Spans.{with_days};
 ghost use Rattle.edits.specs.declared.content.Edit.{Edit};
 ghost use Rattle.fixed_units.specs.Quantities.{IsDay, SiteNumber};
-ghost use Rattle.history.specs.Accepted.{accepted, edit_of, edits_of};
+ghost use Rattle.history.specs.Accepted.{accepted, days_ever_changed, edit_of, edits_of, was_changed};
 ghost use Rattle.history.specs.After.{doubt, go_on, reopen};
 ghost use Rattle.history.specs.Awaited.{Computed, DayAnswer, NoStation, Pending, answer_at, awaited, inputs_at};
 ghost use Rattle.history.specs.Events.{Event, History};
 ghost use Rattle.history.specs.LastChanges.{ChangedLast};
 ghost use Rattle.history.specs.Legal.{IsLegal};
 ghost use Rattle.history.specs.Rescissions.{NoneRescinds};
-ghost use Rattle.history.specs.Sheets.{shown_at};
+ghost use Rattle.history.specs.Sheets as Shown;
+ghost use Rattle.history.specs.Sheets.{Text, shown_at};
 ghost use Rattle.history.specs.Statuses.{standing_at, status_at, stored_sheet};
 ghost use Rattle.history.specs.Verdicts.{Repeats, verdict};
 ghost use Rattle.journal.specs.JournalBytes.{HasHeader, IsJournalOf};
@@ -21,10 +23,13 @@ ghost use Rattle.office.specs.Counting.{GoesOverCounting, HasCounted};
 ghost use Rattle.office.specs.Edits.{IsTaken};
 ghost use Rattle.office.specs.KeptSheets.{FoundRescinded};
 ghost use Rattle.office.specs.Openings.{IsDamagedFor, IsOpened, MayOpen};
+ghost use Rattle.office.specs.ShownSheets.{IsKeptOrMade};
 ghost use Rattle.office.specs.Steps.{APublication, AStop, AnAnswer, AnEdit, Gives, GoesOver, IsCall, IsStep, MayBeFound, Step, added, cut_off};
 ghost use Rattle.office.specs.Stops.{IsLeft, IsLeftBetween};
+ghost use Rattle.office.specs.UsedDays.{LiesIn};
 ghost use Rattle.office.specs.declared.offices.Accepted.{Accepted};
 ghost use Rattle.office_inputs.specs.Stations.{inputs_of_day, station_of, stations_of};
+ghost use Rattle.office_inputs.specs.Touched.{IsUsedSpan, is_filled};
 ghost use Rattle.office_inputs.specs.declared.limits.Limits.{Limits};
 ghost use Rattle.recompute.specs.Jobs.{DayJob};
 ghost use Rattle.recompute.specs.declared.jobs.Publish.{Publish};
@@ -164,10 +169,25 @@ pub fn answers_are_true()
         → is_some (station_of (stations_of (edits_of old.history.events ++ added before)) site) ≡ false }
 {}
 
-/// A job that a claim or a look gave, and whose value is published after any calls, is published exactly where its day then still awaits
-/// the job's edit, and never told to be foreign.
+/// Whatever comes before it, the sheet that is shown of a day is the text that is kept of it where it is approved, and else that of the value
+/// that computing from scratch from all edits accepted so far gives; or it names the last of these edits that changed the day, or says that
+/// none of them added the station.
+pub fn shown_sheets_are_true()
+    ensures text { (old new : Registered) (steps : List Step) (site : SiteNumber) (day : ℤ) (text : List ℕ) → GoesOver old steps new
+        → shown_at new.history.events site day ≡ Text text → IsKeptOrMade site day (stored_sheet new.history.events site day)
+        (day_value (inputs_of_day (stations_of (edits_of old.history.events ++ added steps)) site day)) text }
+    ensures pending { (old new : Registered) (steps : List Step) (site : SiteNumber) (day : ℤ) (number : ℕ) → GoesOver old steps new
+        → shown_at new.history.events site day ≡ Shown.Pending number
+        → (stored_sheet new.history.events site day ≡ None) × ChangedLast (edits_of old.history.events ++ added steps) site day number }
+    ensures no_station { (old new : Registered) (steps : List Step) (site : SiteNumber) (day : ℤ) → GoesOver old steps new
+        → shown_at new.history.events site day ≡ Shown.NoStation
+        → is_some (station_of (stations_of (edits_of old.history.events ++ added steps)) site) ≡ false }
+{}
+
+/// A job that a claim or a look gave, and whose value is published after any calls, stops and openings, is published exactly where its day
+/// then awaits the job's edit, and never told to be foreign.
 pub fn given_jobs_are_published_where_awaited()
-    ensures { (old new : Registered) (before between after : List Step) (given : Step) (job : DayJob) (outcome : Publish) → Gives given job → All IsCall between
+    ensures { (old new : Registered) (before between after : List Step) (given : Step) (job : DayJob) (outcome : Publish) → Gives given job
         → GoesOver old (before ++ given ∷ (between ++ APublication job outcome ∷ after)) new
         → (at : Registered) × GoesOver old (before ++ given ∷ between) at × GoesOver at (APublication job outcome ∷ after) new
         × ((outcome ≡ Published ↔ awaited at.history.events job.site job.day ≡ Some job.awaits) × (outcome ≢ Foreign)) }
@@ -182,6 +202,14 @@ pub fn an_opening_is_a_step()
     ensures inside { (old : Registered) (step : Step) (new register : Registered) (image : List ℕ) → IsCall step → IsStep old step new
         → IsLeftBetween old.history new.history image → IsOpened (Some image) old.history.limits register
         → (found : Option Record) × IsStep old (AStop (cut_off step) found) register }
+{}
+
+/// A day that has inputs was changed by one of the edits, so the span of the used days of a station lies within its cells.
+pub fn used_days_lie_in_cells()
+    ensures changed { (edits : List Edit) (site : SiteNumber) (day : ℤ) → is_filled (stations_of edits) site day ≡ true
+        → was_changed edits site day ≡ true }
+    ensures within { (edits : List Edit) (site : SiteNumber) (first last : ℤ) → IsDay first → IsDay last → IsUsedSpan (stations_of edits) site (Some (first, last))
+        → LiesIn (with_days None (days_ever_changed edits site)) first × LiesIn (with_days None (days_ever_changed edits site)) last }
 {}
 
 /// The day of a job is one of the calendar.

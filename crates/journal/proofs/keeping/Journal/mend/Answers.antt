@@ -7,6 +7,7 @@ use Rattle.journal.specs.JournalBytes.{IsJournalOf, IsUndecided}
 use Rattle.journal.specs.Keeping.{Holds, Mends}
 use Rattle.journal.specs.declared.keeping.Journal.{Journal}
 use Rattle.journal.proofs.Runs.{mend_moments}
+use Rattle.journal.proofs.Written.{closed}
 use Rattle.journal.proofs.Stops.{told_torn, told_written, here, mend_images, mend_done, durable}
 use Rattle.journal.proofs.keeping.Journal.mend.Goals as goal
 
@@ -54,3 +55,6 @@ returns-clause-mended g c pieces last holds =
       },
       durable _ _ _ _ _ holds.told written,
     )
+
+pub returns-clause-wrote : goal.returns-clause-wrote
+returns-clause-wrote g c = closed _ _ c.args.self.now.gate _ c.in_ok-write_and_sync.ensures.written

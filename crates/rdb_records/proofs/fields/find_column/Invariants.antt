@@ -1,0 +1,16 @@
+-- The name stands among the fields that are left, which get fewer.
+use Rattle.std.proofs.Common.{◌+◌, ◌≤◌, length}
+use Rattle.std.specs.Prelude.{All, ◌≢◌, MatchOption, ⊤, option_map}
+use Rattle.rating_tables.specs.Rdb.{fields, fields_behind}
+use Rattle.rating_tables.proofs.FieldLemmas.{ColumnLeft, left_count}
+use Rattle.rdb_records.proofs.fields.find_column.Given as goal
+
+abbrev pub invariant-loop-left : goal.invariant-loop-left
+invariant-loop-left l = record {
+  feeds : MatchOption l.left ⊤ (λ text. All (λ b. b ≢ 10) text.now);
+  counted : MatchOption l.left ⊤ (λ text. l.place + length text.now ≤ length l.line);
+  column : ColumnLeft l.name (fields l.line) l.place (fields_behind (option_map (λ text. text.now) l.left));
+}
+
+abbrev pub decreases-loop-left : goal.decreases-loop-left
+decreases-loop-left l = left_count (λ text. length text.now) l.left

@@ -1,0 +1,4 @@
+pub mod OneResult
+pub mod Rows
+pub mod Times
+pub mod Units

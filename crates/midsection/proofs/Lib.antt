@@ -1,0 +1,6 @@
+pub mod DischargeLemmas
+pub mod NotesLemmas
+pub mod ProductLemmas
+pub mod RecordLemmas
+pub mod SectionLemmas
+pub mod StepLemmas

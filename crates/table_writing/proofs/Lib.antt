@@ -1,0 +1,4 @@
+pub mod CountedLemmas
+pub mod RowLemmas
+pub mod TextLemmas
+pub mod YearLemmas

@@ -1,5 +1,3 @@
-pub mod FaultLemmas
-pub mod InputLemmas
-pub mod LineLemmas
 pub mod LoadedLemmas
-pub mod TellingLemmas
+pub mod TakenLemmas
+pub mod UnstatedLemmas

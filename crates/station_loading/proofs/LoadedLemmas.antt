@@ -4,10 +4,12 @@ use Rattle.devices.specs.Sinks.{AreWritten}
 use Rattle.edits.specs.declared.content.Edit.{Edit}
 use Rattle.history.specs.Events.{History}
 use Rattle.station_documents.specs.Documents.{StatesStations, most_bytes}
-use Rattle.station_loading.specs.Inputs.{IsTakenWithin}
-use Rattle.station_loading.specs.Loading.{AreTold, IsLoaded, IsReadAs, IsUnasked, Loads, LoadsBy, StatesNone}
+use Rattle.station_loading.specs.Lines.{end_of}
+use Rattle.station_loading.specs.Loading.{IsLoaded, IsReadAs, IsUnasked, Loads, LoadsBy, StatesNone}
 use Rattle.station_loading.specs.declared.loading.LoadingEnd.{LoadingEnd}
 use Rattle.station_loading.specs.declared.loading.LoadingEnd.TheVariants as ends
+use Rattle.told_edits.specs.Telling.{AreTold}
+use Rattle.whole_inputs.specs.Inputs.{IsTakenWithin}
 
 -- nothing was written
 nothing_written : (w : Option (List ℕ)) → AreWritten w [] w true
@@ -41,7 +43,7 @@ loaded_nothing h end l0 l w unasked none taken = record {
 -- the stations that the input states were asked, and told
 module _ (h after : History) (edits : List Edit) where
   loads_all : (l0 l w0 w : Option (List ℕ)) → IsReadAs l0 edits l → IsTakenWithin (most_bytes + 1) l0 l
-      → (written : List ℕ) × AreTold true h edits after written × AreWritten w0 written w true
+      → (written : List ℕ) × AreTold end_of true h edits after written × AreWritten w0 written w true
       → IfSome l0 (λ input. IsSomeAnd l (λ left. (written : List ℕ) × Loads h after ends.Done input left written × AreWritten w0 written w true))
   loads_all None l w0 w read taken told = tt
   loads_all (Some input) None w0 w read taken told = absurd taken
@@ -49,13 +51,13 @@ module _ (h after : History) (edits : List Edit) where
       (told.0, record { ends = (read.1, (edits, read.0, told.1)); taken = taken }, told.2)
 
   pub loaded_all : (l0 l w0 w : Option (List ℕ)) → IsReadAs l0 edits l → IsTakenWithin (most_bytes + 1) l0 l
-      → (written : List ℕ) × AreTold true h edits after written × AreWritten w0 written w true
+      → (written : List ℕ) × AreTold end_of true h edits after written × AreWritten w0 written w true
       → IsLoaded h after ends.Done l0 l w0 w
   loaded_all l0 l w0 w read taken told = record { loads = loads_all l0 l w0 w read taken told; unasked = λ is. absurd is }
 
   -- up to the one whose line the sink did not take
   loads_short : (l0 l w0 w : Option (List ℕ)) → IsReadAs l0 edits l → IsTakenWithin (most_bytes + 1) l0 l
-      → (written : List ℕ) × AreTold false h edits after written × AreWritten w0 written w true
+      → (written : List ℕ) × AreTold end_of false h edits after written × AreWritten w0 written w true
       → IfSome l0 (λ input. IsSomeAnd l (λ left. (written : List ℕ) × Loads h after ends.OutputFault input left written × AreWritten w0 written w true))
   loads_short None l w0 w read taken told = tt
   loads_short (Some input) None w0 w read taken told = absurd taken
@@ -63,6 +65,6 @@ module _ (h after : History) (edits : List Edit) where
       (told.0, record { ends = (read.1, (edits, read.0, told.1)); taken = taken }, told.2)
 
   pub loaded_short : (l0 l w0 w : Option (List ℕ)) → IsReadAs l0 edits l → IsTakenWithin (most_bytes + 1) l0 l
-      → (written : List ℕ) × AreTold false h edits after written × AreWritten w0 written w true
+      → (written : List ℕ) × AreTold end_of false h edits after written × AreWritten w0 written w true
       → IsLoaded h after ends.OutputFault l0 l w0 w
   loaded_short l0 l w0 w read taken told = record { loads = loads_short l0 l w0 w read taken told; unasked = λ is. absurd is }

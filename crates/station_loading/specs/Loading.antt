@@ -1,7 +1,5 @@
 -- How the loading of a document of stations ends.
-use Rattle.std.specs.Prelude.{◌≡◌, ℕ, ◌+◌, Bool, true, false, List, [], ◌∷◌, ◌++◌, Option, IfSome, IsSomeAnd, ⊤}
-use Rattle.std.specs.List.{concat}
-use Rattle.desk.specs.Endings.{StopsWithin}
+use Rattle.std.specs.Prelude.{◌≡◌, ℕ, ◌+◌, true, false, List, [], Option, IfSome, IsSomeAnd, ⊤}
 use Rattle.devices.specs.Faults.{Rose}
 use Rattle.devices.specs.Sinks.{AreWritten}
 use Rattle.edits.specs.declared.content.Edit.{Edit}
@@ -9,20 +7,13 @@ use Rattle.history.specs.Events.{History}
 use Rattle.station_documents.specs.Documents.{StatesStations, most_bytes}
 use Rattle.station_documents.specs.declared.faults.DocumentFault.{DocumentFault}
 use Rattle.station_documents.specs.declared.faults.DocumentFault.TheVariants as unstated
-use Rattle.station_loading.specs.Inputs.{IsTakenAtMost}
-use Rattle.station_loading.specs.Lines.{AreAdded}
-use Rattle.station_loading.specs.declared.inputs.NotRead.{NotRead}
-use Rattle.station_loading.specs.declared.inputs.NotRead.TheVariants as unread
+use Rattle.station_loading.specs.Lines.{end_of}
 use Rattle.station_loading.specs.declared.loading.LoadingEnd.{LoadingEnd}
 use Rattle.station_loading.specs.declared.loading.LoadingEnd.TheVariants.{Done, InputFault, OutputFault, NotADocument, NoMemory}
-
--- The office was asked these edits, and the line of each was written; or the sink failed within the line of one, and the office was
--- asked none of those behind it.
-abbrev pub AreTold : Bool → History → List Edit → History → List ℕ → Type 0
-AreTold true h edits after written = (lines : List (List ℕ)) × AreAdded h edits lines after × (written ≡ concat lines)
-AreTold false h edits after written =
-    (sent behind : List Edit) × (edits ≡ sent ++ behind) × ((front : List (List ℕ)) × (last : List ℕ)
-    × AreAdded h sent (front ++ last ∷ []) after × StopsWithin (concat front) last written)
+use Rattle.told_edits.specs.Telling.{AreTold}
+use Rattle.whole_inputs.specs.Inputs.{IsTakenAtMost}
+use Rattle.whole_inputs.specs.declared.inputs.NotRead.{NotRead}
+use Rattle.whole_inputs.specs.declared.inputs.NotRead.TheVariants as unread
 
 -- no edit was asked, and nothing was written
 abbrev pub NothingDone : History → History → List ℕ → Type 0
@@ -30,8 +21,8 @@ NothingDone h after written = (after ≡ h) × (written ≡ [])
 
 -- what was written and has happened at each end, by the input
 abbrev pub LoadsBy : LoadingEnd → History → List ℕ → List ℕ → History → List ℕ → Type 0
-LoadsBy Done h input left after written = (left ≡ []) × ((edits : List Edit) × StatesStations input edits × AreTold true h edits after written)
-LoadsBy OutputFault h input left after written = (left ≡ []) × ((edits : List Edit) × StatesStations input edits × AreTold false h edits after written)
+LoadsBy Done h input left after written = (left ≡ []) × ((edits : List Edit) × StatesStations input edits × AreTold end_of true h edits after written)
+LoadsBy OutputFault h input left after written = (left ≡ []) × ((edits : List Edit) × StatesStations input edits × AreTold end_of false h edits after written)
 LoadsBy NotADocument h input left after written = ((edits : List Edit) → ¬ StatesStations input edits) × NothingDone h after written
 LoadsBy InputFault h input left after written = NothingDone h after written
 LoadsBy NoMemory h input left after written = NothingDone h after written

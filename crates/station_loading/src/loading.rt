@@ -4,19 +4,22 @@ ghost use Rattle.std.specs.Prelude.{◌≡◌, ◌≤◌, ◌+◌, List, ℕ, If
 ghost use Rattle.desk.specs.Passing.{Passes};
 ghost use Rattle.devices.specs.Faults.{Rose};
 ghost use Rattle.devices.specs.Sinks.{AreWritten};
-ghost use Rattle.station_loading.specs.Lines.{IsAdded};
-ghost use Rattle.station_loading.specs.Loading.{AreTold, IsLoaded, IsReadAs, IsUnasked, LoadingCause, StatesNone, end_unstated};
-ghost use Rattle.station_loading.specs.Inputs.{IsTakenWithin};
 ghost use Rattle.station_documents.specs.Documents.{most_bytes};
+ghost use Rattle.station_loading.specs.Lines.{end_of};
+ghost use Rattle.station_loading.specs.Loading.{IsLoaded, IsReadAs, IsUnasked, LoadingCause, StatesNone, end_unstated};
+ghost use Rattle.told_edits.specs.Lines.{IsSent};
+ghost use Rattle.told_edits.specs.Telling.{AreTold};
+ghost use Rattle.whole_inputs.specs.Inputs.{IsTakenWithin};
 
-use crate::inputs::{NotRead, read_input};
-use crate::lines::station_line;
+use crate::lines::site_end;
 use desk::stands_still;
-use devices::{Disk, Sink, Source, put_all};
+use devices::{Disk, Sink, Source};
 use edits::Edit;
 use office::Office;
-use station_documents::{DocumentFault, read_stations};
+use station_documents::{DocumentFault, MOST_BYTES, read_stations};
 use std::alloc::Global;
+use told_edits::tell_edit;
+use whole_inputs::{NotRead, read_whole};
 
 /// How the loading of a document ended.
 #[derive(Clone, Copy, Debug, PartialEq, Eq)]
@@ -88,7 +91,7 @@ fn read_document<S: Source>(alloc: Global, source: &mut S) -> Result<Vec<Edit>, 
     ensures taken { IsTakenWithin (most_bytes + 1) (S.left source.old) (S.left source.new) }
     ensures counted { S.faults source.old ≤ S.faults source.new }
 {
-    let text = read_input(alloc, source)?;
+    let text = read_whole(alloc, source, MOST_BYTES)?;
     match read_stations(alloc, text.as_slice()) {
         Ok(edits) => Ok(edits),
         Err(fault) => Err(end_unstated(fault)),
@@ -108,7 +111,7 @@ fn end_unstated(fault: DocumentFault) -> LoadingEnd
 /// Asks the office each of these, one behind another, and writes a line of each; `false` where the sink failed, behind which none is
 /// asked.
 fn add_stations<D: Disk, K: Sink>(office: &mut Office<D>, edits: Vec<Edit>, sink: &mut K) -> bool
-    ensures told { (written : List ℕ) × AreTold result office.old.register.history edits.items office.new.register.history written × AreWritten (K.written sink.old) written (K.written sink.new) true }
+    ensures told { (written : List ℕ) × AreTold end_of result office.old.register.history edits.items office.new.register.history written × AreWritten (K.written sink.old) written (K.written sink.new) true }
     ensures passed { Passes D.Disk office.old.register.history office.new.register.history office.old.disk office.new.disk }
     ensures disk_counted { D.faults office.old.disk ≤ D.faults office.new.disk }
     ensures output_counted { K.faults sink.old ≤ K.faults sink.new }
@@ -126,13 +129,12 @@ fn add_stations<D: Disk, K: Sink>(office: &mut Office<D>, edits: Vec<Edit>, sink
 
 /// Asks the office an edit, and writes its line; whether the sink took it.
 fn add_station<D: Disk, K: Sink>(office: &mut Office<D>, edit: Edit, sink: &mut K) -> bool
-    ensures told { (line : List ℕ) × IsAdded office.old.register.history edit line office.new.register.history × AreWritten (K.written sink.old) line (K.written sink.new) result }
+    ensures told { (line : List ℕ) × IsSent (end_of edit) office.old.register.history edit line office.new.register.history × AreWritten (K.written sink.old) line (K.written sink.new) result }
     ensures passed { Passes D.Disk office.old.register.history office.new.register.history office.old.disk office.new.disk }
     ensures disk_counted { D.faults office.old.disk ≤ D.faults office.new.disk }
     ensures output_counted { K.faults sink.old ≤ K.faults sink.new }
     ensures cause { result ≡ false → Rose (K.faults sink.old) (K.faults sink.new) }
 {
-    let site = edit.site;
-    let told = office.take(edit);
-    put_all(sink, station_line(site, told).as_slice())
+    let end = site_end(edit.site);
+    tell_edit(office, edit, end.as_slice(), sink)
 }

@@ -1,5 +1,5 @@
 use Rattle.desk.proofs.PassingLemmas.{passes_told}
-use Rattle.station_loading.proofs.loading.add_station.Goals as goal
+use Rattle.told_edits.proofs.telling.tell_edit.Goals as goal
 
 pub returns-clause-passed : goal.returns-clause-passed
 returns-clause-passed g c =

@@ -1,13 +1,6 @@
 -- What is taken of an input, piece by piece.
-use Rattle.std.proofs.Common.{◌≡◌, refl, sym, ◌∙◌, ap, ℕ, ◌+◌, ◌<◌, ◌≤◌, List, [], ◌++◌, length, Option, Some, None, IfSome, subst, append_assoc, append-nil, length-append, arith}
-use Rattle.edits.specs.declared.content.Edit.{Edit}
-use Rattle.station_documents.specs.Documents.{StatesStations}
-use Rattle.station_documents.specs.declared.faults.DocumentFault.{DocumentFault}
-use Rattle.station_documents.specs.declared.faults.DocumentFault.TheVariants as faults
-use Rattle.station_loading.specs.Inputs.{Grows, IsTaken, IsTakenWithin, IsWhole}
-use Rattle.station_loading.specs.Loading.{StatesNone, end_unstated}
-use Rattle.station_loading.specs.declared.loading.LoadingEnd.{LoadingEnd}
-use Rattle.station_loading.specs.declared.loading.LoadingEnd.TheVariants as loadings
+use Rattle.std.proofs.Common.{◌≡◌, sym, ◌∙◌, ap, ℕ, ◌+◌, ◌<◌, ◌≤◌, List, [], ◌++◌, length, Option, Some, None, IfSome, subst, append_assoc, append-nil, length-append, arith}
+use Rattle.whole_inputs.specs.Inputs.{Grows, IsTaken, IsTakenWithin, IsWhole}
 
 -- a piece more was taken
 pub taken_more : (l0 l1 l2 : Option (List ℕ)) (text piece : List ℕ) → IsTaken l0 text l1 → IsTaken l1 piece l2 → IsTaken l0 (text ++ piece) l2
@@ -53,15 +46,3 @@ longer most (Some input) None text first many = absurd first
 longer most (Some input) (Some left) text first many =
     let all : length input ≡ length text + length left = ap length first ∙ length-append text left in
     omega (arith, all)
-
--- a text that states no stations is the whole input
-pub states_none : (l0 l1 : Option (List ℕ)) (text : List ℕ) → IsWhole l0 text l1 → ((edits : List Edit) → ¬ StatesStations text edits) → StatesNone l0
-states_none None l1 text whole none = tt
-states_none (Some input) None text whole none = absurd whole
-states_none (Some input) (Some left) text whole none = λ edits stated. none edits (subst (λ (t : List ℕ). StatesStations t edits) whole.0 stated)
-
--- the end that a text has which states none
-pub ended : (fault : DocumentFault) (end : LoadingEnd) (l0 l1 : Option (List ℕ)) (text : List ℕ) → end ≡ end_unstated fault → IsWhole l0 text l1
-    → (fault ≡ faults.NoDocument → (edits : List Edit) → ¬ StatesStations text edits) → end ≡ loadings.NotADocument → StatesNone l0
-ended faults.NoDocument end l0 l1 text is whole none told = states_none l0 l1 text whole (none refl)
-ended faults.NoMemory end l0 l1 text is whole none told = absurd (cc (sym is ∙ told))

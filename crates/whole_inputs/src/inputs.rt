@@ -1,31 +1,33 @@
-//! An input is read whole, as far as a document may be long.
+//! An input is read whole, or told to be too long.
 
 ghost use Rattle.std.specs.Prelude.{◌≡◌, ◌≢◌, ◌≤◌, ◌+◌, ◌<◌, [], length, IfSome, IfOk, Ok, Err, true, false};
 ghost use Rattle.devices.specs.Faults.{Rose};
-ghost use Rattle.station_documents.specs.Documents.{most_bytes};
-ghost use Rattle.station_loading.specs.Inputs.{Grows, IsTakenWithin, IsWhole};
+ghost use Rattle.whole_inputs.specs.Inputs.{Grows, IsTakenWithin, IsWhole};
 ghost use Rattle.wire.specs.declared.limits.TheConstants.{BLOCK_BYTES};
 
 use devices::{Source, Took};
 use fixed_units::{NoMemory, Text};
-use station_documents::MOST_BYTES;
 use std::alloc::Global;
+use thiserror::Error;
 use wire::limits::BLOCK_BYTES;
 
 /// Why an input was not read whole.
-#[derive(Clone, Copy, Debug, PartialEq, Eq)]
-pub(crate) enum NotRead {
+#[derive(Clone, Copy, Debug, PartialEq, Eq, Error)]
+pub enum NotRead {
     /// The source failed.
+    #[error("the input could not be read")]
     Failed,
-    /// It is longer than a document may be.
+    /// It is longer than it may be.
+    #[error("the input is too long")]
     TooLong,
     /// There was no memory for it.
+    #[error("no memory for the input")]
     NoMemory,
 }
 
 impl From<NoMemory> for NotRead {
     ghost use Rattle.std.specs.Prelude.{◌≡◌};
-    ghost use Rattle.station_loading.specs.declared.inputs.NotRead.TheVariants as NotReads;
+    ghost use Rattle.whole_inputs.specs.declared.inputs.NotRead.TheVariants as NotReads;
 
     ghost from_gives = { λ _ unread. unread ≡ NotReads.NoMemory };
 
@@ -34,18 +36,24 @@ impl From<NoMemory> for NotRead {
     }
 }
 
-/// Takes a whole input, or where it is longer than a document may be one byte more than that.
-pub(crate) fn read_input<S: Source>(alloc: Global, source: &mut S) -> Result<Text, NotRead>
+/// Takes a whole input of at most so many bytes. Of a longer one no more is taken than one byte beyond them, which tells that it is longer.
+///
+/// # Errors
+///
+/// [`NotRead::TooLong`] where the input is longer, [`NotRead::Failed`] only where the source failed in this call, and
+/// [`NotRead::NoMemory`].
+pub fn read_whole<S: Source>(alloc: Global, source: &mut S, most: usize) -> Result<Text, NotRead>
     ensures whole { IfOk result (λ text. IsWhole (S.left source.old) text (S.left source.new)) }
-    ensures too_long { result ≡ Err NotRead.TooLong → IfSome (S.left source.old) (λ input. most_bytes < length input) }
-    ensures taken { IsTakenWithin (most_bytes + 1) (S.left source.old) (S.left source.new) }
+    ensures within { IfOk result (λ text. length text ≤ most) }
+    ensures too_long { result ≡ Err NotRead.TooLong → IfSome (S.left source.old) (λ input. most < length input) }
+    ensures taken { IsTakenWithin (most + 1) (S.left source.old) (S.left source.new) }
     ensures counted { S.faults source.old ≤ S.faults source.new }
     ensures cause { result ≡ Err NotRead.Failed → Rose (S.faults source.old) (S.faults source.new) }
 {
     let mut block = zeros(alloc)?;
     let mut text = Text::new(alloc);
-    while text.len() <= MOST_BYTES {
-        let room = BLOCK_BYTES.min(MOST_BYTES + 1 - text.len());
+    while text.len() <= most {
+        let room = BLOCK_BYTES.min((most - text.len()).saturating_add(1));
         if !take_more(source, &mut block[..room], &mut text)? {
             return Ok(text);
         }

@@ -1,4 +1,4 @@
--- What is read of an input that is to be a document.
+-- What is taken of an input that is read whole.
 use Rattle.std.specs.Prelude.{◌≡◌, ℕ, ◌≤◌, List, [], ◌++◌, length, Option, IfSome, IsSomeAnd}
 
 -- this front of the input was taken, and the rest is left

@@ -1,0 +1,4 @@
+pub mod FigureLemmas
+pub mod LoadedLemmas
+pub mod ReadLemmas
+pub mod ToldLemmas

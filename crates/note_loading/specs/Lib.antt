@@ -1,0 +1,4 @@
+pub mod Endings
+pub mod Figures
+pub mod Loading
+pub mod Visits

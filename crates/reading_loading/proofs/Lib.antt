@@ -1,0 +1,6 @@
+pub mod AgainLemmas
+pub mod ChunkLemmas
+pub mod LoadedLemmas
+pub mod PutLemmas
+pub mod ReferenceLemmas
+pub mod TellLemmas

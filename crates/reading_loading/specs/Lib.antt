@@ -1,0 +1,3 @@
+pub mod Puts
+pub mod Lines
+pub mod Loading

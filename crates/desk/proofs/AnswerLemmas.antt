@@ -13,7 +13,7 @@ use Rattle.history.specs.Accepted.{accepted}
 use Rattle.history.specs.After.{after_turns}
 use Rattle.history.specs.Awaited.{pending_days}
 use Rattle.history.specs.Events.{History}
-use Rattle.history.specs.Verdicts.{Verdict, Refuses, verdict}
+use Rattle.history.specs.Verdicts.{Verdict, Repeats, Refuses, Accepts, verdict}
 use Rattle.http_api.specs.Replies.{bytes_of}
 use Rattle.http_api.specs.declared.asks.Ask.{Ask}
 use Rattle.http_api.specs.declared.asks.Ask.TheVariants as asks
@@ -184,3 +184,14 @@ unwritten refusals.JournalFull told reply fault none = refl
 unwritten refusals.NoMemory told reply fault none = refl
 unwritten (refusals.JournalFault in_doubt) told reply fault none =
     absurd (fault_told in_doubt (ap (λ (t : Told). told_bytes t reply) (sym (fault in_doubt refl)) ∙ none))
+
+-- an edit that is told want of memory leaves the history
+own_leaves : (v : Verdict) (h : History) (edit : Edit) (number : ℕ) → memory_reply ≡ edit_reply v number → history_by v h edit ≡ h
+own_leaves (Repeats earlier) h edit number told = refl
+own_leaves (Refuses refusal) h edit number told = refl
+own_leaves Accepts h edit number told = absurd (accepted_told number false (sym told))
+
+pub memory_leaves : (h : History) (edit : Edit) (next : History) → IsAnswered h (asks.Edit edit) memory_reply next → next ≡ h
+memory_leaves h edit next (inl own) = own.1 ∙ own_leaves (verdict h edit) h edit (length (accepted h.events) + 1) own.0
+memory_leaves h edit next (inr (inl fails)) = absurd (fault_told fails.0 (sym fails.1))
+memory_leaves h edit next (inr (inr none)) = none.1

@@ -57,14 +57,14 @@ is_look fixed last from r looked job told is found =
 
 module _ (fixed : Fixed) where
   -- what was done whole was done partly
-  whole_turns : (n : ℕ) (xs : Holdings) → AreTurns fixed n xs → AreTurnsPartly fixed n xs
-  whole_turns n [] is = tt
-  whole_turns zero (x ∷ xs) is = absurd (cc)
+  pub whole_turns : (n : ℕ) (xs : Holdings) → AreTurns fixed n xs → AreTurnsPartly fixed n xs
+  whole_turns zero xs is = is
+  whole_turns (suc n) [] is = absurd is
   whole_turns (suc n) (look ∷ []) is = is.0
   whole_turns (suc n) (look ∷ (publication ∷ xs)) is = (is.0, is.1, is.2, whole_turns n xs is.3)
 
-  whole_settlement : (last : Option (SiteNumber × ℤ)) (xs : Holdings) → IsSettlement fixed last xs → IsSettlementPartly fixed last xs
-  whole_settlement last [] is = tt
+  pub whole_settlement : (last : Option (SiteNumber × ℤ)) (xs : Holdings) → IsSettlement fixed last xs → IsSettlementPartly fixed last xs
+  whole_settlement last [] is = absurd is
   whole_settlement last (look ∷ []) is = is.0
   whole_settlement last (look ∷ (publication ∷ xs)) is = (is.0, is.1, is.2, whole_settlement (looked_at is.0) xs is.3)
 

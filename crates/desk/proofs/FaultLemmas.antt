@@ -71,7 +71,7 @@ plain_denied (denials.Body which) = refl
 plain_denied (denials.Rdb fault) = refl
 plain_denied denials.NoMemory = refl
 
-plain_memory : tells_fault memory_reply ≡ false
+pub plain_memory : tells_fault memory_reply ≡ false
 unfolding bytes_of digits
 plain_memory = refl
 
@@ -121,7 +121,7 @@ unfolding bytes_of digits
 plain_measurement number None = refl
 plain_measurement number (Some station) = plain_departure _
 
-plain_turned : (pending published : ℕ) → tells_fault (bytes_of (replies.Turned pending published)) ≡ false
+pub plain_turned : (pending published : ℕ) → tells_fault (bytes_of (replies.Turned pending published)) ≡ false
 unfolding bytes_of digits
 plain_turned pending published = refl
 
@@ -194,8 +194,16 @@ left_none h asks.Counts next left = ap (λ (x : History). fault_count x.events) 
 
 module _ (tells : List ℕ → Bool) where
   -- what a text counts for
-  counts_for : List ℕ → ℕ
+  pub counts_for : List ℕ → ℕ
   counts_for text = cond (tells text) 1 0
+
+  pub counts_none : (text : List ℕ) → tells text ≡ false → counts_for text ≡ 0
+  unfolding counts_for
+  counts_none text none = ap (λ (told : Bool). cond told 1 0) none
+
+  pub counts_first : (text : List ℕ) (texts : List (List ℕ)) → count_by tells (text ∷ texts) ≡ counts_for text + count_by tells texts
+  unfolding counts_for
+  counts_first text texts = sum_by-cons (λ (t : List ℕ). cond (tells t) 1 0) text texts
 
   -- a text tells as many faults as have happened
   pub Tells : History → List ℕ → History → Type 0
@@ -204,9 +212,7 @@ module _ (tells : List ℕ → Bool) where
   -- one that tells none, and one that tells one
   pub tells_none : (h next : History) (text : List ℕ) → tells text ≡ false → fault_count next.events ≡ fault_count h.events → Tells h text next
   unfolding Tells counts_for
-  tells_none h next text none same =
-      let zero_more : counts_for text ≡ 0 = ap (λ (told : Bool). cond told 1 0) none in
-      omega (arith, same, zero_more)
+  tells_none h next text none same = let zero_more = counts_none text none in omega (arith, same, zero_more)
 
   pub tells_one : (h next : History) (left : Option Record) (text : List ℕ) → tells text ≡ true → next ≡ after_fault h left → Tells h text next
   unfolding Tells counts_for
@@ -214,6 +220,10 @@ module _ (tells : List ℕ → Bool) where
       let one_more : counts_for text ≡ 1 = ap (λ (told : Bool). cond told 1 0) told in
       let one : fault_count next.events ≡ fault_count h.events + 1 = ap (λ (x : History). fault_count x.events) is ∙ fault_adds_one h left in
       omega (arith, one, one_more)
+
+  pub faults_told : (h : History) (text : List ℕ) (next : History) → Tells h text next → fault_count next.events ≡ fault_count h.events + counts_for text
+  unfolding Tells
+  faults_told h text next told = told
 
   -- no text, and a text before others
   pub none_told : (h after : History) → after ≡ h → fault_count after.events ≡ fault_count h.events + count_by tells []
@@ -226,10 +236,10 @@ module _ (tells : List ℕ → Bool) where
       → fault_count after.events ≡ fault_count mid.events + count_by tells texts → fault_count after.events ≡ fault_count h.events + count_by tells (text ∷ texts)
   unfolding Tells counts_for
   more_told h mid after text texts first rest =
-      let split : count_by tells (text ∷ texts) ≡ counts_for text + count_by tells texts = sum_by-cons (λ (t : List ℕ). cond (tells t) 1 0) text texts in
+      let split = counts_first text texts in
       omega (arith, first, rest, split)
 
-abbrev TellsFault : History → List ℕ → History → Type 0
+abbrev pub TellsFault : History → List ℕ → History → Type 0
 TellsFault = Tells tells_fault
 
 plain_as : (h next : History) (due reply : List ℕ) → tells_fault due ≡ false → reply ≡ due → fault_count next.events ≡ fault_count h.events → TellsFault h reply next
@@ -247,41 +257,49 @@ failed h (asks.Turns count) reply next fails = absurd fails
 failed h asks.Settle reply next fails = absurd fails
 failed h asks.Counts reply next fails = absurd fails
 
-answered : (h : History) (ask : Ask) (reply : List ℕ) (next : History) → IsAnswered h ask reply next → TellsFault h reply next
+pub answered : (h : History) (ask : Ask) (reply : List ℕ) (next : History) → IsAnswered h ask reply next → TellsFault h reply next
 answered h ask reply next (inl due) =
     plain_as h next (reply_to h ask) reply (plain_own h ask) due.0 (ap (λ (x : History). fault_count x.events) due.1 ∙ own_none h ask)
 answered h ask reply next (inr (inl fails)) = failed h ask reply next fails
 answered h ask reply next (inr (inr none)) = plain_as h next memory_reply reply plain_memory none.0 (left_none h ask next none.1)
 
-forgone : (h next : History) (reply : List ℕ) → (reply ≡ memory_reply) × (next ≡ h) → TellsFault h reply next
-forgone h next reply none = plain_as h next memory_reply reply plain_memory none.0 (ap (λ (x : History). fault_count x.events) none.1)
-
-answered_by : (h : History) (asked : Result Question Denied) (reply : List ℕ) (next : History) → IsAnsweredBy IsAnswered h asked reply next → TellsFault h reply next
-answered_by h (Ok asked) reply next is = answered h is.0 reply next is.2
-answered_by h (Err denied) reply next is =
-    plain_as h next (bytes_of (replies.Denied denied)) reply (plain_denied denied) is.0 (ap (λ (x : History). fault_count x.events) is.1)
-
-requested : (h : History) (asked : Result Question Denied) (reply : List ℕ) (next : History)
-    → IsAnsweredBy IsAnswered h asked reply next ⊎ ((reply ≡ memory_reply) × (next ≡ h)) → TellsFault h reply next
-requested h asked reply next (inl is) = answered_by h asked reply next is
-requested h asked reply next (inr none) = forgone h next reply none
-
 due_plain : (due reply : List ℕ) → tells_fault due ≡ false → (reply ≡ due) ⊎ (reply ≡ memory_reply) → tells_fault reply ≡ false
 due_plain due reply none (inl is) = ap tells_fault is ∙ none
 due_plain due reply none (inr is) = ap tells_fault is ∙ plain_memory
 
-told : (h : History) (due reply : List ℕ) (next : History) → tells_fault due ≡ false → IsTold IsAnswered h due reply next → TellsFault h reply next
-told h due reply next none is = tells_none tells_fault h next reply (due_plain due reply none is.0) (ap (λ (x : History). fault_count x.events) is.1)
+-- What holds of each answer holds of each reply to a message, where it holds of replies that tell no fault while nothing is asked.
+module _ {X : Type 0} (Answers : X → Ask → List ℕ → X → Type 0) (Holds : X → List ℕ → X → Type 0)
+    (by_answer : (x y : X) (ask : Ask) (reply : List ℕ) → Answers x ask reply y → Holds x reply y)
+    (unasked : (x y : X) (reply : List ℕ) → tells_fault reply ≡ false → y ≡ x → Holds x reply y) where
+  of_asked : (x y : X) (asked : Result Question Denied) (reply : List ℕ) → IsAnsweredBy Answers x asked reply y → Holds x reply y
+  of_asked x y (Ok asked) reply is = by_answer x y is.0 reply is.2
+  of_asked x y (Err denied) reply is = unasked x y reply (ap tells_fault is.0 ∙ plain_denied denied) is.1
 
-replied : (h : History) (message : Message) (reply : List ℕ) (next : History) → IsReplied IsAnswered h message reply next → TellsFault h reply next
-replied h (messages.Request verb target body) reply next is = requested h (ask_of verb target body) reply next is
-replied h messages.NoLength reply next is = told h (bytes_of replies.NoLength) reply next plain_no_length is
-replied h messages.TooLarge reply next is = told h (bytes_of replies.TooLarge) reply next plain_too_large is
-replied h messages.NoMemory reply next is = forgone h next reply is
-replied h messages.End reply next is = absurd is
-replied h (messages.Malformed at) reply next is = absurd is
-replied h messages.Long reply next is = absurd is
-replied h messages.Failed reply next is = absurd is
+  of_forgone : (x y : X) (reply : List ℕ) → (reply ≡ memory_reply) × (y ≡ x) → Holds x reply y
+  of_forgone x y reply none = unasked x y reply (ap tells_fault none.0 ∙ plain_memory) none.1
+
+  of_requested : (x y : X) (asked : Result Question Denied) (reply : List ℕ) → IsAnsweredBy Answers x asked reply y ⊎ ((reply ≡ memory_reply) × (y ≡ x))
+      → Holds x reply y
+  of_requested x y asked reply (inl is) = of_asked x y asked reply is
+  of_requested x y asked reply (inr none) = of_forgone x y reply none
+
+  of_told : (x y : X) (due reply : List ℕ) → tells_fault due ≡ false → IsTold Answers x due reply y → Holds x reply y
+  of_told x y due reply none is = unasked x y reply (due_plain due reply none is.0) is.1
+
+  pub of_replied : (x y : X) (message : Message) (reply : List ℕ) → IsReplied Answers x message reply y → Holds x reply y
+  of_replied x y (messages.Request verb target body) reply is = of_requested x y (ask_of verb target body) reply is
+  of_replied x y messages.NoLength reply is = of_told x y (bytes_of replies.NoLength) reply plain_no_length is
+  of_replied x y messages.TooLarge reply is = of_told x y (bytes_of replies.TooLarge) reply plain_too_large is
+  of_replied x y messages.NoMemory reply is = of_forgone x y reply is
+  of_replied x y messages.End reply is = absurd is
+  of_replied x y (messages.Malformed at) reply is = absurd is
+  of_replied x y messages.Long reply is = absurd is
+  of_replied x y messages.Failed reply is = absurd is
+
+replied : (h next : History) (message : Message) (reply : List ℕ) → IsReplied IsAnswered h message reply next → TellsFault h reply next
+replied h next message reply is =
+    of_replied IsAnswered TellsFault (λ from to ask told answers. answered from ask told to answers)
+    (λ from to told none same. tells_none tells_fault from to told none (ap (λ (x : History). fault_count x.events) same)) h next message reply is
 
 pub all_told : (h : History) (ms : List Message) (rs : List (List ℕ)) (after : History) → AreReplies h ms rs after
     → fault_count after.events ≡ fault_count h.events + count_by tells_fault rs
@@ -289,7 +307,7 @@ all_told h [] [] after is = none_told tells_fault h after is
 all_told h [] (r ∷ rs) after is = absurd is
 all_told h (m ∷ ms) [] after is = absurd is
 all_told h (m ∷ ms) (r ∷ rs) after is =
-    more_told tells_fault h is.0 after r rs (replied h m r is.0 is.1) (all_told is.0 ms rs after is.2)
+    more_told tells_fault h is.0 after r rs (replied h is.0 m r is.1) (all_told is.0 ms rs after is.2)
 
 -- no fault is among the edits that were found
 pub count_reopened : (pieces : List Record) (since : List Event) → fault_count (map Accepted pieces ++ since) ≡ fault_count since

@@ -6,9 +6,13 @@ pub mod ChainLemmas
 pub mod DayByDayLemmas
 pub mod EndLemmas
 pub mod FaultLemmas
+pub mod GrowthLemmas
 pub mod OneReplyLemmas
 pub mod PassingLemmas
+pub mod PendingOrderLemmas
 pub mod RepliesLemmas
 pub mod SessionLemmas
+pub mod SharedFaultLemmas
 pub mod StretchLemmas
+pub mod TouchLemmas
 pub mod TurnLemmas

@@ -24,6 +24,12 @@ use Rattle.records.specs.Sheets.{Record}
 pub go_on_none : (h : History) → go_on h [] ≡ h
 go_on_none h = ap (λ (e : List Event). record { opened = h.opened; limits = h.limits; events = e }) (append-nil h.events)
 
+-- days were published, and then others
+pub published_on : (h : History) (days more : List SiteDay) → after_publications (after_publications h days) more ≡ after_publications h (days ++ more)
+published_on h days more =
+    ap (λ (e : List Event). record { opened = h.opened; limits = h.limits; events = e })
+    (append_assoc h.events (map publication days) (map publication more) ∙ ap (λ (e : List Event). h.events ++ e) (sym (map-append publication days more)))
+
 -- days were published, and nothing else happened
 pub record Publishes (h after : History) : Type 0 where
   pub days : List SiteDay
@@ -36,9 +42,7 @@ pub publishes_more : (h mid after : History) → Publishes h mid → Publishes m
 publishes_more h mid after first second = record {
   days = first.days ++ second.days;
   after_is = second.after_is ∙ ap (λ (m : History). after_publications m second.days) first.after_is
-      ∙ ap (λ (e : List Event). record { opened = h.opened; limits = h.limits; events = e })
-      (append_assoc h.events (map publication first.days) (map publication second.days)
-      ∙ ap (λ (e : List Event). h.events ++ e) (sym (map-append publication first.days second.days)));
+      ∙ published_on h first.days second.days;
 }
 
 left_now : (h : History) (behind : List Event) (image : List ℕ) → IsLeft h image → IsLeftBefore (go_on h []) behind image

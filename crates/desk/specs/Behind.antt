@@ -1,5 +1,5 @@
 -- What is answered to an ask behind a lock, and the holdings in which that was found out.
-use Rattle.std.specs.Prelude.{◌≡◌, ◌⊎◌, ℕ, zero, suc, ◌+◌, ◌-◌, List, [], ◌∷◌, ◌++◌, length, Option, Some, None, option_map, ⊤, ℤ}
+use Rattle.std.specs.Prelude.{◌≡◌, ◌⊎◌, ℕ, zero, suc, ◌+◌, ◌-◌, List, [], ◌∷◌, ◌++◌, length, Option, Some, None, option_map, ℤ}
 use Rattle.desk.specs.Replies as alone
 use Rattle.desk.specs.Replying.{memory_reply}
 use Rattle.fixed_units.specs.Quantities.{SiteNumber}
@@ -10,11 +10,12 @@ use Rattle.http_api.specs.declared.asks.Ask.{Ask}
 use Rattle.http_api.specs.declared.asks.Ask.TheVariants as asks
 use Rattle.http_api.specs.declared.replies.Reply.TheVariants as replies
 use Rattle.history.specs.Events.{Event}
+use Rattle.office.specs.Counting.{fault_count}
 use Rattle.recompute.specs.Jobs.{DayJob}
 use Rattle.register.specs.Asked.{job_at, next_after, outcome_at}
-use Rattle.shared_office.specs.Entries.{history_of}
+use Rattle.shared_office.specs.Entries.{events_in, history_of}
 use Rattle.shared_office.specs.Finding.{published_by}
-use Rattle.shared_office.specs.Holdings.{Holding, last_of}
+use Rattle.shared_office.specs.Holdings.{Holding, Follow, last_of}
 use Rattle.shared_office.specs.Passing.{adding}
 use Rattle.shared_office.specs.declared.entries.Entry.{Entry}
 use Rattle.shared_office.specs.declared.entries.Fixed.{Fixed}
@@ -27,6 +28,15 @@ looked_at job = Some (job.site, job.day)
 abbrev pub grown : List (Holding (List Entry)) → ℕ
 grown [] = 0
 grown (x ∷ xs) = (length x.to - length x.from) + grown xs
+
+-- how many faults of the journal they added
+abbrev pub faults_added : List (Holding (List Entry)) → ℕ
+faults_added [] = 0
+faults_added (x ∷ xs) = (fault_count (events_in x.to) - fault_count (events_in x.from)) + faults_added xs
+
+-- holdings that touch, from one list to another: each begins with what the one before it left, so nobody else did anything in between
+abbrev pub Touch : List Entry → List (Holding (List Entry)) → List Entry → Type 0
+Touch = Follow (λ before after. after ≡ before)
 
 module _ (fixed : Fixed) where
   -- a look for the first pending day behind one, or of all
@@ -53,16 +63,17 @@ module _ (fixed : Fixed) where
   IsSettlement last (look ∷ (publication ∷ xs)) =
       (job : DayJob) × IsLook last (Some job) look × IsPublication job publication × IsSettlement (looked_at job) xs
 
-  -- the front of either that want of memory cut off, at a look or at the reply
+  -- either as far as there was memory, which ran out in the last look, or at the reply behind the whole: each look before found its day,
+  -- whose job was published
   abbrev pub AreTurnsPartly : ℕ → List (Holding (List Entry)) → Type 0
-  AreTurnsPartly n [] = ⊤
-  AreTurnsPartly zero (x ∷ xs) = ⊥
+  AreTurnsPartly zero xs = xs ≡ []
+  AreTurnsPartly (suc n) [] = ⊥
   AreTurnsPartly (suc n) (look ∷ []) = look ≡ adding look.from []
   AreTurnsPartly (suc n) (look ∷ (publication ∷ xs)) =
       (job : DayJob) × IsLook None (Some job) look × IsPublication job publication × AreTurnsPartly n xs
 
   abbrev pub IsSettlementPartly : Option (SiteNumber × ℤ) → List (Holding (List Entry)) → Type 0
-  IsSettlementPartly last [] = ⊤
+  IsSettlementPartly last [] = ⊥
   IsSettlementPartly last (look ∷ []) = look ≡ adding look.from []
   IsSettlementPartly last (look ∷ (publication ∷ xs)) =
       (job : DayJob) × IsLook last (Some job) look × IsPublication job publication × IsSettlementPartly (looked_at job) xs

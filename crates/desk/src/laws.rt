@@ -1,13 +1,32 @@
-//! What holds of the replies of every session.
+//! What holds of the replies of a session, over an office that nobody else asks and over one behind a lock.
 
-ghost use Rattle.std.specs.Prelude.{◌≡◌, ◌+◌, ℕ, List, All, count_by};
-ghost use Rattle.desk.specs.Replies.{AreReplies, IsOwn, tells_fault};
+ghost use Rattle.std.specs.Prelude.{◌≡◌, ◌+◌, ◌-◌, ◌^◌, ◌≤◌, ℕ, List, [], ◌∷◌, All, count_by, min};
+ghost use mathlib.Core.List.{IsPrefix};
+ghost use Rattle.desk.specs.Behind as behind;
+ghost use Rattle.desk.specs.Behind.{Touch, Uses, faults_added};
+ghost use Rattle.desk.specs.Replies.{AreReplies, IsAnswered, IsOwn, tells_fault};
+ghost use Rattle.desk.specs.Replying as replying;
+ghost use Rattle.desk.specs.Replying.{memory_reply};
+ghost use Rattle.desk.specs.Serving.{EndsIn};
+ghost use Rattle.desk.specs.Sessions.{IsServed};
+ghost use Rattle.desk.specs.declared.sessions.SessionEnd.{SessionEnd};
+ghost use Rattle.devices.specs.Doors.{Ends};
+ghost use Rattle.edits.specs.declared.content.Edit.{Edit};
 ghost use Rattle.history.specs.After.{reopen};
 ghost use Rattle.history.specs.Events.{History};
+ghost use Rattle.http_api.specs.declared.asks.Ask.TheVariants as asks;
 ghost use Rattle.office.specs.Counting.{fault_count};
 ghost use Rattle.office_inputs.specs.declared.limits.Limits.{Limits};
 ghost use Rattle.records.specs.Sheets.{Record};
+ghost use Rattle.shared_office.specs.Entries.{events_in, history_of};
+ghost use Rattle.shared_office.specs.Holdings.{Holding, Follow};
+ghost use Rattle.shared_office.specs.Passing.{adding, listed};
+ghost use Rattle.shared_office.specs.declared.entries.Entry.{Entry};
+ghost use Rattle.shared_office.specs.declared.entries.Fixed.{Fixed};
 ghost use Rattle.wire.specs.declared.messages.Message.{Message};
+
+use devices::Disk;
+use shared_office::Shared;
 
 /// What is replied to messages, and what has happened behind them, hangs on the history and the messages alone: where memory did not run
 /// out and no journal failed, there is one list of replies, and one last history.
@@ -24,3 +43,42 @@ pub fn each_fault_has_its_reply()
     ensures all { (limits : Limits) (pieces : List Record) (after : History) (messages : List Message) (replies : List (List ℕ))
         → AreReplies (reopen limits pieces) messages replies after → fault_count after.events ≡ count_by tells_fault replies }
 {}
+
+/// An edit that is told want of memory leaves the history as it was, and behind a lock its holding adds nothing.
+pub fn want_of_memory_accepts_nothing()
+    ensures alone { (h next : History) (edit : Edit) → IsAnswered h (asks.Edit edit) memory_reply next → next ≡ h }
+    ensures behind { (fixed : Fixed) (edit : Edit) (holdings : List (Holding (List Entry))) → behind.IsAnswered fixed (asks.Edit edit) memory_reply holdings
+        → (from : List Entry) × (holdings ≡ adding from [] ∷ []) }
+{}
+
+/// A session behind a lock whose holdings touch, so that nobody else did anything between them, replied what a session may reply over an
+/// office that nobody else asks, and left what that leaves: turns and settlements that are made of looks and publications are those of the
+/// history.
+pub fn holdings_that_touch_are_of_one_thread()
+    ensures replies { (fixed : Fixed) (from to : List Entry) (holdings : List (Holding (List Entry))) (messages : List Message) (replies : List (List ℕ))
+        → Touch from holdings to → replying.AreReplies (Uses fixed) holdings messages replies []
+        → AreReplies (history_of fixed from) messages replies (history_of fixed to) }
+    ensures served { (fixed : Fixed) (from to : List Entry) (holdings : List (Holding (List Entry))) (before after : Ends) (end : SessionEnd)
+        → Touch from holdings to → EndsIn fixed before after end holdings
+        → IsServed (history_of fixed from) (history_of fixed to) end before.left after.left before.written after.written }
+{}
+
+/// Each reply of the status 503 behind a lock stands for one fault of the journal that a holding of its session added, and each of these has
+/// one such reply. So they are no more than the faults that have joined the list since the session began, and none where no fault has.
+pub fn each_fault_has_its_reply_behind_a_lock()
+    ensures added { (fixed : Fixed) (holdings : List (Holding (List Entry))) (messages : List Message) (replies : List (List ℕ))
+        → replying.AreReplies (Uses fixed) holdings messages replies [] → faults_added holdings ≡ count_by tells_fault replies }
+    ensures few { (fixed : Fixed) (start list : List Entry) (holdings : List (Holding (List Entry))) (messages : List Message) (replies : List (List ℕ))
+        → Follow IsPrefix start holdings list → replying.AreReplies (Uses fixed) holdings messages replies []
+        → fault_count (events_in start) + count_by tells_fault replies ≤ fault_count (events_in list) }
+{}
+
+/// No more replies of a session behind a lock are 503 than the disk of the office has counted faults, unless its count stands at the end of
+/// its type: none over a disk that has counted none.
+pub fn the_disk_has_counted_each_503<D: Disk>(shared: &Shared<D>)
+    ensures { (fixed : Fixed) (start : List Entry) (holdings : List (Holding (List Entry))) (messages : List Message) (replies : List (List ℕ))
+        → Follow IsPrefix start holdings (listed shared.now) → replying.AreReplies (Uses fixed) holdings messages replies []
+        → min (count_by tells_fault replies) (2 ^ 64 - 1) ≤ D.faults shared.now.office.disk }
+{
+    let _ = &shared.office;
+}

@@ -3,6 +3,7 @@
 
 ghost use Rattle.std.specs.Prelude.{◌≡◌, ◌≢◌, ◌<◌, ◌≤◌, ℕ, List, Option, None, Some, IfSome, IfOk, IfErr, OnErr, if◌then◌else◌};
 ghost use Rattle.desk.specs.Answering.{told_bytes};
+ghost use Rattle.desk.specs.Asked.{AnswersAlone};
 ghost use Rattle.desk.specs.Endings.{is_malformed};
 ghost use Rattle.desk.specs.Passing.{Passes};
 ghost use Rattle.desk.specs.Replying.{IsReplied};
@@ -42,8 +43,9 @@ pub enum SessionEnd {
 }
 
 /// Serves the messages of a source over an office that nobody else asks, until it ends. What is written is what the office replies to what is
-/// read. Each edit is in the journal before it is replied to, and a stop at any moment leaves the journal of the edits that were accepted up to
-/// some point of the history, or of these and one more.
+/// read: each message is answered by the office as it then stood, and where the reply is that of want of memory its disk is as it was. Each
+/// edit is in the journal before it is replied to, and a stop at any moment leaves the journal of the edits that were accepted up to some
+/// point of the history, or of these and one more.
 pub fn session_alone<D: Disk, S: Source, K: Sink>(
     alloc: Global,
     office: &mut Office<D>,
@@ -52,6 +54,7 @@ pub fn session_alone<D: Disk, S: Source, K: Sink>(
 ) -> SessionEnd
     requires { NoneOut office.old.register }
     ensures served { IsServed office.old.register.history office.new.register.history result (S.left source.old) (S.left source.new) (K.written sink.old) (K.written sink.new) }
+    ensures answered { IsServedBy (AnswersAlone D.Disk) office.old office.new result (S.left source.old) (S.left source.new) (K.written sink.old) (K.written sink.new) }
     ensures passed { Passes D.Disk office.old.register.history office.new.register.history office.old.disk office.new.disk }
     ensures disk_counted { D.faults office.old.disk ≤ D.faults office.new.disk }
     ensures input_counted { S.faults source.old ≤ S.faults source.new }

@@ -26,7 +26,7 @@ use Rattle.shared_office.specs.declared.shared.Found.{Found}
 use Rattle.shared_office.specs.declared.shared.Found.TheVariants.{Drained}
 use Rattle.shared_office.specs.declared.shared.Shared.{Shared}
 
-events_on : (xs ys : List Entry) → events_in (xs ++ ys) ≡ events_in xs ++ events_in ys
+pub events_on : (xs ys : List Entry) → events_in (xs ++ ys) ≡ events_in xs ++ events_in ys
 events_on [] ys = refl
 events_on (Happened e ∷ xs) ys = ap (λ zs. e ∷ zs) (events_on xs ys)
 events_on (Ending ∷ xs) ys = events_on xs ys
@@ -41,7 +41,7 @@ taken_and_dropped (suc n) [] = refl
 taken_and_dropped (suc n) (e ∷ es) = ap (λ zs. e ∷ zs) (taken_and_dropped n es)
 
 -- the events are read off the list
-events_of_entries : (ending : Option ℕ) (events : List Event) → events_in (entries events ending) ≡ events
+pub events_of_entries : (ending : Option ℕ) (events : List Event) → events_in (entries events ending) ≡ events
 events_of_entries None events = events_happened events
 events_of_entries (Some n) events =
     events_on (map Happened (take n events)) (Ending ∷ map Happened (drop n events))
@@ -68,11 +68,14 @@ ending_told events None ended told before = rw (not_ended events) (told refl)
 ending_told events (Some n) ended told before =
     rw (ended_entries events (Some n) refl) (ap (λ (e : Option ℕ). entries events e) (before refl))
 
--- the history of a list that goes on
-history_on : (fixed : Fixed) (list : List Entry) (added : List Event) → history_of fixed (with_events list added) ≡ go_on (history_of fixed list) added
+-- the events and the history of a list that goes on
+pub events_more : (list : List Entry) (added : List Event) → events_in (with_events list added) ≡ events_in list ++ added
+events_more list added = events_on list (map Happened added) ∙ ap (λ zs. events_in list ++ zs) (events_happened added)
+
+pub history_on : (fixed : Fixed) (list : List Entry) (added : List Event) → history_of fixed (with_events list added) ≡ go_on (history_of fixed list) added
 history_on fixed list added =
     ap (λ (events : List Event). record { opened = fixed.opened; limits = fixed.limits; events = events })
-    (events_on list (map Happened added) ∙ ap (λ zs. events_in list ++ zs) (events_happened added))
+    (events_more list added)
 
 ends_on : (told : Bool) (list : List Entry) → IsPrefix list (if told then list else list ++ Ending ∷ [])
 ends_on true list = prefix_here list

@@ -1,9 +1,9 @@
 -- What is found in a shared office by a look and by a worker, and what a worker does to it.
-use Rattle.std.specs.Prelude.{◌≡◌, ◌⊎◌, ℕ, List, [], ◌∷◌, length, Option, Some, None, IsSome, option_map, Result, Ok, Err, ⊤, ℤ}
+use Rattle.std.specs.Prelude.{◌≡◌, ◌≢◌, ◌↔◌, ◌⊎◌, ℕ, List, [], ◌∷◌, length, Option, Some, None, IsSome, option_map, Result, Ok, Err, ⊤, ℤ}
 use Rattle.fixed_units.specs.Quantities.{SiteNumber}
 use Rattle.fixed_units.specs.declared.texts.NoMemory.{NoMemory}
 use Rattle.history.specs.After.{publication}
-use Rattle.history.specs.Awaited.{pending_days}
+use Rattle.history.specs.Awaited.{awaited, pending_days}
 use Rattle.history.specs.Events.{Event, History}
 use Rattle.office.specs.Steps.{Step, AClaim, ALook, APublication}
 use Rattle.recompute.specs.Jobs.{DayJob}
@@ -54,6 +54,10 @@ published_by Published job = publication (day_of job) ∷ []
 published_by Settled job = []
 published_by (Superseded edit) job = []
 published_by Foreign job = []
+
+-- a job comes out as published exactly where its day awaits the edit that the job awaits, and never as foreign
+abbrev pub ComesOutAsAwaited : History → DayJob → Publish → Type 0
+ComesOutAsAwaited h job outcome = (outcome ≡ Published ↔ awaited h.events job.site job.day ≡ Some job.awaits) × (outcome ≢ Foreign)
 
 -- what a worker does while it has the office: a claim, a look for the first pending day or the publication of a job
 abbrev pub IsWorkStep : Step → Type 0

@@ -1,10 +1,7 @@
 //! What is done in one holding of the lock: the office is taken, one thing is done to it, and it is given back.
 
 ghost use Rattle.std.specs.Prelude.{◌≡◌, ◌<◌, ◌^◌, [], List, length, Ok, IfOk};
-ghost use Rattle.history.specs.After.{go_on};
 ghost use Rattle.history.specs.Awaited.{pending_days};
-ghost use Rattle.history.specs.Events.{Event};
-ghost use Rattle.office.specs.Edits.{Edits};
 ghost use Rattle.office.specs.Steps.{APublication};
 ghost use Rattle.register.specs.Asked.{outcome_at};
 ghost use Rattle.shared_office.specs.Finding.{IsLooked, published_by};
@@ -15,30 +12,10 @@ ghost use Rattle.turnstile.specs.Passes.{seen};
 
 use crate::shared::{Found, Looked, Shared};
 use devices::Disk;
-use edits::Edit;
 use fixed_units::{Day, NoMemory, Site};
-use office::Accepted;
-use office_inputs::Refusal;
 use recompute::{Done, Publish};
 use std::sync::Wait;
 use turnstile::{Kept, Pass, Turnstile};
-
-/// Keeps an edit in the journal and accepts it, as [`office::Office::take`] does.
-pub fn take<R: Wait, D: Disk>(
-    rt: &R,
-    lock: &Turnstile<Shared<D>>,
-    pass: Pass<Shared<D>>,
-    edit: Edit,
-) -> (Pass<Shared<D>>, Result<Accepted, Refusal>)
-    requires { IsOf lock.now pass }
-    ensures pass { IsOf lock.now result.0 }
-    ensures held { (from : List Entry) × (added : List Event) × GoesOnce pass result.0 (adding from added)
-        × Edits (history_in lock.now from) edit (go_on (history_in lock.now from) added) result.1 }
-{
-    let mut held = lock.enter(rt, pass);
-    let told = held.value_mut().take(edit);
-    (lock.leave(held), told)
-}
 
 /// Looks for what there is to do for a worker.
 pub fn find<R: Wait, D: Disk>(

@@ -4,6 +4,7 @@
 pub mod computing;
 pub mod entries;
 pub mod holdings;
+pub mod laws;
 pub mod shared;
 
 pub use computing::compute;

@@ -16,7 +16,7 @@ use Rattle.serving.proofs.EventLemmas.{IsEventAt, all_weaker, ended_on, ended_wi
 use Rattle.serving.proofs.TakingLemmas.{all_later}
 use Rattle.serving.proofs.WorkedLemmas.{IsAny, IsPublished, session_adds, tasks_add}
 use Rattle.shared_office.specs.Entries.{before_ending, has_ended, with_ending}
-use Rattle.shared_office.specs.Passing.{Lock}
+use Rattle.shared_office.specs.Passing.{Lock, fixed_in}
 use Rattle.shared_office.specs.declared.entries.Entry.{Entry}
 use Rattle.shared_office.specs.declared.entries.Entry.TheVariants.{Happened, Ending}
 use Rattle.shared_office.specs.declared.entries.Fixed.{Fixed}
@@ -55,11 +55,11 @@ published_in lock list ps w =
 
 -- What was seen at the start; what was seen once the connections were taken in; what was there when the end was told; and what is seen then.
 -- The tally is that of the whole share.
-module _ {D : Type 0} {g : Ghosts D} (lock : Lock D g) (fixed : Fixed) (before taken from after : List Entry) (tally_before tally_after : List ℕ) (given : List Ends) (back : ℕ → Option Ends)
-    (connections workers : List (List ℕ)) (first : ℕ) where
+module _ {D : Type 0} {g : Ghosts D} (lock : Lock D g) (before taken from after : List Entry) (tally_before tally_after : List ℕ) (given : List Ends) (back : ℕ → Option Ends)
+    (connections workers : List (List ℕ)) (count first : ℕ) where
   module _ (unended : has_ended before ≡ false) (within : All (λ place. place < length before) tally_before) (begun : first ≤ length before)
-      (grows : IsPrefix before taken) (enters : IsPrefix taken from) (leaves : IsPrefix (with_ending from) after)
-      (served : AreServed fixed (length before) taken back 1 given connections) (work : All (IsWorkIn lock after) workers)
+      (count_is : length workers ≡ count) (grows : IsPrefix before taken) (enters : IsPrefix taken from) (leaves : IsPrefix (with_ending from) after)
+      (served : AreServed (fixed_in lock) (length before) taken back 1 given connections) (work : All (IsWorkIn lock after) workers)
       (tally_is : tally_after ≡ ((tally_before ++ concat connections) ++ places (length from) (length (with_ending from) - length from)) ++ concat workers)
       (once : IsEachOnce first (length after) tally_after) where
     counted : (place : ℕ) → times place tally_after ≡ times place tally_before + (times place (concat connections)
@@ -86,8 +86,8 @@ module _ {D : Type 0} {g : Ghosts D} (lock : Lock D g) (fixed : Fixed) (before t
         let longest = prefix_length from after on in
         let none_before = times_behind (length before) place tally_before above (recursion_from_All (λ p. p < length before) tally_before within) in
         let none_connected = times_of_all IsAny after place connections at
-        (connections_at fixed (length before) after back 1 given connections
-        (all_later fixed (length before) taken after back 1 given connections (prefix_on taken from after enters on) served)) in
+        (connections_at (fixed_in lock) (length before) after back 1 given connections
+        (all_later (fixed_in lock) (length before) taken after back 1 given connections (prefix_on taken from after enters on) served)) in
         let none_worked = times_of_all IsPublished after place workers at
         (all_weaker (IsWorkIn lock after) (λ ps. AllByRecursion (IsEventAt IsPublished after) ps) (work_at lock after) workers
         (recursion_from_All (IsWorkIn lock after) workers work)) in
@@ -96,7 +96,7 @@ module _ {D : Type 0} {g : Ghosts D} (lock : Lock D g) (fixed : Fixed) (before t
         let c = counted place in let o = once place in
         omega (arith, none_before, none_connected, none_worked, none_ended, once_there, c, o)
 
-    beside_by : has_ended from ≡ false → ServedBeside fixed before after tally_before tally_after given back
+    beside_by : has_ended from ≡ false → ServedBeside lock count before after tally_before tally_after given back
     beside_by untold =
         let same : with_ending from ≡ from ++ Ending ∷ [] = ap (λ b. if b then from else from ++ Ending ∷ []) untold in
         let on : IsPrefix (from ++ Ending ∷ []) after = subst (λ (l : List Entry). IsPrefix l after) same leaves in
@@ -108,10 +108,12 @@ module _ {D : Type 0} {g : Ghosts D} (lock : Lock D g) (fixed : Fixed) (before t
         ap (λ k. places (length from) k) n ∙ ap (λ (l : List Entry). length l ∷ []) (sym front)) in record {
           connections = connections;
           workers = workers;
+          count_is = count_is;
           grows = prefix_on before taken after grows (prefix_on taken from after enters (Ending ∷ on.0, whole));
           ended = subst (λ (l : List Entry). has_ended l ≡ true) whole (open_on from (Ending ∷ on.0) untold);
-          each = subst (λ (l : List Entry). AreServed fixed (length before) l back 1 given connections) (sym front)
-              (all_later fixed (length before) taken from back 1 given connections enters served);
+          each = subst (λ (l : List Entry). AreServed (fixed_in lock) (length before) l back 1 given connections) (sym front)
+              (all_later (fixed_in lock) (length before) taken from back 1 given connections enters served);
+          work = work;
           published = All-from_recursion (λ ps. All (IsPublicationAt after) ps) workers
               (all_weaker (IsWorkIn lock after) (λ ps. All (IsPublicationAt after) ps) (published_in lock after) workers (recursion_from_All (IsWorkIn lock after) workers work));
           tally = λ place.
@@ -122,9 +124,9 @@ module _ {D : Type 0} {g : Ghosts D} (lock : Lock D g) (fixed : Fixed) (before t
               omega (arith, c, e, a, b);
         }
 
-    by_ending : (told : Bool) → has_ended from ≡ told → ServedBeside fixed before after tally_before tally_after given back
+    by_ending : (told : Bool) → has_ended from ≡ told → ServedBeside lock count before after tally_before tally_after given back
     by_ending true told = absurd (not_before told)
     by_ending false told = beside_by told
 
-    pub beside : ServedBeside fixed before after tally_before tally_after given back
+    pub beside : ServedBeside lock count before after tally_before tally_after given back
     beside = by_ending (has_ended from) refl

@@ -47,8 +47,8 @@ turns_add fixed (suc n) (look ∷ []) a = (adding_adds look [] a.0, tt)
 turns_add fixed (suc n) (look ∷ (p ∷ xs)) a = (adding_adds look [] a.1.0, (adding_adds p _ a.2, turns_add fixed n xs a.3))
 
 turns_partly : (fixed : Fixed) (n : ℕ) (xs : List (Holding (List Entry))) → AreTurnsPartly fixed n xs → AllAdd xs
-turns_partly fixed n [] a = tt
-turns_partly fixed zero (x ∷ xs) a = absurd a
+turns_partly fixed zero xs a = subst AllAdd (sym a) tt
+turns_partly fixed (suc n) [] a = absurd a
 turns_partly fixed (suc n) (look ∷ []) a = (adding_adds look [] a, tt)
 turns_partly fixed (suc n) (look ∷ (p ∷ xs)) a = (adding_adds look [] a.1.0, (adding_adds p _ a.2, turns_partly fixed n xs a.3))
 
@@ -58,7 +58,7 @@ settlement_adds fixed last (look ∷ []) a = (adding_adds look [] a.0, tt)
 settlement_adds fixed last (look ∷ (p ∷ xs)) a = (adding_adds look [] a.1.0, (adding_adds p _ a.2, settlement_adds fixed (looked_at a.0) xs a.3))
 
 settlement_partly : (fixed : Fixed) (last : Option (SiteNumber × ℤ)) (xs : List (Holding (List Entry))) → IsSettlementPartly fixed last xs → AllAdd xs
-settlement_partly fixed last [] a = tt
+settlement_partly fixed last [] a = absurd a
 settlement_partly fixed last (look ∷ []) a = (adding_adds look [] a, tt)
 settlement_partly fixed last (look ∷ (p ∷ xs)) a = (adding_adds look [] a.1.0, (adding_adds p _ a.2, settlement_partly fixed (looked_at a.0) xs a.3))
 

@@ -1,6 +1,6 @@
 //! Connections taken from the doors, each served by a pass that is split off.
 
-ghost use Rattle.std.specs.Prelude.{◌≡◌, ◌+◌, ◌<◌, ◌≤◌, ℕ, All, List, [], false, length, true, vec_capacity, vec_len};
+ghost use Rattle.std.specs.Prelude.{◌≡◌, ◌+◌, ◌<◌, ◌≤◌, ℕ, All, List, [], false, true, vec_capacity, vec_len};
 ghost use mathlib.Core.List.{IsPrefix};
 ghost use Rattle.devices.specs.Doors.{ends_of};
 ghost use Rattle.devices.specs.Faults.{Rose};

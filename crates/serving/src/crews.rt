@@ -1,7 +1,6 @@
 //! Workers beside sessions, each in a thread where one can be started.
 
-ghost use Rattle.std.specs.Prelude.{◌≡◌, ◌+◌, ◌<◌, ◌≤◌, [], All, IfErr, IfOk, IfSome, vec_capacity, vec_len};
-ghost use mathlib.Core.List.{IsPrefix};
+ghost use Rattle.std.specs.Prelude.{◌≡◌, ◌+◌, ◌<◌, All, IfErr, IfOk, IfSome, vec_len};
 ghost use Rattle.serving.specs.Crews.{AreJoined, IsCrew, IsDue, IsEmployed, IsJoined, IsOutcome, IsRoom};
 ghost use Rattle.shared_office.specs.Passing.{IsOf, PassTo};
 ghost use Rattle.turnstile.specs.Passes.{seen, share, tally};
@@ -217,8 +216,8 @@ pub fn start_workers<
     (pass, Crew { tasks, kept })
 }
 
-/// The end of a worker: one that was handed back works now.
-fn end_of<R: Wait + Clock, D: Disk, G: Gate + Drop>(
+/// What a worker came to: one that was handed back works now.
+fn worked<R: Wait + Clock, D: Disk, G: Gate + Drop>(
     rt: &R,
     lock: &Turnstile<Shared<D>>,
     outcome: Outcome<D, G>,
@@ -245,7 +244,7 @@ fn end_and_join<R: Wait + Clock, D: Disk, G: Gate + Drop>(
     ensures pass { IsOf lock.now result }
     ensures joined { IsJoined lock.now pass result }
 {
-    let (other, _) = end_of(rt, lock, outcome);
+    let (other, _) = worked(rt, lock, outcome);
     lock.join(pass, other)
 }
 

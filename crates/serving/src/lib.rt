@@ -4,6 +4,7 @@
 mod accepting;
 pub mod connections;
 pub mod crews;
+pub mod laws;
 mod sending;
 mod taking;
 pub mod whole;

@@ -6,7 +6,7 @@ ghost use Rattle.devices.specs.Faults.{Rose};
 ghost use Rattle.serving.specs.Crews.{IsCrew, IsRoom};
 ghost use Rattle.serving.specs.Serving.{IsServeEnd, ServedBeside};
 ghost use Rattle.shared_office.specs.Entries.{has_ended};
-ghost use Rattle.shared_office.specs.Passing.{IsOf, fixed_in};
+ghost use Rattle.shared_office.specs.Passing.{IsOf};
 ghost use Rattle.turnstile.specs.Passes.{seen, share, tally};
 
 use crate::accepting::take_connections;
@@ -68,7 +68,7 @@ pub fn serve_all<
     ensures begins { IsPrefix (seen pass) (seen result.0) }
     ensures end { IsServeEnd result.1 connections (L.told doors.new).given (L.faults doors.old) (L.faults doors.new) }
     ensures listens { L.listens doors.new ≡ true }
-    ensures served { result.1 ≢ ServeEnd.NoMemory → ServedBeside (fixed_in lock.now.value) (seen pass) (seen result.0) (tally pass) (tally result.0) (L.told doors.new).given (L.told doors.new).back }
+    ensures served { result.1 ≢ ServeEnd.NoMemory → ServedBeside lock.now.value workers (seen pass) (seen result.0) (tally pass) (tally result.0) (L.told doors.new).given (L.told doors.new).back }
     ensures unserved { result.1 ≡ ServeEnd.NoMemory → (doors.new ≡ doors.old) × (spawner.new ≡ spawner.old) × (result.0 ≡ pass) }
 {
     let Some(room) = Room::new(alloc, lock, workers) else {
@@ -95,7 +95,7 @@ pub fn serve_all<
         workers,
         connections,
     );
-    (pass, end_of(all))
+    (pass, serve_end(all))
 }
 
 /// The same, once there is room for all tasks, and whether all connections were given.
@@ -135,7 +135,7 @@ fn serve_in_room<
     ensures all { result.1 ≡ true → (length (L.told doors.new).given ≡ connections) × (L.faults doors.new ≡ L.faults doors.old) }
     ensures failed { result.1 ≡ false → (length (L.told doors.new).given < connections) × Rose (L.faults doors.old) (L.faults doors.new) }
     ensures listens { L.listens doors.new ≡ true }
-    ensures served { ServedBeside (fixed_in lock.now) (seen pass) (seen result.0) (tally pass) (tally result.0) (L.told doors.new).given (L.told doors.new).back }
+    ensures served { ServedBeside lock.now workers (seen pass) (seen result.0) (tally pass) (tally result.0) (L.told doors.new).given (L.told doors.new).back }
 {
     let (pass, crew) = start_workers(rt, lock, room, pass, gate, spawner, workers);
     serve_beside::<R, D, L, P, G>(
@@ -189,7 +189,7 @@ fn serve_beside<
     ensures all { result.1 ≡ true → (length (L.told doors.new).given ≡ connections) × (L.faults doors.new ≡ L.faults doors.old) }
     ensures failed { result.1 ≡ false → (length (L.told doors.new).given < connections) × Rose (L.faults doors.old) (L.faults doors.new) }
     ensures listens { L.listens doors.new ≡ true }
-    ensures served { ServedBeside (fixed_in lock.now) (seen pass) (seen result.0) (tally pass) (tally result.0) (L.told doors.new).given (L.told doors.new).back }
+    ensures served { ServedBeside lock.now workers (seen pass) (seen result.0) (tally pass) (tally result.0) (L.told doors.new).given (L.told doors.new).back }
 {
     let mut locks = locks;
     let mut tasks = tasks;
@@ -212,7 +212,7 @@ fn serve_beside<
 }
 
 /// The end, by whether all connections were given.
-fn end_of(all: bool) -> ServeEnd
+fn serve_end(all: bool) -> ServeEnd
     ensures end { result ≡ (if all then ServeEnd.End else ServeEnd.DoorFault) }
 {
     if all {

@@ -9,7 +9,7 @@ use Rattle.serving.proofs.BesideLemmas.{beside}
 use Rattle.serving.proofs.CrewLemmas.{work_later}
 use Rattle.serving.proofs.TakingLemmas.{as_many}
 use Rattle.shared_office.specs.Entries.{with_ending}
-use Rattle.shared_office.specs.Passing.{fixed_in, listed}
+use Rattle.shared_office.specs.Passing.{listed}
 use Rattle.shared_office.specs.declared.entries.Entry.{Entry}
 use Rattle.turnstile.proofs.ListLemmas.{prefix_on}
 use Rattle.turnstile.specs.Passes.{first_value, seen, share, tally}
@@ -77,9 +77,9 @@ returns-clause-served g c =
     let shares : share c.finish_workers-pass.result ≡ 2 ^ 32 =
     (let a = c.requires.share in let b = c.take_connections-pass.ensures.share in let d = c.take_in_all-pass.ensures.share in
     let k = e.1.share_is in let f = j.share_is in omega (arith, a, b, d, k, f)) in
-    beside lock (fixed_in lock) (seen c.args.pass) (seen c.take_in_all-pass.result) e.0 after (tally c.args.pass) (tally c.glance.new.pass)
-    (g.L.Doors.told c.take_in_all-pass.new.doors).given (g.L.Doors.told c.take_in_all-pass.new.doors).back h.0 j.workers first c.requires.open
-    c.requires.pass.1.within c.requires.pass.1.begun
+    beside lock (seen c.args.pass) (seen c.take_in_all-pass.result) e.0 after (tally c.args.pass) (tally c.glance.new.pass)
+    (g.L.Doors.told c.take_in_all-pass.new.doors).given (g.L.Doors.told c.take_in_all-pass.new.doors).back h.0 j.workers c.args.workers first c.requires.open
+    c.requires.pass.1.within c.requires.pass.1.begun j.count_is
     (prefix_on (seen c.args.pass) (seen c.take_connections-pass.result.0) (seen c.take_in_all-pass.result) c.take_connections-pass.ensures.begins c.take_in_all-pass.ensures.begins)
     e.1.begins
     (subst (λ (l : List Entry). IsPrefix l after) e.1.seen_is (prefix_on (seen c.end-pass.result) (seen c.finish_workers-pass.result) after j.begins gl.begins))

@@ -3,7 +3,6 @@ use Rattle.std.proofs.Common.{false, ap, ◌∙◌, subst}
 use mathlib.Core.List.{IsPrefix}
 use Rattle.serving.specs.Serving.{ServedBeside}
 use Rattle.shared_office.specs.Entries.{has_ended}
-use Rattle.shared_office.specs.Passing.{fixed_in}
 use Rattle.shared_office.specs.declared.entries.Entry.{Entry}
 use Rattle.turnstile.specs.Passes.{seen, tally}
 use Rattle.serving.proofs.whole.serve_in_room.Goals as goal
@@ -18,6 +17,6 @@ returns-clause-begins g c =
 pub returns-clause-served : goal.returns-clause-served
 returns-clause-served g c =
     let same = c.start_workers-pass.ensures.same in let told = g.L.Doors.told c.serve_beside.new.doors in
-    subst (λ (l : List Entry). ServedBeside (fixed_in c.args.lock.now) l (seen c.serve_beside.result.0) (tally c.args.pass) (tally c.serve_beside.result.0) told.given told.back) same.0
-    (subst (λ (t : List ℕ). ServedBeside (fixed_in c.args.lock.now) (seen c.start_workers-pass.result.0) (seen c.serve_beside.result.0) t (tally c.serve_beside.result.0) told.given
+    subst (λ (l : List Entry). ServedBeside c.args.lock.now c.args.workers l (seen c.serve_beside.result.0) (tally c.args.pass) (tally c.serve_beside.result.0) told.given told.back) same.0
+    (subst (λ (t : List ℕ). ServedBeside c.args.lock.now c.args.workers (seen c.start_workers-pass.result.0) (seen c.serve_beside.result.0) t (tally c.serve_beside.result.0) told.given
     told.back) same.1 c.serve_beside.ensures.served)

@@ -1,5 +1,7 @@
+pub mod DayLemmas
+pub mod FindLemmas
 pub mod LawLemmas
 pub mod OptionLemmas
 pub mod ReadLemmas
-pub mod TakeLemmas
+pub mod ValueLemmas
 pub mod WordLemmas

@@ -1,62 +1,138 @@
 -- What the words of options tell: the options, and in which order they stand.
-use Rattle.std.proofs.Common.{◌≡◌, ◌≢◌, ℕ, ◌<◌, ◌≤◌, true, false, List, [], ◌∷◌, ◌++◌, length, get_or, codes, ◌^◌, ◌==◌, Option, Some, None, MatchOption, Result, Ok, Err, Bor, map, lit<, refl, sym, ◌∙◌, ap, subst, arith}
-use Rattle.std.specs.List.{before_first, after_first, position_or_len}
+use Rattle.std.proofs.Common.{◌≡◌, ◌≢◌, ℕ, ◌+◌, ◌<◌, ◌≤◌, true, false, Bool, not, cond, if◌then◌else◌, take, drop, List, [], ◌∷◌, ◌++◌, length, get_or, ◌^◌, ◌==◌, Option, Some, None, MatchOption, Result, Ok, Err, Bor, map, lit<, refl, sym, ◌∙◌, ap, subst, arith}
+use Rattle.std.specs.List.{before_first, after_first, position_or_len, prefix_len}
 use Rattle.std.specs.Str.Parse.{AllDigits, ParsesUnsigned, digits_value}
 use Rattle.std.specs.Result.{result_ok}
+use Rattle.std.proofs.Math.Seq.{take-append_seam, drop-append-add}
+use Rattle.std.proofs.lemmas.Bool.Decides.{Decides-eqb}
+use Rattle.std.proofs.lemmas.List.{length-append}
+use Rattle.std.proofs.lemmas.List.Folds.{prefix_len-append}
 use Rattle.std.proofs.lemmas.Str.Parse.{IsNumeralModel, numerals_by_value, tells_digits, parse_plain, digits_value_short}
 use Rattle.std.proofs.lemmas.Str.Pattern.{IsSplitOnceResult, split_parts, split_once_first}
 use Rattle.command_words.specs.Reading.{NoneStandsFirst, given_by}
 use Rattle.command_words.specs.declared.options.CommandOption.{CommandOption}
-use Rattle.command_words.specs.Words.{Given, Journal, Numeric, option_word, numeric_word, IsNumber, IsValueOf, IsOption, AreOptions}
+use Rattle.edits.specs.declared.measurements.Grade.{Grade}
+use Rattle.edits.specs.declared.measurements.Grade.TheVariants.{Excellent, Good, Fair, Poor}
+use Rattle.command_words.specs.Words.{Given, Journal, Numeric, Station, Column, Sender, Reference, Dated, At, Gage, Graded, day_word, grade_word, option_word, numeric_word, IsNumber, IsValueOf, IsOption, AreOptions}
+use Rattle.command_words.specs.declared.days.DayOption.{DayOption}
+use Rattle.command_words.specs.declared.days.DayOption.TheVariants.{From, To}
 use Rattle.command_words.specs.declared.numbers.NumericOption.{NumericOption}
-use Rattle.command_words.specs.declared.numbers.NumericOption.TheVariants.{Number, Port, Workers, Connections}
+use Rattle.command_words.specs.declared.numbers.NumericOption.TheVariants.{Number, Port, Workers, Connections, Turns, Year}
 
 -- no option's word has an equals sign
-pub cut_word : (option : Given) → position_or_len (λ b. b == 61) (option_word option) ≡ length (option_word option)
-cut_word (Journal name) = refl
-cut_word (Numeric Number number) = refl
-cut_word (Numeric Port number) = refl
-cut_word (Numeric Workers number) = refl
-cut_word (Numeric Connections number) = refl
+numeric_cut : (option : NumericOption) → position_or_len (λ b. b == 61) (numeric_word option) ≡ length (numeric_word option)
+numeric_cut Number = refl
+numeric_cut Port = refl
+numeric_cut Workers = refl
+numeric_cut Connections = refl
+numeric_cut Turns = refl
+numeric_cut Year = refl
 
--- so what stands before the first one is the option's word, and what stands behind it the value
+day_cut : (option : DayOption) → position_or_len (λ b. b == 61) (day_word option) ≡ length (day_word option)
+day_cut From = refl
+day_cut To = refl
+
+cut_word : (option : Given) → position_or_len (λ b. b == 61) (option_word option) ≡ length (option_word option)
+cut_word (Numeric option number) = numeric_cut option
+cut_word (Dated option day) = day_cut option
+cut_word option = refl
+
+-- so the first one behind an option's word is that of a joined option
+cut_joined : (option : Given) (value : List ℕ) → position_or_len (λ b. b == 61) (option_word option ++ (61 ∷ value)) ≡ length (option_word option)
+cut_joined option value =
+    let word : List ℕ = option_word option in
+    let whole : (prefix_len (λ b. not (b == 61)) word == length word) ≡ true = (Decides-eqb _ _).1 (cut_word option) in
+    prefix_len-append (λ b. not (b == 61)) word (61 ∷ value)
+    ∙ ap (λ (t : Bool). cond t (length word + 0) (prefix_len (λ b. not (b == 61)) word)) whole
+    ∙ omega arith
+
+-- what stands before it is the option's word, and what stands behind it the value
 pub word_before : (option : Given) (value : List ℕ) → before_first (λ b. b == 61) (option_word option ++ (61 ∷ value)) ≡ option_word option
-word_before (Journal name) value = refl
-word_before (Numeric Number number) value = refl
-word_before (Numeric Port number) value = refl
-word_before (Numeric Workers number) value = refl
-word_before (Numeric Connections number) value = refl
+word_before option value =
+    ap (λ (n : ℕ). take n (option_word option ++ (61 ∷ value))) (cut_joined option value) ∙ take-append_seam (option_word option) (61 ∷ value)
 
 pub value_after : (option : Given) (value : List ℕ) → after_first (λ b. b == 61) (option_word option ++ (61 ∷ value)) ≡ value
-value_after (Journal name) value = refl
-value_after (Numeric Number number) value = refl
-value_after (Numeric Port number) value = refl
-value_after (Numeric Workers number) value = refl
-value_after (Numeric Connections number) value = refl
+value_after option value =
+    ap (λ (n : ℕ). drop (n + 1) (option_word option ++ (61 ∷ value))) (cut_joined option value)
+    ∙ drop-append-add (option_word option) (61 ∷ value) 1
 
-pub cut_joined : (option : Given) (value : List ℕ) → position_or_len (λ b. b == 61) (option_word option ++ (61 ∷ value)) < length (option_word option ++ (61 ∷ value))
-cut_joined (Journal name) value = omega arith
-cut_joined (Numeric Number number) value = omega arith
-cut_joined (Numeric Port number) value = omega arith
-cut_joined (Numeric Workers number) value = omega arith
-cut_joined (Numeric Connections number) value = omega arith
+-- the kinds of options, by their words' third and fifth letters
+abbrev kind : Given → ℕ
+kind (Journal name) = 0
+kind (Numeric option number) = 1
+kind (Station site) = 2
+kind (Column name) = 3
+kind (Sender letters) = 4
+kind (Reference text) = 5
+kind (Dated option day) = 6
+kind (At instant) = 7
+kind (Gage stage) = 8
+kind (Graded grade) = 9
 
--- the third letters of their words tell options apart
+abbrev kind_by : ℕ → ℕ → ℕ
+kind_by third fifth =
+    if third == 106 then 0
+    else (if third == 115 then 2
+    else (if third == 98 then 4
+    else (if third == 114 then 5
+    else (if third == 102 then 6
+    else (if third == 97 then 7
+    else (if third == 99 then (if fifth == 110 then 1 else 3)
+    else (if third == 116 then (if fifth == 114 then 1 else 6)
+    else (if third == 103 then (if fifth == 103 then 8 else 9)
+    else 1))))))))
+
+abbrev kind_at : List ℕ → ℕ
+kind_at word = kind_by (get_or word 2 0) (get_or word 4 0)
+
+numeric_kind : (option : NumericOption) → kind_at (numeric_word option) ≡ 1
+numeric_kind Number = refl
+numeric_kind Port = refl
+numeric_kind Workers = refl
+numeric_kind Connections = refl
+numeric_kind Turns = refl
+numeric_kind Year = refl
+
+day_kind : (option : DayOption) → kind_at (day_word option) ≡ 6
+day_kind From = refl
+day_kind To = refl
+
+kind_told : (option : Given) → kind_at (option_word option) ≡ kind option
+kind_told (Numeric option number) = numeric_kind option
+kind_told (Dated option day) = day_kind option
+kind_told option = refl
+
+pub same_kind : (a b : Given) → option_word a ≡ option_word b → kind a ≡ kind b
+same_kind a b w = sym (kind_told a) ∙ ap kind_at w ∙ kind_told b
+
+-- the third letters of their words tell options with numbers apart, and those with days
 third : {a b : List ℕ} → a ≡ b → get_or a 2 0 ≡ get_or b 2 0
 third e = ap (λ (t : List ℕ). get_or t 2 0) e
 
-same_numeric : (a b : NumericOption) → numeric_word a ≡ numeric_word b → a ≡ b
+pub same_numeric : (a b : NumericOption) → numeric_word a ≡ numeric_word b → a ≡ b
 same_numeric Number Number w = refl
 same_numeric Port Port w = refl
 same_numeric Workers Workers w = refl
 same_numeric Connections Connections w = refl
+same_numeric Turns Turns w = refl
+same_numeric Year Year w = refl
 same_numeric a b w = absurd (omega (arith, third w))
 
-pub no_numeric : (a : NumericOption) → numeric_word a ≡ codes "--journal" → ⊥
-no_numeric Number w = omega (arith, third w)
-no_numeric Port w = omega (arith, third w)
-no_numeric Workers w = omega (arith, third w)
-no_numeric Connections w = omega (arith, third w)
+pub same_day : (a b : DayOption) → day_word a ≡ day_word b → a ≡ b
+same_day From From w = refl
+same_day To To w = refl
+same_day a b w = absurd (omega (arith, third w))
+
+-- the first letters tell grades apart
+first : {a b : List ℕ} → a ≡ b → get_or a 0 0 ≡ get_or b 0 0
+first e = ap (λ (t : List ℕ). get_or t 0 0) e
+
+same_grade : (a b : Grade) → grade_word a ≡ grade_word b → a ≡ b
+same_grade Excellent Excellent w = refl
+same_grade Good Good w = refl
+same_grade Fair Fair w = refl
+same_grade Poor Poor w = refl
+same_grade a b w = absurd (omega (arith, first w))
 
 -- options of one word and one value are one
 same_option : (a b : Given) (value : List ℕ) → option_word a ≡ option_word b → IsValueOf a value → IsValueOf b value → a ≡ b
@@ -65,13 +141,38 @@ same_option (Numeric a n) (Numeric b m) value w h k =
     let option = same_numeric a b w in
     let number : n ≡ m = h.0.2 ∙ sym k.0.2 in
     cc
-same_option (Journal a) (Numeric b m) value w h k = absurd (no_numeric b (sym w))
-same_option (Numeric a n) (Journal b) value w h k = absurd (no_numeric a w)
+same_option (Station a) (Station b) value w h k =
+    let same : a ≡ b = cc in
+    ap Station same
+same_option (Column a) (Column b) value w h k = ap Column (h.0 ∙ sym k.0)
+same_option (Sender a) (Sender b) value w h k = ap Sender (h.0 ∙ sym k.0)
+same_option (Reference a) (Reference b) value w h k = ap Reference (h.0 ∙ sym k.0)
+same_option (Dated a n) (Dated b m) value w h k =
+    let option = same_day a b w in
+    let day : n ≡ m = cc in
+    cc
+same_option (At a) (At b) value w h k =
+    let same : a ≡ b = cc in
+    ap At same
+same_option (Gage a) (Gage b) value w h k =
+    let one = h.0 in
+    let other = k.0 in
+    let same : a ≡ b = cc in
+    ap Gage same
+same_option (Graded a) (Graded b) value w h k = ap Graded (same_grade a b (sym h ∙ k))
+same_option a b value w h k = absurd (omega (arith, same_kind a b w))
 
 -- an option in one word has another word than one in two
 apart : (a b : Given) (value : List ℕ) → option_word a ++ (61 ∷ value) ≡ option_word b → ⊥
 apart a b value e =
-    omega (arith, cut_joined a value, cut_word b, ap (position_or_len (λ c. c == 61)) e, ap (length {A = ℕ}) e)
+    omega (
+      arith,
+      cut_joined a value,
+      cut_word b,
+      ap (position_or_len (λ c. c == 61)) e,
+      ap (length {A = ℕ}) e,
+      length-append (option_word a) (61 ∷ value),
+    )
 
 -- the first option of words is one, and so is what is behind it
 pub one_option : (a b : Given) (first other rest behind : List (List ℕ)) → first ++ rest ≡ other ++ behind

@@ -3,7 +3,7 @@ use Rattle.std.proofs.Common.{◌≡◌, ◌≢◌, ℕ, ◌≤◌, Bool, true, 
 use Rattle.std.proofs.lemmas.Bool.Decides.{nat_tests}
 use Rattle.std.proofs.lemmas.List.{length-append, length-map, map-append}
 use Rattle.std.proofs.lemmas.List.Sorted.{length_permutation}
-use Rattle.command_words.specs.Words.{Asked, Init, Batch, Serve, Stations, Trial, Given, AreOptions, StandsFirst, options_of}
+use Rattle.command_words.specs.Words.{Asked, Init, Batch, Serve, Stations, Trial, Import, Notes, Given, AreOptions, StandsFirst, options_of}
 use Rattle.command_words.specs.Reading.{AreNoCommands, NoneStandsFirst, given_by}
 use Rattle.command_words.specs.declared.options.CommandOption.{CommandOption}
 use Rattle.command_words.proofs.OptionLemmas.{one_option, no_empty_option}
@@ -53,18 +53,20 @@ none_first words read rest so_far some none = λ options asked are its.
     let parts = so_far.splits options are in
     no_first rest parts.0 some none parts.2
 
--- a command has four options at most
-few : (asked : Asked) → length (options_of asked) ≤ 4
+-- a command has eight options at most
+few : (asked : Asked) → length (options_of asked) ≤ 8
 few (Init name) = omega arith
 few (Batch name workers) = omega arith
 few (Serve name port workers connections) = omega arith
 few (Stations name) = omega arith
 few (Trial number) = omega arith
+few (Import order) = omega arith
+few (Notes order) = omega arith
 
--- so where one more follows four, the words are no command's
+-- so where one more follows eight, the words are no command's
 pub one_more : (words : List (List ℕ)) (read : List Given) (rest : List (List ℕ)) (option : Given) (behind : List (List ℕ))
-    → IsReadTo words read rest → StandsFirst option rest behind → length read ≡ 4 → AreNoCommands words
-one_more words read rest option behind so_far first four = λ options asked are its.
+    → IsReadTo words read rest → StandsFirst option rest behind → length read ≡ 8 → AreNoCommands words
+one_more words read rest option behind so_far first eight = λ options asked are its.
     let parts = so_far.splits options are in
     let left = behind_one option rest behind parts.0 first parts.2 in
     let whole : options ≡ read ++ (option ∷ left.0) = parts.1 ∙ ap (λ (l : List Given). read ++ l) left.1 in
@@ -75,7 +77,7 @@ one_more words read rest option behind so_far first four = λ options asked are 
       length-append options its.0,
       ap (length {A = Given}) whole,
       length-append read (option ∷ left.0),
-      four,
+      eight,
     )
 
 -- one is pushed behind those that were read
@@ -86,11 +88,11 @@ one_pushed words read rest option behind now is so_far first =
     subst (λ (l : List Given). IsReadTo words l behind) (sym (ap (map given_by) is ∙ map-append given_by read (option ∷ [])))
     (one_read words (map given_by read) rest (given_by option) behind so_far first)
 
--- four are read
-pub full : (read : List CommandOption) (tested : Bool) → tested ≡ (length read == 4) → tested ≡ true → length (map given_by read) ≡ 4
+-- eight are read
+pub full : (read : List CommandOption) (tested : Bool) → tested ≡ (length read == 8) → tested ≡ true → length (map given_by read) ≡ 8
 full read tested is holds =
-    let four : length read ≡ 4 = grind (arith, nat_tests) in
-    length-map read given_by ∙ four
+    let eight : length read ≡ 8 = grind (arith, nat_tests) in
+    length-map read given_by ∙ eight
 
 -- whether words are left
 pub words_left : {X Y : Type 0} (f : X → Y) (rest : List X) (empty : Bool) → empty ≡ (length rest == 0) → empty ≡ false → map f rest ≢ []

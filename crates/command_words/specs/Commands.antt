@@ -1,7 +1,33 @@
 -- What a command asks.
-use Rattle.command_words.specs.Words.{Asked, Init, Batch, Serve, Stations, Trial}
+use Rattle.command_words.specs.Words.{Asked, Init, Batch, Serve, Stations, Trial, Import, Notes, ImportAsked, NotesAsked}
+use Rattle.command_words.specs.declared.orders.ImportOrder.{ImportOrder}
+use Rattle.command_words.specs.declared.orders.NotesOrder.{NotesOrder}
 use Rattle.command_words.specs.declared.reading.Command.{Command}
 use Rattle.command_words.specs.declared.reading.Command.TheVariants as commands
+
+-- what the order of each kind asks
+abbrev pub import_asked : ImportOrder → ImportAsked
+import_asked order =
+    record {
+      journal = order.journal.now;
+      site = order.site;
+      column = order.column.now;
+      by = order.by.now;
+      reference = order.reference.now;
+    }
+
+abbrev pub notes_asked : NotesOrder → NotesAsked
+notes_asked order =
+    record {
+      journal = order.journal.now;
+      site = order.site;
+      number = order.number;
+      at = order.at;
+      gage = order.gage;
+      grade = order.grade;
+      by = order.by.now;
+      reference = order.reference.now;
+    }
 
 abbrev pub asked_by : Command → Asked
 asked_by (commands.Init name) = Init name.now
@@ -9,3 +35,5 @@ asked_by (commands.Batch name workers) = Batch name.now workers
 asked_by (commands.Serve name port workers connections) = Serve name.now port workers connections
 asked_by (commands.Stations name) = Stations name.now
 asked_by (commands.Trial number) = Trial number
+asked_by (commands.Import order) = Import (import_asked order)
+asked_by (commands.Notes order) = Notes (notes_asked order)

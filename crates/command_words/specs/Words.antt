@@ -1,22 +1,61 @@
 -- The words of the command line: what they ask, a command with its options in any order.
-use Rattle.std.specs.Prelude.{◌≡◌, ◌≢◌, ◌≤◌, ℕ, List, [], ◌∷◌, ◌++◌, length, codes, All, Contains, IsPermutation}
+use Rattle.std.specs.Prelude.{◌≡◌, ◌≢◌, ◌≤◌, ℕ, ℤ, List, [], ◌∷◌, ◌++◌, length, codes, Some, Ok, All, Contains, IsPermutation, ⊤}
 use Rattle.std.specs.Str.Parse.{IsNumeral, digits_value}
+use Rattle.civil_days.specs.Spelling.{day_of_text, stamp_of_text}
+use Rattle.edits.specs.Texts.{AreInitials, IsReference}
+use Rattle.edits.specs.declared.measurements.Grade.{Grade}
+use Rattle.edits.specs.declared.measurements.Grade.TheVariants.{Excellent, Good, Fair, Poor}
+use Rattle.fixed_units.specs.Decimals.{decimal_of}
+use Rattle.fixed_units.specs.Quantities.{SiteNumber, IsStage}
+use Rattle.site_texts.specs.SiteText.{site_of_text}
+use Rattle.command_words.specs.declared.days.DayOption.{DayOption}
+use Rattle.command_words.specs.declared.days.DayOption.TheVariants.{From, To}
 use Rattle.command_words.specs.declared.numbers.NumericOption.{NumericOption}
-use Rattle.command_words.specs.declared.numbers.NumericOption.TheVariants.{Number, Port, Workers, Connections}
+use Rattle.command_words.specs.declared.numbers.NumericOption.TheVariants.{Number, Port, Workers, Connections, Turns, Year}
+
+-- what `import` is asked: the journal's name, the site and the column of the unit values, by whom and under which reference
+pub record ImportAsked : Type 0 where
+  pub journal : List ℕ
+  pub site : SiteNumber
+  pub column : List ℕ
+  pub by : List ℕ
+  pub reference : List ℕ
+
+-- `notes`: the journal's name, and what the notes do not tell of the measurement; by whom and under which reference
+pub record NotesAsked : Type 0 where
+  pub journal : List ℕ
+  pub site : SiteNumber
+  pub number : ℕ
+  pub at : ℤ
+  pub gage : ℤ
+  pub grade : Grade
+  pub by : List ℕ
+  pub reference : List ℕ
 
 -- what is asked: a journal is made, the requests of an input are served over it, or those of connections, or the
--- stations of a document are added to it, each with the journal's name; or a trial, with its number
+-- stations of a document are added to it, each with the journal's name; or a trial, with its number; or unit values are
+-- put, or a measurement is put by its notes
 pub data Asked : Type 0 where
   Init : List ℕ → Asked
   Batch : List ℕ → ℕ → Asked
   Serve : List ℕ → ℕ → ℕ → ℕ → Asked
   Stations : List ℕ → Asked
   Trial : ℕ → Asked
+  Import : ImportAsked → Asked
+  Notes : NotesAsked → Asked
 
 -- an option, with what its value says
 pub data Given : Type 0 where
   Journal : List ℕ → Given
   Numeric : NumericOption → ℕ → Given
+  Station : SiteNumber → Given
+  Column : List ℕ → Given
+  Sender : List ℕ → Given
+  Reference : List ℕ → Given
+  Dated : DayOption → ℤ → Given
+  At : ℤ → Given
+  Gage : ℤ → Given
+  Graded : Grade → Given
 
 -- the command's word
 abbrev pub command_word : Asked → List ℕ
@@ -25,6 +64,8 @@ command_word (Batch name workers) = codes "batch"
 command_word (Serve name port workers connections) = codes "serve"
 command_word (Stations name) = codes "stations"
 command_word (Trial number) = codes "trial"
+command_word (Import order) = codes "import"
+command_word (Notes order) = codes "notes"
 
 -- the options of a command
 abbrev pub options_of : Asked → List Given
@@ -34,11 +75,23 @@ options_of (Serve name port workers connections) =
     Journal name ∷ Numeric Port port ∷ Numeric Workers workers ∷ Numeric Connections connections ∷ []
 options_of (Stations name) = Journal name ∷ []
 options_of (Trial number) = Numeric Number number ∷ []
+options_of (Import order) =
+    Journal order.journal ∷ Station order.site ∷ Column order.column ∷ Sender order.by ∷ Reference order.reference ∷ []
+options_of (Notes order) =
+    Journal order.journal ∷ Station order.site ∷ Numeric Number order.number ∷ At order.at ∷ Gage order.gage
+    ∷ Graded order.grade ∷ Sender order.by ∷ Reference order.reference ∷ []
 
 -- those of them that it does not need, each as it is where it is left out
 abbrev pub defaults_of : Asked → List Given
 defaults_of (Batch name workers) = Numeric Workers 0 ∷ []
 defaults_of asked = []
+
+-- what a command takes of what its options may say: `import` a reference of at most 30 bytes, to which a number is added,
+-- `notes` a number from 1
+abbrev pub Takes : Asked → Type 0
+Takes (Import order) = length order.reference ≤ 30
+Takes (Notes order) = 1 ≤ order.number
+Takes asked = ⊤
 
 -- the word of an option with a number
 abbrev pub numeric_word : NumericOption → List ℕ
@@ -46,6 +99,8 @@ numeric_word Number = codes "--number"
 numeric_word Port = codes "--port"
 numeric_word Workers = codes "--workers"
 numeric_word Connections = codes "--connections"
+numeric_word Turns = codes "--turns"
+numeric_word Year = codes "--year"
 
 -- the least number that it takes
 abbrev pub least_of : NumericOption → ℕ
@@ -53,6 +108,8 @@ least_of Number = 0
 least_of Port = 1
 least_of Workers = 0
 least_of Connections = 1
+least_of Turns = 0
+least_of Year = 1901
 
 -- and the greatest
 abbrev pub greatest_of : NumericOption → ℕ
@@ -60,14 +117,36 @@ greatest_of Number = 999999999
 greatest_of Port = 65535
 greatest_of Workers = 16
 greatest_of Connections = 10000
+greatest_of Turns = 999999999
+greatest_of Year = 2099
 
 abbrev pub IsInRange : NumericOption → ℕ → Type 0
 IsInRange option number = (least_of option ≤ number) × (number ≤ greatest_of option)
+
+-- the word of an option with a day
+abbrev pub day_word : DayOption → List ℕ
+day_word From = codes "--from"
+day_word To = codes "--to"
+
+-- the word of a grade
+abbrev pub grade_word : Grade → List ℕ
+grade_word Excellent = codes "excellent"
+grade_word Good = codes "good"
+grade_word Fair = codes "fair"
+grade_word Poor = codes "poor"
 
 -- the option's word
 abbrev pub option_word : Given → List ℕ
 option_word (Journal name) = codes "--journal"
 option_word (Numeric option number) = numeric_word option
+option_word (Station site) = codes "--site"
+option_word (Column name) = codes "--column"
+option_word (Sender letters) = codes "--by"
+option_word (Reference text) = codes "--ref"
+option_word (Dated option day) = day_word option
+option_word (At instant) = codes "--at"
+option_word (Gage stage) = codes "--gage"
+option_word (Graded grade) = codes "--grade"
 
 -- a number is 1 to 9 decimal digits
 abbrev pub IsNumber : List ℕ → ℕ → Type 0
@@ -77,10 +156,19 @@ IsNumber value number = IsNumeral 10 value × (length value ≤ 9) × (number �
 abbrev pub IsNumberOf : NumericOption → List ℕ → ℕ → Type 0
 IsNumberOf option value number = IsNumber value number × IsInRange option number
 
--- the option says this value: a name, which is not empty, or a number
+-- the option says this value: a name, which is not empty, or a number, a site, initials, a reference, a day, a stamp, a
+-- stage or a grade
 abbrev pub IsValueOf : Given → List ℕ → Type 0
 IsValueOf (Journal name) value = (name ≡ value) × (value ≢ [])
 IsValueOf (Numeric option number) value = IsNumberOf option value number
+IsValueOf (Station site) value = site_of_text value ≡ Some site
+IsValueOf (Column name) value = (name ≡ value) × (value ≢ [])
+IsValueOf (Sender letters) value = (letters ≡ value) × AreInitials value
+IsValueOf (Reference text) value = (text ≡ value) × IsReference value
+IsValueOf (Dated option day) value = day_of_text value ≡ Some day
+IsValueOf (At instant) value = stamp_of_text value ≡ Some instant
+IsValueOf (Gage stage) value = (decimal_of value ≡ Ok stage) × IsStage stage
+IsValueOf (Graded grade) value = value ≡ grade_word grade
 
 -- a value that is a word of its own does not begin with `-`
 abbrev pub IsWordOfItsOwn : List ℕ → Type 0
@@ -109,8 +197,8 @@ abbrev pub AreOptionsOf : Asked → List Given → Type 0
 AreOptionsOf asked options =
     (left_out : List Given) × All (Contains (defaults_of asked)) left_out × IsPermutation (options ++ left_out) (options_of asked)
 
--- these words ask this: its word, and its options, in any order
+-- these words ask this: its word, and its options, in any order, that say what it takes
 abbrev pub IsAsked : List (List ℕ) → Asked → Type 0
 IsAsked [] asked = ⊥
 IsAsked (word ∷ words) asked =
-    (word ≡ command_word asked) × (options : List Given) × AreOptionsOf asked options × AreOptions options words
+    (word ≡ command_word asked) × Takes asked × (options : List Given) × AreOptionsOf asked options × AreOptions options words

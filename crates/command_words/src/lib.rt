@@ -2,10 +2,13 @@
 //! the words that pass once more behind it.
 #![tactic(auto)]
 
+mod days;
 pub mod laws;
 mod numbers;
 mod options;
+pub mod orders;
 mod reading;
 mod second_reading;
 
+pub use orders::{ImportOrder, NotesOrder};
 pub use reading::{Command, WordsFault, read_words};

@@ -6,7 +6,7 @@ ghost use Rattle.command_words.specs.Words.{IsNumber, IsNumberOf, greatest_of, l
 /// An option whose value is a number.
 #[derive(Clone, Copy, PartialEq, Eq)]
 pub(crate) enum NumericOption {
-    /// The number of a trial, at most 999,999,999.
+    /// The number of a trial or of a measurement, at most 999,999,999.
     Number,
     /// The port that is listened on, 1 to 65,535.
     Port,
@@ -14,6 +14,10 @@ pub(crate) enum NumericOption {
     Workers,
     /// How many connections are served, 1 to 10,000.
     Connections,
+    /// How many turns are made, at most 999,999,999.
+    Turns,
+    /// The year in which a water year ends, 1901 to 2099.
+    Year,
 }
 
 impl NumericOption {
@@ -27,7 +31,23 @@ impl NumericOption {
             "--port" => Some(NumericOption::Port),
             "--workers" => Some(NumericOption::Workers),
             "--connections" => Some(NumericOption::Connections),
+            "--turns" => Some(NumericOption::Turns),
+            "--year" => Some(NumericOption::Year),
             _ => None,
+        }
+    }
+
+    /// Its word.
+    pub(crate) const fn word(self) -> &'static str
+        ensures { result.now ≡ numeric_word self }
+    {
+        match self {
+            NumericOption::Number => "--number",
+            NumericOption::Port => "--port",
+            NumericOption::Workers => "--workers",
+            NumericOption::Connections => "--connections",
+            NumericOption::Turns => "--turns",
+            NumericOption::Year => "--year",
         }
     }
 
@@ -48,8 +68,9 @@ impl NumericOption {
         ensures { result ≡ least_of self }
     {
         match self {
-            NumericOption::Number | NumericOption::Workers => 0,
+            NumericOption::Number | NumericOption::Workers | NumericOption::Turns => 0,
             NumericOption::Port | NumericOption::Connections => 1,
+            NumericOption::Year => 1_901,
         }
     }
 
@@ -57,10 +78,11 @@ impl NumericOption {
         ensures { result ≡ greatest_of self }
     {
         match self {
-            NumericOption::Number => 999_999_999,
+            NumericOption::Number | NumericOption::Turns => 999_999_999,
             NumericOption::Port => 65_535,
             NumericOption::Workers => 16,
             NumericOption::Connections => 10_000,
+            NumericOption::Year => 2_099,
         }
     }
 }

@@ -1,15 +1,21 @@
 //! The options behind a command's word: `--name value` in two words or `--name=value` in one, in any order.
 
-ghost use Rattle.std.specs.Prelude.{◌≡◌, ◌≢◌, ◌<◌, ◌↔◌, ℕ, List, [], ◌∷◌, ◌++◌, length, map, string_bytes, true, IsPermutation, MatchOption, IfSome};
+ghost use Rattle.std.specs.Prelude.{◌≡◌, ◌≢◌, ◌<◌, ℕ, List, [], ◌∷◌, ◌++◌, codes, length, map, string_bytes, Contains, MatchOption, IfSome};
 ghost use Rattle.std.specs.List.{count_by};
-ghost use Rattle.command_words.specs.Words.{Given, Journal, Numeric, AreOptions, IsOption, IsValueOf, StandsFirst, option_word};
-ghost use Rattle.command_words.specs.Reading.{AreNoCommands, NoneStandsFirst, given_by, given_in, is_journal, is_numeric};
+ghost use Rattle.edits.specs.declared.measurements.Grade.{Grade};
+ghost use Rattle.command_words.specs.Words.{Given, Journal, Numeric, Station, Column, Sender, Reference, Dated, At, Gage, Graded, AreOptions, IsOption, StandsFirst, day_word, grade_word, numeric_word, option_word};
+ghost use Rattle.command_words.specs.Reading.{AreNoCommands, IsFound, IsOptionOf, NoneStandsFirst, given_by, given_in, is_worded};
 
+use crate::days::DayOption;
 use crate::numbers::NumericOption;
 use arrayvec::ArrayVec;
+use civil_days::{read_day, read_instant};
+use edits::{By, Grade, Ref};
+use fixed_units::{Day, Micro, Second, Site, is_stage, read_decimal};
+use site_texts::read_site;
 
 /// The most options that a command has.
-const MOST: usize = 4;
+const MOST: usize = 8;
 
 /// An option, with what its value says.
 #[derive(Clone, Copy)]
@@ -18,6 +24,42 @@ pub(crate) enum CommandOption<'a> {
     Journal(&'a str),
     /// A number.
     Numeric(NumericOption, u32),
+    /// A site.
+    Station(Site),
+    /// The name of a column, which is not empty.
+    Column(&'a str),
+    /// The initials of a person.
+    Sender(&'a str),
+    /// A reference.
+    Reference(&'a str),
+    /// A day.
+    Dated(DayOption, Day),
+    /// A stamp.
+    At(Second),
+    /// A gage height.
+    Gage(Micro),
+    /// How good a measurement is.
+    Graded(Grade),
+}
+
+impl CommandOption<'_> {
+    /// Its word.
+    fn word(&self) -> &'static str
+        ensures { result.now ≡ option_word (given_by self.now) }
+    {
+        match self {
+            CommandOption::Journal(_) => "--journal",
+            CommandOption::Numeric(option, _) => option.word(),
+            CommandOption::Station(_) => "--site",
+            CommandOption::Column(_) => "--column",
+            CommandOption::Sender(_) => "--by",
+            CommandOption::Reference(_) => "--ref",
+            CommandOption::Dated(option, _) => option.word(),
+            CommandOption::At(_) => "--at",
+            CommandOption::Gage(_) => "--gage",
+            CommandOption::Graded(_) => "--grade",
+        }
+    }
 }
 
 impl Default for CommandOption<'_> {
@@ -26,49 +68,132 @@ impl Default for CommandOption<'_> {
     }
 }
 
-/// The options that were read, and not yet taken.
+/// The options that were read.
 #[derive(Drop)]
 pub(crate) struct Options<'a> {
     given: ArrayVec<CommandOption<'a>, MOST>,
 }
 
 impl<'a> Options<'a> {
-    /// Takes the journal's name out, where it is there.
-    pub(crate) fn take_journal(&mut self) -> Option<&'a str>
-        ensures { MatchOption result (count_by is_journal (given_in self.old) ≡ 0)
-            (λ name. IsPermutation (given_in self.old) (Journal name.now ∷ given_in self.new)) }
+    /// How many there are.
+    pub(crate) fn count(&self) -> usize
+        ensures { result ≡ length (given_in self.now) }
     {
-        for at in 0..self.given.len() {
-            if let CommandOption::Journal(name) = self.given[at] {
-                self.given.swap_remove(at);
-                return Some(name);
+        self.given.len()
+    }
+
+    /// The first option of this word.
+    fn find(&self, word: &str) -> Option<&CommandOption<'a>>
+        ensures { MatchOption result (count_by (is_worded word.now) (given_in self.now) ≡ 0)
+            (λ option. Contains (given_in self.now) (given_by option.now) × (option_word (given_by option.now) ≡ word.now)) }
+    {
+        let given = self.given.as_slice();
+        for option in given {
+            if option.word() == word {
+                return Some(option);
             }
         }
         None
     }
 
-    /// Takes the number of this option out, where it is there.
-    pub(crate) fn take_number(&mut self, option: NumericOption) -> Option<u32>
-        ensures taken { MatchOption result (count_by (is_numeric option) (given_in self.old) ≡ 0)
-            (λ number. IsPermutation (given_in self.old) (Numeric option number ∷ given_in self.new)) }
-        ensures kept { result ≡ None → given_in self.new ≡ given_in self.old }
+    /// The journal's name.
+    pub(crate) fn journal(&self) -> Option<&'a str>
+        ensures { IsFound (codes "--journal") (λ name. Journal name.now) (given_in self.now) result }
     {
-        for at in 0..self.given.len() {
-            if let CommandOption::Numeric(other, number) = self.given[at]
-                && other == option
-            {
-                self.given.swap_remove(at);
-                return Some(number);
-            }
+        match self.find("--journal") {
+            Some(CommandOption::Journal(name)) => Some(*name),
+            _ => None,
         }
-        None
     }
 
-    /// Whether all are taken.
-    pub(crate) fn is_empty(&self) -> bool
-        ensures { (result ≡ true) ↔ (given_in self.now ≡ []) }
+    /// The number of this option.
+    pub(crate) fn number(&self, option: NumericOption) -> Option<u32>
+        ensures { IsFound (numeric_word option) (Numeric option) (given_in self.now) result }
     {
-        self.given.is_empty()
+        match self.find(option.word()) {
+            Some(CommandOption::Numeric(_, number)) => Some(*number),
+            _ => None,
+        }
+    }
+
+    /// The site.
+    pub(crate) fn site(&self) -> Option<Site>
+        ensures { IsFound (codes "--site") Station (given_in self.now) result }
+    {
+        match self.find("--site") {
+            Some(CommandOption::Station(site)) => Some(*site),
+            _ => None,
+        }
+    }
+
+    /// The name of the column.
+    pub(crate) fn column(&self) -> Option<&'a str>
+        ensures { IsFound (codes "--column") (λ name. Column name.now) (given_in self.now) result }
+    {
+        match self.find("--column") {
+            Some(CommandOption::Column(name)) => Some(*name),
+            _ => None,
+        }
+    }
+
+    /// The initials of the person.
+    pub(crate) fn sender(&self) -> Option<&'a str>
+        ensures { IsFound (codes "--by") (λ letters. Sender letters.now) (given_in self.now) result }
+    {
+        match self.find("--by") {
+            Some(CommandOption::Sender(letters)) => Some(*letters),
+            _ => None,
+        }
+    }
+
+    /// The reference.
+    pub(crate) fn reference(&self) -> Option<&'a str>
+        ensures { IsFound (codes "--ref") (λ text. Reference text.now) (given_in self.now) result }
+    {
+        match self.find("--ref") {
+            Some(CommandOption::Reference(text)) => Some(*text),
+            _ => None,
+        }
+    }
+
+    /// The day of this option.
+    pub(crate) fn day(&self, option: DayOption) -> Option<Day>
+        ensures { IsFound (day_word option) (Dated option) (given_in self.now) result }
+    {
+        match self.find(option.word()) {
+            Some(CommandOption::Dated(_, day)) => Some(*day),
+            _ => None,
+        }
+    }
+
+    /// The stamp.
+    pub(crate) fn at(&self) -> Option<Second>
+        ensures { IsFound (codes "--at") At (given_in self.now) result }
+    {
+        match self.find("--at") {
+            Some(CommandOption::At(instant)) => Some(*instant),
+            _ => None,
+        }
+    }
+
+    /// The gage height.
+    pub(crate) fn gage(&self) -> Option<Micro>
+        ensures { IsFound (codes "--gage") Gage (given_in self.now) result }
+    {
+        match self.find("--gage") {
+            Some(CommandOption::Gage(stage)) => Some(*stage),
+            _ => None,
+        }
+    }
+
+    /// How good the measurement is.
+    pub(crate) fn grade(&self) -> Option<Grade>
+        ensures { IsFound (codes "--grade") Graded (given_in self.now) result }
+    {
+        match self.find("--grade") {
+            Some(CommandOption::Graded(grade)) => Some(*grade),
+            _ => None,
+        }
     }
 }
 
@@ -80,7 +205,9 @@ pub(crate) fn read_options(words: &[String]) -> Option<Options<'_>>
     let mut given = ArrayVec::new();
     let mut rest = words;
     while !rest.is_empty() {
-        let (option, behind) = first_option(rest)?;
+        let Some((option, behind)) = first_option(rest) else {
+            return None;
+        };
         if given.is_full() {
             return None;
         }
@@ -101,8 +228,10 @@ fn first_option(words: &[String]) -> Option<(CommandOption<'_>, &[String])>
         return Some((option, behind));
     }
     let (value, behind) = behind.split_first()?;
-    let option = separate_option(word.as_str(), value.as_str())?;
-    Some((option, behind))
+    match separate_option(word.as_str(), value.as_str()) {
+        Some(option) => Some((option, behind)),
+        None => None,
+    }
 }
 
 /// The option that a word is by itself, as `--name=value`.
@@ -128,20 +257,113 @@ fn separate_option<'a>(word: &str, value: &'a str) -> Option<CommandOption<'a>>
 
 /// The option of this word and value.
 fn option_of<'a>(word: &str, value: &'a str) -> Option<CommandOption<'a>>
-    ensures { MatchOption result
-        ((option : Given) → ¬ ((word.now ≡ option_word option) × IsValueOf option value.now))
-        (λ option. (word.now ≡ option_word (given_by option)) × IsValueOf (given_by option) value.now) }
+    ensures { IsOptionOf word.now value.now result }
 {
-    if word == "--journal" {
-        return Some(CommandOption::Journal(name_of(value)?));
+    if let Some(option) = NumericOption::named(word) {
+        return numeric_option(option, value);
     }
-    let option = NumericOption::named(word)?;
-    Some(CommandOption::Numeric(option, option.number_in(value)?))
+    if let Some(option) = DayOption::named(word) {
+        return dated_option(option, value);
+    }
+    match word {
+        "--journal" => journal_option(value),
+        "--site" => station_option(value),
+        "--column" => column_option(value),
+        "--by" => sender_option(value),
+        "--ref" => reference_option(value),
+        "--at" => at_option(value),
+        "--gage" => gage_option(value),
+        "--grade" => graded_option(value),
+        _ => None,
+    }
 }
 
-/// The name that a value is: any text but the empty one.
-fn name_of(value: &str) -> Option<&str>
-    ensures { MatchOption result (value.now ≡ []) (λ name. (name.now ≡ value.now) × (value.now ≢ [])) }
+fn numeric_option(option: NumericOption, value: &str) -> Option<CommandOption<'_>>
+    ensures { IsOptionOf (numeric_word option) value.now result }
 {
-    if value.is_empty() { None } else { Some(value) }
+    let number = option.number_in(value)?;
+    Some(CommandOption::Numeric(option, number))
+}
+
+fn dated_option(option: DayOption, value: &str) -> Option<CommandOption<'_>>
+    ensures { IsOptionOf (day_word option) value.now result }
+{
+    let day = read_day(value.as_bytes())?;
+    Some(CommandOption::Dated(option, day))
+}
+
+fn journal_option(value: &str) -> Option<CommandOption<'_>>
+    ensures { IsOptionOf (codes "--journal") value.now result }
+{
+    if value.is_empty() {
+        return None;
+    }
+    Some(CommandOption::Journal(value))
+}
+
+fn column_option(value: &str) -> Option<CommandOption<'_>>
+    ensures { IsOptionOf (codes "--column") value.now result }
+{
+    if value.is_empty() {
+        return None;
+    }
+    Some(CommandOption::Column(value))
+}
+
+fn station_option(value: &str) -> Option<CommandOption<'_>>
+    ensures { IsOptionOf (codes "--site") value.now result }
+{
+    let site = read_site(value.as_bytes())?;
+    Some(CommandOption::Station(site))
+}
+
+fn sender_option(value: &str) -> Option<CommandOption<'_>>
+    ensures { IsOptionOf (codes "--by") value.now result }
+{
+    By::new(value.as_bytes())?;
+    Some(CommandOption::Sender(value))
+}
+
+fn reference_option(value: &str) -> Option<CommandOption<'_>>
+    ensures { IsOptionOf (codes "--ref") value.now result }
+{
+    Ref::new(value.as_bytes())?;
+    Some(CommandOption::Reference(value))
+}
+
+fn at_option(value: &str) -> Option<CommandOption<'_>>
+    ensures { IsOptionOf (codes "--at") value.now result }
+{
+    let instant = read_instant(value.as_bytes())?;
+    Some(CommandOption::At(instant))
+}
+
+fn gage_option(value: &str) -> Option<CommandOption<'_>>
+    ensures { IsOptionOf (codes "--gage") value.now result }
+{
+    match read_decimal(value.as_bytes()) {
+        Ok(stage) if is_stage(stage.get()) => Some(CommandOption::Gage(stage)),
+        _ => None,
+    }
+}
+
+fn graded_option(value: &str) -> Option<CommandOption<'_>>
+    ensures { IsOptionOf (codes "--grade") value.now result }
+{
+    let grade = grade_named(value)?;
+    Some(CommandOption::Graded(grade))
+}
+
+/// The grade of this word.
+pub(crate) fn grade_named(word: &str) -> Option<Grade>
+    ensures { MatchOption result ((grade : Grade) → word.now ≢ grade_word grade)
+        (λ grade. word.now ≡ grade_word grade) }
+{
+    match word {
+        "excellent" => Some(Grade::Excellent),
+        "good" => Some(Grade::Good),
+        "fair" => Some(Grade::Fair),
+        "poor" => Some(Grade::Poor),
+        _ => None,
+    }
 }

@@ -7,12 +7,13 @@ ghost use Rattle.command_words.specs.Reading.{IsReadOf, given_in};
 
 use crate::numbers::NumericOption;
 use crate::options::{Options, read_options};
+use crate::orders::{ImportOrder, NotesOrder};
 use crate::second_reading::is_read_alike;
 use std::alloc::Global;
 use thiserror::Error;
 
 /// What the words ask.
-#[derive(Clone, Copy, Debug, PartialEq, Eq)]
+#[derive(Clone, Copy, PartialEq, Eq)]
 pub enum Command<'a> {
     /// To make a journal of this name.
     Init(&'a str),
@@ -38,6 +39,10 @@ pub enum Command<'a> {
     Stations(&'a str),
     /// To run the trial of this number, at most 999,999,999.
     Trial(u32),
+    /// To put unit values in a journal.
+    Import(ImportOrder<'a>),
+    /// To put a measurement in a journal, by its notes.
+    Notes(NotesOrder<'a>),
 }
 
 /// Why no command is read.
@@ -66,7 +71,7 @@ pub fn read_words(alloc: Global, words: &[String]) -> Result<Command<'_>, WordsF
 {
     match command_in(words) {
         None => Err(WordsFault::Usage),
-        Some(command) => match is_read_alike(alloc, words, command) {
+        Some(command) => match is_read_alike(alloc, words, &command) {
             Ok(true) => Ok(command),
             Ok(false) | Err(_) => Err(WordsFault::NoMemory),
         },
@@ -79,13 +84,13 @@ fn command_in(words: &[String]) -> Option<Command<'_>>
         (λ command. IsAsked (map string_bytes words.now) (asked_by command)) }
 {
     let (word, behind) = words.split_first()?;
-    let mut options = read_options(behind)?;
-    command_of(word.as_str(), &mut options)
+    let options = read_options(behind)?;
+    command_of(word.as_str(), &options)
 }
 
 /// The command of this word, where the options are its own.
-fn command_of<'a>(word: &str, options: &mut Options<'a>) -> Option<Command<'a>>
-    ensures { IsReadOf word.now (given_in options.old) result }
+fn command_of<'a>(word: &str, options: &Options<'a>) -> Option<Command<'a>>
+    ensures { IsReadOf word.now (given_in options.now) result }
 {
     match word {
         "init" => init(options),
@@ -93,73 +98,130 @@ fn command_of<'a>(word: &str, options: &mut Options<'a>) -> Option<Command<'a>>
         "serve" => serve(options),
         "stations" => stations(options),
         "trial" => trial(options),
+        "import" => import(options),
+        "notes" => notes(options),
         _ => None,
     }
 }
 
-fn init<'a>(options: &mut Options<'a>) -> Option<Command<'a>>
-    ensures { IsReadOf (codes "init") (given_in options.old) result }
+fn init<'a>(options: &Options<'a>) -> Option<Command<'a>>
+    ensures { IsReadOf (codes "init") (given_in options.now) result }
 {
-    let journal = options.take_journal()?;
-    if options.is_empty() {
-        Some(Command::Init(journal))
-    } else {
-        None
+    let journal = options.journal()?;
+    if options.count() != 1 {
+        return None;
     }
+    Some(Command::Init(journal))
 }
 
-fn batch<'a>(options: &mut Options<'a>) -> Option<Command<'a>>
-    ensures { IsReadOf (codes "batch") (given_in options.old) result }
+fn batch<'a>(options: &Options<'a>) -> Option<Command<'a>>
+    ensures { IsReadOf (codes "batch") (given_in options.now) result }
 {
-    let journal = options.take_journal()?;
-    let workers = options.take_number(NumericOption::Workers).unwrap_or(0);
-    if options.is_empty() {
-        Some(Command::Batch { journal, workers })
-    } else {
-        None
+    let journal = options.journal()?;
+    let Some(workers) = options.number(NumericOption::Workers) else {
+        if options.count() != 1 {
+            return None;
+        }
+        return Some(Command::Batch {
+            journal,
+            workers: 0,
+        });
+    };
+    if options.count() != 2 {
+        return None;
     }
+    Some(Command::Batch { journal, workers })
 }
 
-fn serve<'a>(options: &mut Options<'a>) -> Option<Command<'a>>
-    ensures { IsReadOf (codes "serve") (given_in options.old) result }
+fn serve<'a>(options: &Options<'a>) -> Option<Command<'a>>
+    ensures { IsReadOf (codes "serve") (given_in options.now) result }
 {
-    let journal = options.take_journal()?;
-    let port = options.take_number(NumericOption::Port)?;
-    let workers = options.take_number(NumericOption::Workers)?;
-    let connections = options.take_number(NumericOption::Connections)?;
+    let journal = options.journal()?;
+    let port = options.number(NumericOption::Port)?;
+    let workers = options.number(NumericOption::Workers)?;
+    let connections = options.number(NumericOption::Connections)?;
     let Ok(port) = u16::try_from(port) else {
         return None;
     };
-    if options.is_empty() {
-        Some(Command::Serve {
-            journal,
-            port,
-            workers,
-            connections,
-        })
-    } else {
-        None
+    if options.count() != 4 {
+        return None;
     }
+    Some(Command::Serve {
+        journal,
+        port,
+        workers,
+        connections,
+    })
 }
 
-fn stations<'a>(options: &mut Options<'a>) -> Option<Command<'a>>
-    ensures { IsReadOf (codes "stations") (given_in options.old) result }
+fn stations<'a>(options: &Options<'a>) -> Option<Command<'a>>
+    ensures { IsReadOf (codes "stations") (given_in options.now) result }
 {
-    let journal = options.take_journal()?;
-    if options.is_empty() {
-        Some(Command::Stations(journal))
-    } else {
-        None
+    let journal = options.journal()?;
+    if options.count() != 1 {
+        return None;
     }
+    Some(Command::Stations(journal))
 }
 
-fn trial<'a>(options: &mut Options<'a>) -> Option<Command<'a>>
-    ensures { IsReadOf (codes "trial") (given_in options.old) result }
+fn trial<'a>(options: &Options<'a>) -> Option<Command<'a>>
+    ensures { IsReadOf (codes "trial") (given_in options.now) result }
 {
-    let number = options.take_number(NumericOption::Number)?;
-    if options.is_empty() {
-        Some(Command::Trial(number))
-    } else {
-        None
+    let number = options.number(NumericOption::Number)?;
+    if options.count() != 1 {
+        return None;
     }
+    Some(Command::Trial(number))
+}
+
+fn import<'a>(options: &Options<'a>) -> Option<Command<'a>>
+    ensures { IsReadOf (codes "import") (given_in options.now) result }
+{
+    let journal = options.journal()?;
+    let site = options.site()?;
+    let column = options.column()?;
+    let by = options.sender()?;
+    let reference = options.reference()?;
+    if options.count() != 5 {
+        return None;
+    }
+    if reference.len() > 30 {
+        return None;
+    }
+    Some(Command::Import(ImportOrder {
+        journal,
+        site,
+        column,
+        by,
+        reference,
+    }))
+}
+
+fn notes<'a>(options: &Options<'a>) -> Option<Command<'a>>
+    ensures { IsReadOf (codes "notes") (given_in options.now) result }
+{
+    let journal = options.journal()?;
+    let site = options.site()?;
+    let number = options.number(NumericOption::Number)?;
+    let at = options.at()?;
+    let gage = options.gage()?;
+    let grade = options.grade()?;
+    let by = options.sender()?;
+    let reference = options.reference()?;
+    if options.count() != 8 {
+        return None;
+    }
+    if number == 0 {
+        return None;
+    }
+    Some(Command::Notes(NotesOrder {
+        journal,
+        site,
+        number,
+        at,
+        gage,
+        grade,
+        by,
+        reference,
+    }))
 }

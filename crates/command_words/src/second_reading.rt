@@ -1,7 +1,12 @@
 //! The words once more, as `clap` reads them. It decides nothing: words are read by it only once they have passed.
 
+use crate::options::grade_named;
+use crate::orders::{ImportOrder, NotesOrder};
 use crate::reading::Command;
+use civil_days::read_instant;
 use clap::{Arg, ArgAction, ArgMatches, Error};
+use fixed_units::{Site, read_decimal};
+use site_texts::read_site;
 use std::alloc::{AllocError, Global};
 
 /// Whether `clap` reads this command of the words.
@@ -12,10 +17,13 @@ use std::alloc::{AllocError, Global};
 pub(crate) fn is_read_alike(
     alloc: Global,
     words: &[String],
-    command: Command<'_>,
+    command: &Command<'_>,
 ) -> Result<bool, Error> {
     let matches = program(alloc)?.try_get_matches_from(words)?;
-    Ok(command_read(&matches) == Some(command))
+    Ok(match command_read(&matches) {
+        Some(read) => read == *command,
+        None => false,
+    })
 }
 
 /// The command that `clap` has read.
@@ -30,6 +38,8 @@ fn command_read<'a>(matches: &ArgMatches<'a>) -> Option<Command<'a>> {
         "serve" => serve_read(options),
         "stations" => Some(Command::Stations(options.get_str("journal")?)),
         "trial" => Some(Command::Trial(options.get_one::<u32>("number")?)),
+        "import" => import_read(options),
+        "notes" => notes_read(options),
         _ => None,
     }
 }
@@ -41,6 +51,33 @@ fn serve_read<'a>(options: &ArgMatches<'a>) -> Option<Command<'a>> {
         workers: options.get_one::<u32>("workers")?,
         connections: options.get_one::<u32>("connections")?,
     })
+}
+
+fn import_read<'a>(options: &ArgMatches<'a>) -> Option<Command<'a>> {
+    Some(Command::Import(ImportOrder {
+        journal: options.get_str("journal")?,
+        site: site_read(options)?,
+        column: options.get_str("column")?,
+        by: options.get_str("by")?,
+        reference: options.get_str("ref")?,
+    }))
+}
+
+fn notes_read<'a>(options: &ArgMatches<'a>) -> Option<Command<'a>> {
+    Some(Command::Notes(NotesOrder {
+        journal: options.get_str("journal")?,
+        site: site_read(options)?,
+        number: options.get_one::<u32>("number")?,
+        at: read_instant(options.get_str("at")?.as_bytes())?,
+        gage: read_decimal(options.get_str("gage")?.as_bytes()).ok()?,
+        grade: grade_named(options.get_str("grade")?)?,
+        by: options.get_str("by")?,
+        reference: options.get_str("ref")?,
+    }))
+}
+
+fn site_read(options: &ArgMatches<'_>) -> Option<Site> {
+    read_site(options.get_str("site")?.as_bytes())
 }
 
 /// The program's commands with their options, as `clap` is told of them.
@@ -58,7 +95,15 @@ fn program<'a>(alloc: Global) -> Result<clap::Command<'a>, AllocError> {
             &["journal", "port", "workers", "connections"],
         )?)?
         .subcommand(needing(alloc, "stations", &["journal"])?)?
-        .subcommand(needing(alloc, "trial", &["number"])?)
+        .subcommand(needing(alloc, "trial", &["number"])?)?
+        .subcommand(needing(alloc, "import", &["journal", "site", "column", "by", "ref"])?)?
+        .subcommand(needing(
+            alloc,
+            "notes",
+            &[
+                "journal", "site", "number", "at", "gage", "grade", "by", "ref",
+            ],
+        )?)
 }
 
 /// A command that needs these options.

@@ -91,7 +91,7 @@ session_completes sessions.NoMemory ms rs l0 l w0 w a b c d heard cause formed t
 -- with some workers
 pub over_some : {D : Type 0} (g : Ghosts D) (name : List ℕ) (workers : ℕ) (end : Result SessionEnd OpenFault) (before after : Told D)
     → workers ≢ 0
-    → RunsOver g name (LeadsTo g) (ServedBesideWorkers g (ends_told before.input before.output) (ends_told after.input after.output)) end
+    → RunsOver g name (LeadsTo g) (ServedBesideWorkers g workers (ends_told before.input before.output) (ends_told after.input after.output)) end
     before.cabinet after.cabinet
     → RepliesOver g name workers end before after
 over_some g name zero end before after some over = absurd (some refl)

@@ -63,7 +63,7 @@ module _ {D : Type 0} {g : Ghosts D} (lock : Lock D g) (given started served end
       ∙ ap (λ l. l ++ ws) (append_assoc (tally given) ps qs)
       ∙ append_assoc (tally given) (ps ++ qs) ws
 
-  pub is_beside : IsBeside lock (seen given) (seen back) added came went end
+  pub is_beside : IsBeside lock workers (seen given) (seen back) added came went end
   is_beside = record {
     holdings = session.holdings;
     ends_in = session.ends_in;
@@ -76,6 +76,7 @@ module _ {D : Type 0} {g : Ghosts D} (lock : Lock D g) (given started served end
         (follow_on (seen started) session.holdings (seen served) from session.goes.follow told.begins);
     grows = subst (λ (l : List Entry). IsPrefix l (seen back)) told.seen_is joined.begins;
     workers = joined.workers;
+    count_is = joined.count_is;
     work = joined.work;
     added_is = refl;
   }
@@ -89,7 +90,7 @@ work_at lock list ps w =
 
 -- nobody had told the end before, since each place that was added stands once
 module _ {D : Type 0} {g : Ghosts D} (lock : Lock D g) (before list : List Entry) (added : List ℕ) (came went : Ends) (end : SessionEnd)
-    (first : ℕ) (b : IsBeside lock before list added came went end) (unended : has_ended before ≡ false) (first_is : first ≡ length before)
+    (count first : ℕ) (b : IsBeside lock count before list added came went end) (unended : has_ended before ≡ false) (first_is : first ≡ length before)
     (once : IsEachOnce first (length list) added) where
   counted : (place : ℕ) → times place added ≡ times place (places_of length b.holdings)
       + (times place (places (length b.told_at) (length (with_ending b.told_at) - length b.told_at)) + times place (concat b.workers))
@@ -152,14 +153,14 @@ module _ {D : Type 0} {g : Ghosts D} (lock : Lock D g) (before list : List Entry
       ∙ (open_before b.told_at (Ending ∷ whole.0) whole.1.1 ∙ append-nil b.told_at)
 
 -- what was done behind a lock is told of the histories
-pub served_beside : {D : Type 0} {g : Ghosts D} (came went : Ends) (end : SessionEnd) (h last : History) (lock : Lock D g) (given back : PassTo D g)
+pub served_beside : {D : Type 0} {g : Ghosts D} (count : ℕ) (came went : Ends) (end : SessionEnd) (h last : History) (lock : Lock D g) (given back : PassTo D g)
     → IsSharedBy h lock given → IsPrefix (seen given) (seen back)
-    → ((added : List ℕ) × (tally back ≡ tally given ++ added) × IsBeside lock (seen given) (seen back) added came went end)
+    → ((added : List ℕ) × (tally back ≡ tally given ++ added) × IsBeside lock count (seen given) (seen back) added came went end)
     ⊎ ((end ≡ sessions.NoMemory) × (back ≡ given))
     → last ≡ history_of (fixed_in lock) (seen back)
     → IsEachOnce (length (listed (first_value lock))) (length (seen back)) (tally back)
-    → ServedBesideWorkers g came went end h last
-served_beside {D} {g} came went end h last lock given back s begins beside is once =
+    → ServedBesideWorkers g count came went end h last
+served_beside {D} {g} count came went end h last lock given back s begins beside is once =
     let list : List Entry = seen back in
     let last_is : last ≡ history_of (fixed_part h) list = is ∙ ap (λ (f : Fixed). history_of f list) s.fixed_is in
     let none : back ≡ given → last ≡ h =
@@ -174,8 +175,8 @@ served_beside {D} {g} came went end h last lock given back s begins beside is on
           let places_once : IsEachOnce (length h.events) (length list) b.0 =
           subst (λ (t : List ℕ). IsEachOnce (length h.events) (length list) t) (b.1 ∙ ap (λ (t : List ℕ). t ++ b.0) s.tally_is)
           (subst (λ (n : ℕ). IsEachOnce n (length list) (tally back)) s.length_is once) in
-          let is_beside : IsBeside lock (begun h) list b.0 came went end =
-          subst (λ (l : List Entry). IsBeside lock l list b.0 came went end) s.seen_is b.2 in
+          let is_beside : IsBeside lock count (begun h) list b.0 came went end =
+          subst (λ (l : List Entry). IsBeside lock count l list b.0 came went end) s.seen_is b.2 in
           let start : length h.events ≡ length (begun h) = sym (length-map h.events Happened) in
           inl (record {
             lock = lock;
@@ -185,17 +186,17 @@ served_beside {D} {g} came went end h last lock given back s begins beside is on
             added = b.0;
             each_once = places_once;
             beside = is_beside;
-            ended = told_once lock (begun h) list b.0 came went end (length h.events) is_beside (not_ended h.events) start places_once;
-            front = front lock (begun h) list b.0 came went end (length h.events) is_beside (not_ended h.events) start places_once;
+            ended = told_once lock (begun h) list b.0 came went end count (length h.events) is_beside (not_ended h.events) start places_once;
+            front = front lock (begun h) list b.0 came went end count (length h.events) is_beside (not_ended h.events) start places_once;
           }))
           (λ unbegun. inr (unbegun.0, none unbegun.1))
           beside;
     }
 
 -- where nothing was begun
-pub unbegun_beside : {D : Type 0} (g : Ghosts D) (came went : Ends) (h last : History) → last ≡ h
-    → ServedBesideWorkers g came went sessions.NoMemory h last
-unbegun_beside g came went h last is = record {
+pub unbegun_beside : {D : Type 0} (g : Ghosts D) (count : ℕ) (came went : Ends) (h last : History) → last ≡ h
+    → ServedBesideWorkers g count came went sessions.NoMemory h last
+unbegun_beside g count came went h last is = record {
   goes_on = ([], is ∙ sym (nothing_more h));
   worked = inr (refl, is);
 }

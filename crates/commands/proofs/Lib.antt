@@ -1,12 +1,16 @@
+pub mod AskedLemmas
 pub mod BatchLemmas
 pub mod BesideLemmas
 pub mod Lawful
 pub mod LoadingLemmas
 pub mod MakingLemmas
+pub mod NotesLemmas
 pub mod OpeningLemmas
 pub mod PlaceLemmas
+pub mod ReadingsLemmas
 pub mod ReopenLemmas
 pub mod RunLemmas
 pub mod ServingLemmas
 pub mod SharingLemmas
+pub mod StationsLemmas
 pub mod TryingLemmas

@@ -1,14 +1,16 @@
 -- What holds of all runs: a row a command, and what follows for a run.
 use Rattle.std.proofs.Common.{◌≡◌, ◌⊎◌, ℕ, List, refl, sym, ◌∙◌, ap, subst, inr, ⊎_elim}
-use Rattle.command_words.specs.Words.{Asked, Init, Batch, Serve, Stations, Trial}
+use Rattle.command_words.specs.Words.{Asked, Init, Batch, Serve, Stations, Trial, Import, Notes, ImportAsked, NotesAsked}
 use Rattle.devices.specs.declared.disks.Disk.{Ghosts}
 use Rattle.commands.proofs.Lawful.{HasCause, IsEarly, IsLawful, by_ending, innocent}
-use Rattle.commands.proofs.LoadingLemmas.{loading_lawful, unwritten_at_input}
 use Rattle.commands.proofs.MakingLemmas.{making_lawful}
 use Rattle.commands.proofs.BatchLemmas.{batch_lawful, unserved}
+use Rattle.commands.proofs.NotesLemmas.{notes_lawful, unwritten_at_notes}
+use Rattle.commands.proofs.ReadingsLemmas.{readings_lawful, unwritten_at_units}
 use Rattle.commands.proofs.ServingLemmas.{serving_lawful}
+use Rattle.commands.proofs.StationsLemmas.{stations_lawful, unwritten_at_document}
 use Rattle.commands.proofs.TryingLemmas.{trial_lawful}
-use Rattle.commands.specs.Loading.{Loads, loading_ending}
+use Rattle.commands.specs.Loading.{LoadsNotes, LoadsReadings, LoadsStations, loading_ending, notes_ending, readings_ending}
 use Rattle.commands.specs.Making.{Makes, making_ending}
 use Rattle.commands.specs.Opening.{ending_over}
 use Rattle.commands.specs.Ready.{IsDone, IsReady, IsWell}
@@ -33,13 +35,19 @@ module _ {S K E C L P D : Type 0} (g : Ghosts D) (tell : World S K E C L P → T
   lawful (Serve name port workers connections) =
       by_ending tell (ending_over serving_ending) (IsReady g (Serve name port workers connections))
       (λ before after. IsWell before after (Serve name port workers connections))
-      (λ end before after. ServesConnections g tell name connections end before after) (serving_lawful g tell name connections)
+      (λ end before after. ServesConnections g tell name workers connections end before after) (serving_lawful g tell name workers connections)
   lawful (Stations name) =
       by_ending tell (ending_over loading_ending) (IsReady g (Stations name)) (λ before after. IsWell before after (Stations name))
-      (λ end before after. Loads g tell name end before after) (loading_lawful g tell name)
+      (λ end before after. LoadsStations g tell name end before after) (stations_lawful g tell name)
   lawful (Trial number) =
       by_ending tell trial_ending (IsReady g (Trial number)) (λ before after. IsWell before after (Trial number))
       (λ end before after. Tries tell number end before after) (trial_lawful tell number)
+  lawful (Import asked) =
+      by_ending tell (ending_over readings_ending) (IsReady g (Import asked)) (λ before after. IsWell before after (Import asked))
+      (λ end before after. LoadsReadings g tell asked end before after) (readings_lawful g tell asked)
+  lawful (Notes asked) =
+      by_ending tell (ending_over notes_ending) (IsReady g (Notes asked)) (λ before after. IsWell before after (Notes asked))
+      (λ end before after. LoadsNotes g tell asked end before after) (notes_lawful g tell asked)
 
   -- there was no memory for the words
   memory_status : (asked : Asked) (status : ℕ) (before after : World S K E C L P) (run : Runs g tell asked status before after)
@@ -94,8 +102,26 @@ module _ {S K E C L P D : Type 0} (g : Ghosts D) (tell : World S K E C L P → T
   unwritten_stations name status before after run is =
       ⊎_elim
       (λ none. none.1.streams.1)
-      (λ did. unwritten_at_input g tell name did.0 before after did.2
+      (λ did. unwritten_at_document g tell name did.0 before after did.2
       (subst (λ (n : ℕ). (n ≡ 2) ⊎ (n ≡ 9)) (run.told.status_is ∙ ap status_of did.1) is))
+      run.did
+
+  pub unwritten_import : (what : ImportAsked) (status : ℕ) (before after : World S K E C L P)
+      → Runs g tell (Import what) status before after → (status ≡ 2) ⊎ (status ≡ 13) → after.output ≡ before.output
+  unwritten_import what status before after run is =
+      ⊎_elim
+      (λ none. none.1.streams.1)
+      (λ did. unwritten_at_units g tell what did.0 before after did.2
+      (subst (λ (n : ℕ). (n ≡ 2) ⊎ (n ≡ 13)) (run.told.status_is ∙ ap status_of did.1) is))
+      run.did
+
+  pub unwritten_notes : (what : NotesAsked) (status : ℕ) (before after : World S K E C L P)
+      → Runs g tell (Notes what) status before after → (status ≡ 2) ⊎ (status ≡ 14) → after.output ≡ before.output
+  unwritten_notes what status before after run is =
+      ⊎_elim
+      (λ none. none.1.streams.1)
+      (λ did. unwritten_at_notes g tell what did.0 before after did.2
+      (subst (λ (n : ℕ). (n ≡ 2) ⊎ (n ≡ 14)) (run.told.status_is ∙ ap status_of did.1) is))
       run.did
 
   pub init_alone : (name : List ℕ) (status : ℕ) (before after : World S K E C L P) → Runs g tell (Init name) status before after

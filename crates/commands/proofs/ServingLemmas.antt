@@ -26,16 +26,16 @@ use Rattle.commands.specs.Statuses.{status_of}
 use Rattle.commands.specs.Worlds.{Doorway, Told, World}
 
 -- what was served behind a lock is told of the histories
-pub serves_between : {D : Type 0} {g : Ghosts D} (connections : ℕ) (before after : Doorway) (end : ServeEnd) (h last : History)
+pub serves_between : {D : Type 0} {g : Ghosts D} (workers connections : ℕ) (before after : Doorway) (end : ServeEnd) (h last : History)
     (lock : Lock D g) (given back : PassTo D g) → IsSharedBy h lock given → IsPrefix (seen given) (seen back)
     → IsServeEnd end connections after.told.given before.faults after.faults
-    → ServedBeside (fixed_in lock) (seen given) (seen back) (tally given) (tally back) after.told.given after.told.back
+    → ServedBeside lock workers (seen given) (seen back) (tally given) (tally back) after.told.given after.told.back
     ⊎ ((after.told.given ≡ []) × (back ≡ given))
     → (end ≡ ends.NoMemory → (after.told.given ≡ []) × (back ≡ given))
     → last ≡ history_of (fixed_in lock) (seen back)
     → IsEachOnce (length (listed (first_value lock))) (length (seen back)) (tally back)
-    → ServesBetween connections before after end h last
-serves_between {D} {g} connections before after end h last lock given back s begins ended served unserved is once =
+    → ServesBetween g workers connections before after end h last
+serves_between {D} {g} workers connections before after end h last lock given back s begins ended served unserved is once =
     let list : List Entry = seen back in
     let last_is : last ≡ history_of (fixed_part h) list = is ∙ ap (λ (f : Fixed). history_of f list) s.fixed_is in
     let none : back ≡ given → last ≡ h =
@@ -49,15 +49,16 @@ serves_between {D} {g} connections before after end h last lock given back s beg
           ⊎_elim
           (λ beside.
           inl (record {
+            lock = lock;
+            fixed_is = s.fixed_is;
             list = list;
             last_is = last_is;
             places = tally back;
             each_once = subst (λ (n : ℕ). IsEachOnce n (length list) (tally back)) s.length_is once;
             beside =
-                subst (λ (t : List ℕ). ServedBeside (fixed_part h) (begun h) list t (tally back) after.told.given after.told.back) s.tally_is
-                (subst (λ (l : List Entry). ServedBeside (fixed_part h) l list (tally given) (tally back) after.told.given after.told.back) s.seen_is
-                (subst (λ (f : Fixed). ServedBeside f (seen given) list (tally given) (tally back) after.told.given after.told.back) s.fixed_is
-                beside));
+                subst (λ (t : List ℕ). ServedBeside lock workers (begun h) list t (tally back) after.told.given after.told.back) s.tally_is
+                (subst (λ (l : List Entry). ServedBeside lock workers l list (tally given) (tally back) after.told.given after.told.back) s.seen_is
+                beside);
           }))
           (λ nobody. inr (nobody.0, none nobody.1))
           served;
@@ -65,9 +66,9 @@ serves_between {D} {g} connections before after end h last lock given back s beg
     }
 
 -- nobody was let in, since there was no memory
-pub serves_nobody : (connections : ℕ) (before after : Doorway) (h last : History) → after.told.given ≡ [] → after.faults ≡ before.faults
-    → last ≡ h → ServesBetween connections before after ends.NoMemory h last
-serves_nobody connections before after h last none same is = record {
+pub serves_nobody : {D : Type 0} (g : Ghosts D) (workers connections : ℕ) (before after : Doorway) (h last : History) → after.told.given ≡ [] → after.faults ≡ before.faults
+    → last ≡ h → ServesBetween g workers connections before after ends.NoMemory h last
+serves_nobody g workers connections before after h last none same is = record {
   ended = (none, same);
   goes_on = ([], is ∙ sym (nothing_more h));
   served = inr (none, is);
@@ -97,14 +98,14 @@ serving_completes ends.End connections before after is well = inl refl
 serving_completes ends.DoorFault connections before after is well = absurd (well is.1)
 serving_completes ends.NoMemory connections before after is well = inr refl
 
-module _ {S K E C L P D : Type 0} (g : Ghosts D) (tell : World S K E C L P → Told D) (name : List ℕ) (connections : ℕ) where
-  cause : (end : Result ServeEnd OpenFault) (before after : World S K E C L P) → ServesConnections g tell name connections end before after
+module _ {S K E C L P D : Type 0} (g : Ghosts D) (tell : World S K E C L P → Told D) (name : List ℕ) (workers connections : ℕ) where
+  cause : (end : Result ServeEnd OpenFault) (before after : World S K E C L P) → ServesConnections g tell name workers connections end before after
       → HasCause (status_of (ending_over serving_ending end)) (tell before) (tell after)
   cause (Ok end) before after did = serving_cause end connections (tell before) (tell after) did.over.worked.ended
   cause (Err why) before after did = unopened_cause why (tell before) (tell after) did.over.cause
 
   complete : (end : Result ServeEnd OpenFault) (before after : World S K E C L P)
-      → ServesConnections g tell name connections end before after → HasSound g name (tell before).cabinet.places
+      → ServesConnections g tell name workers connections end before after → HasSound g name (tell before).cabinet.places
       → CabinetIsWell (tell before) (tell after) × DoorsAreWell (tell before) (tell after)
       → IsDone (status_of (ending_over serving_ending end))
   complete (Ok end) before after did ready well = serving_completes end connections (tell before) (tell after) did.over.worked.ended well.1
@@ -113,7 +114,7 @@ module _ {S K E C L P D : Type 0} (g : Ghosts D) (tell : World S K E C L P → T
 
   pub serving_lawful : IsLawful tell (ending_over serving_ending) (λ found. HasSound g name found.cabinet.places)
       (λ before after. CabinetIsWell before after × DoorsAreWell before after)
-      (λ end before after. ServesConnections g tell name connections end before after)
+      (λ end before after. ServesConnections g tell name workers connections end before after)
   serving_lawful = record {
     cause = cause;
     early = λ end before after did is. did.streams;

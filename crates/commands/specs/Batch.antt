@@ -41,7 +41,7 @@ abbrev pub RepliesOver : {D : Type 0} → Ghosts D → List ℕ → ℕ → Resu
 RepliesOver g name zero end before after =
     RunsOver g name (Carries g) (ServedBetween before.input after.input before.output after.output) end before.cabinet after.cabinet
 RepliesOver g name (suc workers) end before after =
-    RunsOver g name (LeadsTo g) (ServedBesideWorkers g (ends_told before.input before.output) (ends_told after.input after.output)) end
+    RunsOver g name (LeadsTo g) (ServedBesideWorkers g (suc workers) (ends_told before.input before.output) (ends_told after.input after.output)) end
     before.cabinet after.cabinet
 
 -- A run of `batch`: what was replied, and what is left. Where it ended before the first request nothing was read and nothing written.

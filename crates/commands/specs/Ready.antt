@@ -1,13 +1,19 @@
 -- Where a run cannot fail, but for want of memory: a row a command.
-use Rattle.std.specs.Prelude.{◌≡◌, ◌⊎◌, ℕ, ◌<◌, List, length, Option, IsSome, IsSomeAnd, ⊤}
-use Rattle.command_words.specs.Words.{Asked, Init, Batch, Serve, Stations, Trial}
+use Rattle.std.specs.Prelude.{◌≡◌, ◌⊎◌, ℕ, ◌<◌, ◌≤◌, Err, List, length, Option, IsSome, IsSomeAnd, ⊤}
+use Rattle.command_words.specs.Words.{Asked, Init, Batch, Serve, Stations, Trial, Import, Notes, ImportAsked}
 use Rattle.devices.specs.Cabinets.{Place}
 use Rattle.devices.specs.Faults.{Rose}
 use Rattle.devices.specs.declared.disks.Disk.{Ghosts}
 use Rattle.edits.specs.declared.content.Edit.{Edit}
 use Rattle.journal.specs.JournalBytes.{HasHeader, IsTaken, IsForeign}
+use Rattle.midsection.specs.Reading.{notes_of}
+use Rattle.midsection.specs.declared.faults.NotesFault.{NotesFault}
+use Rattle.note_loading.specs.Loading.{most_bytes}
 use Rattle.office.specs.Openings.{IsDamagedFor}
 use Rattle.office_inputs.specs.Usual.{usual}
+use Rattle.rdb_records.specs.Units.{IsRefused}
+use Rattle.rdb_records.specs.declared.faults.UnitFault.{UnitFault}
+use Rattle.reading_loading.specs.declared.limits.TheConstants.{MOST_BYTES}
 use Rattle.station_documents.specs.Documents.{StatesStations}
 use Rattle.wire.specs.Messages.{AreMessages, IsMalformed}
 use Rattle.wire.specs.declared.limits.TheConstants.{STREAM_BYTES}
@@ -23,6 +29,16 @@ pub record IsWellFormed (input : List ℕ) : Type 0 where
 -- the input is a document of stations
 abbrev pub IsDocument : List ℕ → Type 0
 IsDocument input = (edits : List Edit) × StatesStations input edits
+
+-- the input is not too long for unit values of this site and column, and not refused
+pub record IsUnits (asked : ImportAsked) (input : List ℕ) : Type 0 where
+  pub short : length input ≤ MOST_BYTES
+  pub unrefused : (fault : UnitFault) → ¬ (IsRefused asked.site asked.column input fault)
+
+-- it is not too long for the notes of a measurement, and not refused
+pub record IsNotes (input : List ℕ) : Type 0 where
+  pub short : length input ≤ most_bytes
+  pub unrefused : (fault : NotesFault) → ¬ (notes_of input ≡ Err fault)
 
 -- a journal that is not damaged: at no gate a record is missing, or stands that is not accepted behind those before it
 pub record IsSound (bytes : List ℕ) : Type 0 where
@@ -47,6 +63,8 @@ module _ {D : Type 0} (g : Ghosts D) where
   IsReady (Serve name port workers connections) found = HasSound name found.cabinet.places
   IsReady (Stations name) found = HasSound name found.cabinet.places × IsSomeAnd found.input.bytes IsDocument
   IsReady (Trial number) found = ⊤
+  IsReady (Import asked) found = HasSound asked.journal found.cabinet.places × IsSomeAnd found.input.bytes (IsUnits asked)
+  IsReady (Notes asked) found = HasSound asked.journal found.cabinet.places × IsSomeAnd found.input.bytes IsNotes
 
 module _ {D : Type 0} (before after : Told D) where
   -- no fault of the input or of the output was counted, and none of the cabinet or of its disks
@@ -59,13 +77,18 @@ module _ {D : Type 0} (before after : Told D) where
   abbrev pub DoorsAreWell : Type 0
   DoorsAreWell = ¬ (Rose before.doors.faults after.doors.faults)
 
+  abbrev pub OutputIsWell : Type 0
+  OutputIsWell = ¬ (Rose before.output.faults after.output.faults)
+
   -- no fault of an object that the command uses
   abbrev pub IsWell : Asked → Type 0
   IsWell (Init name) = CabinetIsWell
   IsWell (Batch name workers) = StreamsAreWell × CabinetIsWell
   IsWell (Serve name port workers connections) = CabinetIsWell × DoorsAreWell
   IsWell (Stations name) = StreamsAreWell × CabinetIsWell
-  IsWell (Trial number) = ¬ (Rose before.output.faults after.output.faults)
+  IsWell (Trial number) = OutputIsWell
+  IsWell (Import asked) = StreamsAreWell × CabinetIsWell
+  IsWell (Notes asked) = StreamsAreWell × CabinetIsWell
 
 -- the command is done, or there was no memory
 abbrev pub IsDone : ℕ → Type 0

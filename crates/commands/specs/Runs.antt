@@ -1,8 +1,8 @@
 -- What a run comes to, by what is asked: a row a command.
 use Rattle.std.specs.Prelude.{◌≡◌, ◌⊎◌, ℕ, List}
-use Rattle.command_words.specs.Words.{Asked, Init, Batch, Serve, Stations, Trial, IsAsked}
+use Rattle.command_words.specs.Words.{Asked, Init, Batch, Serve, Stations, Trial, Import, Notes, IsAsked}
 use Rattle.devices.specs.declared.disks.Disk.{Ghosts}
-use Rattle.commands.specs.Loading.{Loads, loading_ending}
+use Rattle.commands.specs.Loading.{LoadsNotes, LoadsReadings, LoadsStations, loading_ending, notes_ending, readings_ending}
 use Rattle.commands.specs.Making.{Makes, making_ending}
 use Rattle.commands.specs.Opening.{ending_over}
 use Rattle.commands.specs.Batch.{ServesInput, session_ending}
@@ -46,9 +46,11 @@ module _ {S K E C L P D : Type 0} (g : Ghosts D) (tell : World S K E C L P → T
   Does (Init name) before after = EndsBy making_ending (λ made. Makes g tell name made before after)
   Does (Batch name workers) before after = EndsBy (ending_over session_ending) (λ end. ServesInput g tell name workers end before after)
   Does (Serve name port workers connections) before after =
-      EndsBy (ending_over serving_ending) (λ end. ServesConnections g tell name connections end before after)
-  Does (Stations name) before after = EndsBy (ending_over loading_ending) (λ end. Loads g tell name end before after)
+      EndsBy (ending_over serving_ending) (λ end. ServesConnections g tell name workers connections end before after)
+  Does (Stations name) before after = EndsBy (ending_over loading_ending) (λ end. LoadsStations g tell name end before after)
   Does (Trial number) before after = EndsBy trial_ending (λ end. Tries tell number end before after)
+  Does (Import asked) before after = EndsBy (ending_over readings_ending) (λ end. LoadsReadings g tell asked end before after)
+  Does (Notes asked) before after = EndsBy (ending_over notes_ending) (λ end. LoadsNotes g tell asked end before after)
 
   -- A run of what is asked: how it ended, its status, its line, and what it did. Where there was no memory for the words it did nothing.
   pub record Runs (asked : Asked) (status : ℕ) (before after : World S K E C L P) : Type 0 where

@@ -9,6 +9,7 @@ use Rattle.serving.specs.Serving.{IsServeEnd, ServedBeside}
 use Rattle.serving.specs.declared.whole.ServeEnd.{ServeEnd}
 use Rattle.serving.specs.declared.whole.ServeEnd.TheVariants as ends
 use Rattle.shared_office.specs.Entries.{fixed_part, history_of}
+use Rattle.shared_office.specs.Passing.{Lock, fixed_in}
 use Rattle.shared_office.specs.declared.entries.Entry.{Entry}
 use Rattle.turnstile.specs.Places.{IsEachOnce}
 use Rattle.commands.specs.Opening.{LeadsTo, RunsOver}
@@ -23,32 +24,35 @@ serving_ending ends.End = endings.Done
 serving_ending ends.DoorFault = endings.DoorFault
 serving_ending ends.NoMemory = endings.NoMemory
 
--- Connections were served and workers worked beside each other, from the events of one history to those of another, which are read off the
--- list of the lock. Each place that the list has grown by stands once among those of the connections, of the workers and of the ending.
-pub record AreServedBeside (told : Connections) (h last : History) : Type 0 where
+-- Connections were served and so many workers worked beside each other, from the events of one history to those of another, which are read
+-- off the list of the lock. Each place that the list has grown by stands once among those of the connections, of the workers and of the
+-- ending.
+pub record AreServedBeside {D : Type 0} (g : Ghosts D) (workers : ℕ) (told : Connections) (h last : History) : Type 0 where
+  pub lock : Lock D g
+  pub fixed_is : fixed_in lock ≡ fixed_part h
   pub list : List Entry
   pub last_is : last ≡ history_of (fixed_part h) list
   pub places : List ℕ
   pub each_once : IsEachOnce (length h.events) (length list) places
-  pub beside : ServedBeside (fixed_part h) (begun h) list [] places told.given told.back
+  pub beside : ServedBeside lock workers (begun h) list [] places told.given told.back
 
 -- nobody was let in, and nothing has happened
 abbrev pub NobodyWasServed : Connections → History → History → Type 0
 NobodyWasServed told h last = (told.given ≡ []) × (last ≡ h)
 
--- What was done for the connections at an end of serving, from one history to another: `End` exactly where as many were given as were asked
--- for, and each that was given was served.
-pub record ServesBetween (connections : ℕ) (before after : Doorway) (end : ServeEnd) (h last : History) : Type 0 where
+-- What was done for the connections beside so many workers at an end of serving, from one history to another: `End` exactly where as many
+-- were given as were asked for, and each that was given was served.
+pub record ServesBetween {D : Type 0} (g : Ghosts D) (workers connections : ℕ) (before after : Doorway) (end : ServeEnd) (h last : History) : Type 0 where
   pub ended : IsServeEnd end connections after.told.given before.faults after.faults
   pub goes_on : (since : List Event) × (last ≡ go_on h since)
-  pub served : AreServedBeside after.told h last ⊎ NobodyWasServed after.told h last
+  pub served : AreServedBeside g workers after.told h last ⊎ NobodyWasServed after.told h last
   pub unserved : end ≡ ends.NoMemory → NobodyWasServed after.told h last
 
 -- A run of `serve`: the connections that were given and how each was served, over the journal that was found, and what is left is the
 -- journal of the edits that were accepted. The input and the output are not touched, nor are the doors where no journal was opened.
-pub record ServesConnections {S K E C L P D : Type 0} (g : Ghosts D) (tell : World S K E C L P → Told D) (name : List ℕ) (connections : ℕ)
-    (end : Result ServeEnd OpenFault) (before after : World S K E C L P) : Type 0 where
-  pub over : RunsOver g name (LeadsTo g) (ServesBetween connections (tell before).doors (tell after).doors) end
+pub record ServesConnections {S K E C L P D : Type 0} (g : Ghosts D) (tell : World S K E C L P → Told D) (name : List ℕ)
+    (workers connections : ℕ) (end : Result ServeEnd OpenFault) (before after : World S K E C L P) : Type 0 where
+  pub over : RunsOver g name (LeadsTo g) (ServesBetween g workers connections (tell before).doors (tell after).doors) end
       (tell before).cabinet (tell after).cabinet
   pub unopened : IsErr end → DoorsStay before after
   pub unserved : end ≡ Ok ends.NoMemory → after.spawner ≡ before.spawner

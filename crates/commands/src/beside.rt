@@ -49,7 +49,7 @@ pub(crate) fn serve_beside<
 where
     C::Disk: Drop,
     requires { workers ≤ 16 }
-    ensures over { RunsOver C.Disk.Disk name.now (LeadsTo C.Disk.Disk) (ServedBesideWorkers C.Disk.Disk
+    ensures over { RunsOver C.Disk.Disk name.now (LeadsTo C.Disk.Disk) (ServedBesideWorkers C.Disk.Disk workers
         (ends_told (source_told S.Source input.old) (sink_told K.Sink output.old)) (ends_told (source_told S.Source input.new) (sink_told K.Sink output.new)))
         result (shelf C.Cabinet cabinet.old) (shelf C.Cabinet cabinet.new) }
     ensures cause { IfOk result (SessionCause (source_told S.Source input.old) (source_told S.Source input.new)
@@ -82,7 +82,7 @@ fn serve_shared<
 ) -> (Office<D>, SessionEnd)
     requires counted { HasCounted office.register.history (D.faults office.disk) }
     requires workers { workers ≤ 16 }
-    ensures served { ServedBesideWorkers D.Disk
+    ensures served { ServedBesideWorkers D.Disk workers
         (ends_told (source_told S.Source input.old) (sink_told K.Sink output.old)) (ends_told (source_told S.Source input.new) (sink_told K.Sink output.new))
         result.1 office.register.history result.0.register.history }
     ensures counted { HasCounted result.0.register.history (D.faults result.0.disk) }
@@ -124,7 +124,7 @@ fn serve_behind<
     ensures pass { IsOf lock.now.value result.0 }
     ensures share { share result.0 ≡ 2 ^ 32 }
     ensures begins { IsPrefix (seen pass) (seen result.0) }
-    ensures beside { ((added : List ℕ) × (tally result.0 ≡ tally pass ++ added) × IsBeside lock.now.value (seen pass) (seen result.0) added
+    ensures beside { ((added : List ℕ) × (tally result.0 ≡ tally pass ++ added) × IsBeside lock.now.value workers (seen pass) (seen result.0) added
         (ends_told (source_told S.Source input.old) (sink_told K.Sink output.old)) (ends_told (source_told S.Source input.new) (sink_told K.Sink output.new)) result.1)
         ⊎ ((result.1 ≡ SessionEnd.NoMemory) × (result.0 ≡ pass)) }
     ensures cause { HasCause result.1 (S.faults input.old) (S.faults input.new) (K.faults output.old) (K.faults output.new) }
@@ -165,7 +165,7 @@ fn serve_in_room<
     ensures pass { IsOf lock.now result.0 }
     ensures share { share result.0 ≡ 2 ^ 32 }
     ensures begins { IsPrefix (seen pass) (seen result.0) }
-    ensures beside { (added : List ℕ) × (tally result.0 ≡ tally pass ++ added) × IsBeside lock.now (seen pass) (seen result.0) added
+    ensures beside { (added : List ℕ) × (tally result.0 ≡ tally pass ++ added) × IsBeside lock.now workers (seen pass) (seen result.0) added
         (ends_told (source_told S.Source input.old) (sink_told K.Sink output.old)) (ends_told (source_told S.Source input.new) (sink_told K.Sink output.new)) result.1 }
     ensures cause { HasCause result.1 (S.faults input.old) (S.faults input.new) (K.faults output.old) (K.faults output.new) }
     ensures unserved { result.1 ≡ SessionEnd.NoMemory → (input.new ≡ input.old) × (output.new ≡ output.old) }

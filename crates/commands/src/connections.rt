@@ -1,6 +1,6 @@
 //! `serve`: connections are served, each in a thread of its own, beside workers, over the journal under a name.
 
-ghost use Rattle.std.specs.Prelude.{◌≡◌, ◌≢◌, ◌⊎◌, ◌^◌, ◌≤◌, [], false, Ok, IsErr};
+ghost use Rattle.std.specs.Prelude.{◌≡◌, ◌⊎◌, ◌^◌, ◌≤◌, [], false, Ok, IsErr};
 ghost use mathlib.Core.List.{IsPrefix};
 ghost use Rattle.commands.specs.Opening.{LeadsTo, RunsOver};
 ghost use Rattle.commands.specs.Serving.{ServesBetween};
@@ -8,7 +8,7 @@ ghost use Rattle.commands.specs.Worlds.{doorway, shelf};
 ghost use Rattle.office.specs.Counting.{HasCounted};
 ghost use Rattle.serving.specs.Serving.{IsServeEnd, ServedBeside};
 ghost use Rattle.shared_office.specs.Entries.{has_ended};
-ghost use Rattle.shared_office.specs.Passing.{IsOf, fixed_in};
+ghost use Rattle.shared_office.specs.Passing.{IsOf};
 ghost use Rattle.turnstile.specs.Passes.{seen, share, tally};
 
 use crate::endings::Ending;
@@ -57,7 +57,7 @@ impl From<Result<ServeEnd, OpenFault>> for Ending {
 
 /// How connections are to be served.
 #[derive(Clone, Copy)]
-pub(crate) struct Asked {
+pub(crate) struct ServeOptions {
     /// The port that is listened on.
     pub(crate) port: u16,
     /// How many workers are started.
@@ -81,21 +81,21 @@ pub(crate) fn serve_connections<
     doors: &mut L,
     spawner: &mut P,
     gate: &G,
-    asked: Asked,
+    options: ServeOptions,
 ) -> Result<ServeEnd, OpenFault>
 where
     C::Disk: Drop,
-    requires some { 1 ≤ asked.connections }
-    requires connections { asked.connections ≤ 10000 }
-    requires workers { asked.workers ≤ 16 }
+    requires some { 1 ≤ options.connections }
+    requires connections { options.connections ≤ 10000 }
+    requires workers { options.workers ≤ 16 }
     requires none { (L.told doors.old).given ≡ [] }
-    ensures over { RunsOver C.Disk.Disk name.now (LeadsTo C.Disk.Disk) (ServesBetween asked.connections (doorway L.Doors doors.old) (doorway L.Doors doors.new))
+    ensures over { RunsOver C.Disk.Disk name.now (LeadsTo C.Disk.Disk) (ServesBetween C.Disk.Disk options.workers options.connections (doorway L.Doors doors.old) (doorway L.Doors doors.new))
         result (shelf C.Cabinet cabinet.old) (shelf C.Cabinet cabinet.new) }
     ensures unopened { IsErr result → (doors.new ≡ doors.old) × (spawner.new ≡ spawner.old) }
     ensures unserved { result ≡ Ok ServeEnd.NoMemory → spawner.new ≡ spawner.old }
 {
     let office = open_office(alloc, cabinet, name)?;
-    let (office, end) = serve_over(rt, alloc, office, doors, spawner, gate, asked);
+    let (office, end) = serve_over(rt, alloc, office, doors, spawner, gate, options);
     close_office(cabinet, name, office);
     Ok(end)
 }
@@ -114,14 +114,14 @@ fn serve_over<
     doors: &mut L,
     spawner: &mut P,
     gate: &G,
-    asked: Asked,
+    options: ServeOptions,
 ) -> (Office<D>, ServeEnd)
     requires counted { HasCounted office.register.history (D.faults office.disk) }
-    requires some { 1 ≤ asked.connections }
-    requires connections { asked.connections ≤ 10000 }
-    requires workers { asked.workers ≤ 16 }
+    requires some { 1 ≤ options.connections }
+    requires connections { options.connections ≤ 10000 }
+    requires workers { options.workers ≤ 16 }
     requires none { (L.told doors.old).given ≡ [] }
-    ensures served { ServesBetween asked.connections (doorway L.Doors doors.old) (doorway L.Doors doors.new) result.1
+    ensures served { ServesBetween D.Disk options.workers options.connections (doorway L.Doors doors.old) (doorway L.Doors doors.new) result.1
         office.register.history result.0.register.history }
     ensures counted { HasCounted result.0.register.history (D.faults result.0.disk) }
     ensures unserved { result.1 ≡ ServeEnd.NoMemory → spawner.new ≡ spawner.old }
@@ -130,7 +130,7 @@ fn serve_over<
         Ok(shared) => shared,
         Err(office) => return (office, ServeEnd::NoMemory),
     };
-    let (pass, end) = serve_behind(rt, alloc, &lock, pass, doors, spawner, gate, asked);
+    let (pass, end) = serve_behind(rt, alloc, &lock, pass, doors, spawner, gate, options);
     (take_back(&lock, pass), end)
 }
 
@@ -149,24 +149,24 @@ fn serve_behind<
     doors: &mut L,
     spawner: &mut P,
     gate: &G,
-    asked: Asked,
+    options: ServeOptions,
 ) -> (Pass<Shared<D>>, ServeEnd)
     requires pass { IsOf lock.now.value pass }
     requires share { share pass ≡ 2 ^ 32 }
     requires open { has_ended (seen pass) ≡ false }
-    requires some { 1 ≤ asked.connections }
-    requires connections { asked.connections ≤ 10000 }
-    requires workers { asked.workers ≤ 16 }
+    requires some { 1 ≤ options.connections }
+    requires connections { options.connections ≤ 10000 }
+    requires workers { options.workers ≤ 16 }
     requires none { (L.told doors.old).given ≡ [] }
     ensures pass { IsOf lock.now.value result.0 }
     ensures share { share result.0 ≡ 2 ^ 32 }
     ensures begins { IsPrefix (seen pass) (seen result.0) }
-    ensures ends { IsServeEnd result.1 asked.connections (L.told doors.new).given (L.faults doors.old) (L.faults doors.new) }
-    ensures served { ServedBeside (fixed_in lock.now.value) (seen pass) (seen result.0) (tally pass) (tally result.0)
+    ensures ends { IsServeEnd result.1 options.connections (L.told doors.new).given (L.faults doors.old) (L.faults doors.new) }
+    ensures served { ServedBeside lock.now.value options.workers (seen pass) (seen result.0) (tally pass) (tally result.0)
         (L.told doors.new).given (L.told doors.new).back ⊎ (((L.told doors.new).given ≡ []) × (result.0 ≡ pass)) }
     ensures unserved { result.1 ≡ ServeEnd.NoMemory → ((L.told doors.new).given ≡ []) × (result.0 ≡ pass) × (spawner.new ≡ spawner.old) }
 {
-    match doors.listen(asked.port) {
+    match doors.listen(options.port) {
         Ok(()) => serve_all(
             rt,
             alloc,
@@ -175,8 +175,8 @@ fn serve_behind<
             doors,
             spawner,
             gate,
-            asked.workers,
-            asked.connections,
+            options.workers,
+            options.connections,
         ),
         Err(_) => (pass, ServeEnd::DoorFault),
     }

@@ -1,12 +1,14 @@
 //! The status and the line with which the program ends.
 
 ghost use Rattle.std.specs.Prelude.{◌≡◌, ◌≤◌, ◌++◌, ◌∷◌, [], false, decimal};
-ghost use Rattle.commands.specs.Statuses.{IsReported, line_of, status_of};
+ghost use Rattle.commands.specs.Statuses.{IsReported, line_of, status_of, unit_code};
 ghost use Rattle.commands.specs.Worlds.{sink_told};
 ghost use Rattle.devices.specs.Faults.{Rose};
 ghost use Rattle.devices.specs.Sinks.{AreWritten};
 
 use devices::{Sink, put_all};
+use midsection::NotesFault;
+use rdb_records::UnitFault;
 
 /// What a run comes to, whatever its command.
 #[derive(Clone, Copy, Debug, PartialEq, Eq)]
@@ -37,6 +39,14 @@ pub enum Ending {
     NotADocument,
     /// More of the input is needed than may be taken.
     TooLong,
+    /// The input is no unit values of a site, by its first fault.
+    UnitsRefused(UnitFault),
+    /// The input is longer than unit values may be.
+    UnitsTooLong,
+    /// The input is no notes of a measurement, by its first fault.
+    NotesRefused(NotesFault),
+    /// The input is longer than the notes of a measurement may be.
+    NotesTooLong,
 }
 
 impl Ending {
@@ -65,6 +75,8 @@ impl Ending {
             Ending::Exists => 8,
             Ending::Malformed(_) | Ending::NotADocument => 9,
             Ending::TooLong => 10,
+            Ending::UnitsRefused(_) | Ending::UnitsTooLong => 13,
+            Ending::NotesRefused(_) | Ending::NotesTooLong => 14,
         }
     }
 
@@ -89,6 +101,12 @@ impl Ending {
             Ending::Malformed(at) => say_offset(faults, b"streamoffice: malformed at ", at),
             Ending::NotADocument => say(faults, b"streamoffice: not a station document\n"),
             Ending::TooLong => say(faults, b"streamoffice: input too long\n"),
+            Ending::UnitsRefused(fault) => say_units(faults, fault),
+            Ending::UnitsTooLong => {
+                say_code(faults, b"streamoffice: rdb ", "Long", b" at line ", 0);
+            }
+            Ending::NotesRefused(fault) => say_notes(faults, fault),
+            Ending::NotesTooLong => say_code(faults, b"streamoffice: notes ", "Long", b" at ", 0),
         }
     }
 }
@@ -114,6 +132,77 @@ fn say_offset<E: Sink>(faults: &mut E, words: &[u8], at: u64)
 {
     let mut buffer = itoa::Buffer::new();
     let _whole = put_digits(faults, words, buffer.format(at).as_bytes());
+}
+
+/// Puts the line of what makes an input no unit values.
+fn say_units<E: Sink>(faults: &mut E, fault: UnitFault)
+    ensures { IsReported (line_of (Ending.UnitsRefused fault)) (sink_told E.Sink faults.old) (sink_told E.Sink faults.new) }
+{
+    say_code(
+        faults,
+        b"streamoffice: rdb ",
+        unit_code(fault),
+        b" at line ",
+        fault.line(),
+    );
+}
+
+/// Puts the line of what makes an input no notes.
+fn say_notes<E: Sink>(faults: &mut E, fault: NotesFault)
+    ensures { IsReported (line_of (Ending.NotesRefused fault)) (sink_told E.Sink faults.old) (sink_told E.Sink faults.new) }
+{
+    say_code(
+        faults,
+        b"streamoffice: notes ",
+        fault.code(),
+        b" at ",
+        fault.record_number(),
+    );
+}
+
+/// The code of what makes a text no unit values.
+fn unit_code(fault: UnitFault) -> &'static str
+    ensures { result.now ≡ unit_code fault }
+{
+    match fault {
+        UnitFault::NoNames => "NoNames",
+        UnitFault::NoColumn(_) => "NoColumn",
+        UnitFault::Site(_) => "Site",
+        UnitFault::Zone(_) => "Zone",
+        UnitFault::Instant(_) => "Instant",
+        UnitFault::Order(_) => "Order",
+        UnitFault::Range(_) => "Range",
+        UnitFault::NoMemory => "NoMemory",
+    }
+}
+
+/// Puts a line of words, a code, further words and a number, or as much of it as the sink takes.
+fn say_code<E: Sink>(faults: &mut E, kind: &[u8], code: &str, place: &[u8], at: u64)
+    ensures { IsReported (kind.now ++ (code.now ++ (place.now ++ (decimal at ++ 10 ∷ [])))) (sink_told E.Sink faults.old) (sink_told E.Sink faults.new) }
+{
+    let mut buffer = itoa::Buffer::new();
+    let _whole = put_code(
+        faults,
+        kind,
+        code.as_bytes(),
+        place,
+        buffer.format(at).as_bytes(),
+    );
+}
+
+/// Puts words, a code, further words, digits and the end of a line; whether the sink took them.
+fn put_code<E: Sink>(faults: &mut E, kind: &[u8], code: &[u8], place: &[u8], digits: &[u8]) -> bool
+    ensures written { AreWritten (E.written faults.old) (kind.now ++ (code.now ++ (place.now ++ (digits.now ++ 10 ∷ [])))) (E.written faults.new) result }
+    ensures counted { E.faults faults.old ≤ E.faults faults.new }
+    ensures cause { result ≡ false → Rose (E.faults faults.old) (E.faults faults.new) }
+{
+    if !put_all(faults, kind) {
+        return false;
+    }
+    if !put_all(faults, code) {
+        return false;
+    }
+    put_digits(faults, place, digits)
 }
 
 /// Puts words, digits and the end of a line; whether the sink took them.

@@ -1,7 +1,7 @@
 //! What holds of the runs of all commands, and of those of one.
 
 ghost use Rattle.std.specs.Prelude.{◌≡◌, ◌⊎◌, ℕ, List};
-ghost use Rattle.command_words.specs.Words.{Asked, Batch, Init, Stations, Trial};
+ghost use Rattle.command_words.specs.Words.{Asked, Batch, Import, ImportAsked, Init, Notes, NotesAsked, Stations, Trial};
 ghost use Rattle.commands.specs.Runs.{Runs};
 ghost use Rattle.commands.specs.Worlds.{DoorsStay, StreamsStay, World, told_by};
 
@@ -39,9 +39,9 @@ pub fn a_run_without_memory_writes_nothing<
         → StreamsStay before after }
 {}
 
-/// Where the input of `stations` was not read, or is no document, nothing was written: then the history that its run tells of is the one
-/// that was found.
-pub fn a_document_that_is_not_read_adds_nothing<
+/// Where the input of `stations`, `import` or `notes` was not read, or is refused, nothing was written: then the history that the run tells
+/// of is the one that was found.
+pub fn an_input_that_is_not_read_adds_nothing<
     S: Source,
     K: Sink,
     E: Sink,
@@ -49,9 +49,15 @@ pub fn a_document_that_is_not_read_adds_nothing<
     L: Doors,
     P: Spawner,
 >()
-    ensures { (name : List ℕ) (status : ℕ) (before after : World S K E C L P)
+    ensures stations { (name : List ℕ) (status : ℕ) (before after : World S K E C L P)
         → Runs C.Disk.Disk (told_by S.Source K.Sink E.Sink C.Cabinet L.Doors P.Spawner) (Stations name) status before after
         → (status ≡ 2) ⊎ (status ≡ 9) → after.output ≡ before.output }
+    ensures import { (asked : ImportAsked) (status : ℕ) (before after : World S K E C L P)
+        → Runs C.Disk.Disk (told_by S.Source K.Sink E.Sink C.Cabinet L.Doors P.Spawner) (Import asked) status before after
+        → (status ≡ 2) ⊎ (status ≡ 13) → after.output ≡ before.output }
+    ensures notes { (asked : NotesAsked) (status : ℕ) (before after : World S K E C L P)
+        → Runs C.Disk.Disk (told_by S.Source K.Sink E.Sink C.Cabinet L.Doors P.Spawner) (Notes asked) status before after
+        → (status ≡ 2) ⊎ (status ≡ 14) → after.output ≡ before.output }
 {}
 
 /// `init` touches the cabinet alone, and `trial` the output alone; beside both stands only the line on the sink of faults.

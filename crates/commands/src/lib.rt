@@ -1,5 +1,5 @@
-//! The commands of the program: a journal is made, or the messages of an input or of connections are served over one, or a document's stations
-//! are added; or the trial of a number is run.
+//! The commands of the program: a journal is made, or the messages of an input or of connections are served over one, or what an input states
+//! is put into it (stations, unit values, the notes of a measurement); or the trial of a number is run.
 #![tactic(auto)]
 
 mod batch;

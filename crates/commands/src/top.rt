@@ -1,9 +1,9 @@
 //! The call that the program makes.
 
-ghost use Rattle.std.specs.Prelude.{◌≡◌, ◌↔◌, [], map, string_bytes};
+ghost use Rattle.std.specs.Prelude.{◌≡◌, ◌≤◌, ◌↔◌, [], map, string_bytes};
 ghost use Rattle.command_words.specs.Commands.{asked_by};
 ghost use Rattle.command_words.specs.Laws.{CanBeAsked};
-ghost use Rattle.command_words.specs.Words.{Asked, IsAsked};
+ghost use Rattle.command_words.specs.Words.{Asked, Batch, IsAsked};
 ghost use Rattle.commands.specs.Ready.{Completes};
 ghost use Rattle.commands.specs.Runs.{AreTold, AskNothing, Runs};
 ghost use Rattle.commands.specs.Worlds.{told_by, world};
@@ -13,7 +13,7 @@ use crate::batch::serve_input;
 use crate::beside::serve_beside;
 use crate::connections::{self, serve_connections};
 use crate::endings::Ending;
-use crate::loading::load_input;
+use crate::loading::{import_input, load_input, note_input};
 use crate::making::make_journal;
 use crate::trying::write_trial;
 use command_words::{Command, WordsFault, read_words};
@@ -85,7 +85,7 @@ where
 {
     match read_words(alloc, words) {
         Ok(command) => run_command(
-            rt, alloc, command, input, output, faults, cabinet, doors, spawner, gate,
+            rt, alloc, &command, input, output, faults, cabinet, doors, spawner, gate,
         ),
         Err(WordsFault::Usage) => Ending::Usage.finish(faults),
         Err(WordsFault::NoMemory) => Ending::NoMemory.finish(faults),
@@ -105,7 +105,7 @@ fn run_command<
 >(
     rt: R,
     alloc: Global,
-    command: Command<'_>,
+    command: &Command<'_>,
     input: &mut S,
     output: &mut K,
     faults: &mut E,
@@ -116,37 +116,27 @@ fn run_command<
 ) -> u8
 where
     C::Disk: Drop,
-    requires asked { CanBeAsked (asked_by command) }
+    requires asked { CanBeAsked (asked_by command.now) }
     requires none { (L.told doors.old).given ≡ [] }
-    ensures { Runs C.Disk.Disk (told_by S.Source K.Sink E.Sink C.Cabinet L.Doors P.Spawner) (asked_by command.entry)
+    ensures { Runs C.Disk.Disk (told_by S.Source K.Sink E.Sink C.Cabinet L.Doors P.Spawner) (asked_by command.now)
         result (world input.old output.old faults.old cabinet.old doors.old spawner.old)
         (world input.new output.new faults.new cabinet.new doors.new spawner.new) }
 {
-    match command {
+    match *command {
         Command::Init(name) => {
             let made = make_journal(cabinet, name);
             Ending::from(made).finish(faults)
         }
-        Command::Batch {
-            journal,
-            workers: 0,
-        } => {
-            let end = serve_input(alloc, cabinet, journal, input, output);
-            Ending::from(end).finish(faults)
-        }
-        Command::Batch { journal, workers } => {
-            let end = serve_beside(
-                rt, alloc, cabinet, journal, input, output, spawner, gate, workers,
-            );
-            Ending::from(end).finish(faults)
-        }
+        Command::Batch { journal, workers } => run_batch(
+            rt, alloc, journal, workers, input, output, faults, cabinet, doors, spawner, gate,
+        ),
         Command::Serve {
             journal,
             port,
             workers,
             connections,
         } => {
-            let asked = connections::Asked {
+            let asked = connections::ServeOptions {
                 port,
                 workers,
                 connections,
@@ -162,5 +152,54 @@ where
             let end = write_trial(alloc, number, output);
             Ending::from(end).finish(faults)
         }
+        Command::Import(ref order) => {
+            let end = import_input(alloc, cabinet, order, input, output);
+            Ending::from(end).finish(faults)
+        }
+        Command::Notes(ref order) => {
+            let end = note_input(alloc, cabinet, order, input, output);
+            Ending::from(end).finish(faults)
+        }
     }
+}
+
+/// Replies to the requests of the input over the journal of a name, beside so many workers. Nobody is let in at the doors.
+#[tactic(auto, using(crate::proofs::BatchLemmas::over_some))]
+fn run_batch<
+    R: Threads + Wait + Clock + Copy + Drop + Send + 'static,
+    S: Source,
+    K: Sink,
+    E: Sink,
+    C: Cabinet,
+    L: Doors + Send + 'static,
+    P: Spawner,
+    G: Gate + Drop + Send + 'static,
+>(
+    rt: R,
+    alloc: Global,
+    name: &str,
+    workers: u32,
+    input: &mut S,
+    output: &mut K,
+    faults: &mut E,
+    cabinet: &mut C,
+    _doors: &L,
+    spawner: &mut P,
+    gate: &G,
+) -> u8
+where
+    C::Disk: Drop,
+    requires { workers ≤ 16 }
+    ensures { Runs C.Disk.Disk (told_by S.Source K.Sink E.Sink C.Cabinet L.Doors P.Spawner) (Batch name.now workers)
+        result (world input.old output.old faults.old cabinet.old _doors.now spawner.old)
+        (world input.new output.new faults.new cabinet.new _doors.now spawner.new) }
+{
+    if workers == 0 {
+        let end = serve_input(alloc, cabinet, name, input, output);
+        return Ending::from(end).finish(faults);
+    }
+    let end = serve_beside(
+        rt, alloc, cabinet, name, input, output, spawner, gate, workers,
+    );
+    Ending::from(end).finish(faults)
 }

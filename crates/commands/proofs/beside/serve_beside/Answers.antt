@@ -14,7 +14,7 @@ returns-clause-over g c =
     let office = c.in_ok-office.office in
     let served = c.serve_shared-office in
     shared_under g.C.Disk.Disk c.args.name.now
-    (ServedBesideWorkers g.C.Disk.Disk (ends_told (source_told g.S.Source c.args.input.now) (sink_told g.K.Sink c.args.output.now))
+    (ServedBesideWorkers g.C.Disk.Disk c.args.workers (ends_told (source_told g.S.Source c.args.input.now) (sink_told g.K.Sink c.args.output.now))
     (ends_told (source_told g.S.Source served.new.input) (sink_told g.K.Sink served.new.output)) served.result.1)
     office.register office.disk served.result.0.disk served.result.0.register.history
     (shelf g.C.Cabinet c.args.cabinet.now) (shelf g.C.Cabinet c.open_office.new.cabinet) (shelf g.C.Cabinet c.close_office.new.cabinet)

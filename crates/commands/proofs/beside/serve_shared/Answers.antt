@@ -12,13 +12,13 @@ use Rattle.turnstile.specs.Places.{IsEachOnce}
 pub returns-in-Err-clause-served : goal.returns-in-Err-clause-served
 returns-in-Err-clause-served g c =
     let ends = ends_told (source_told g.S.Source c.args.input.now) (sink_told g.K.Sink c.args.output.now) in
-    unbegun_beside g.D.Disk ends ends c.args.office.register.history c.in-Err.office.register.history c.in-Err.ensures.back
+    unbegun_beside g.D.Disk c.args.workers ends ends c.args.office.register.history c.in-Err.office.register.history c.in-Err.ensures.back
 
 pub returns-clause-served : goal.returns-clause-served
 returns-clause-served g c =
     let served = c.serve_behind-pass in
     let back = served.result.0 in
-    served_beside (ends_told (source_told g.S.Source c.args.input.now) (sink_told g.K.Sink c.args.output.now))
+    served_beside c.args.workers (ends_told (source_told g.S.Source c.args.input.now) (sink_told g.K.Sink c.args.output.now))
     (ends_told (source_told g.S.Source served.new.input) (sink_told g.K.Sink served.new.output)) served.result.1
     c.args.office.register.history c.take_back.result.register.history c.in-Ok.shared.0.value c.in-Ok.shared.1 back
     c.in-Ok.ensures.shared served.ensures.begins served.ensures.beside

@@ -13,7 +13,7 @@ use Rattle.turnstile.specs.Places.{IsEachOnce}
 pub returns-in-Err-clause-served : goal.returns-in-Err-clause-served
 returns-in-Err-clause-served g c =
     let doors = doorway g.L.Doors c.args.doors.now in
-    serves_nobody c.args.asked.connections doors doors c.args.office.register.history c.in-Err.office.register.history c.requires.none refl
+    serves_nobody g.D.Disk c.args.options.workers c.args.options.connections doors doors c.args.office.register.history c.in-Err.office.register.history c.requires.none refl
     c.in-Err.ensures.back
 
 pub serve_behind-pass-requires-clause-open : goal.serve_behind-pass-requires-clause-open
@@ -24,7 +24,7 @@ pub returns-clause-served : goal.returns-clause-served
 returns-clause-served g c =
     let served = c.serve_behind-pass.ensures in
     let back = c.serve_behind-pass.result.0 in
-    serves_between c.args.asked.connections (doorway g.L.Doors c.args.doors.now) (doorway g.L.Doors c.serve_behind-pass.new.doors)
+    serves_between c.args.options.workers c.args.options.connections (doorway g.L.Doors c.args.doors.now) (doorway g.L.Doors c.serve_behind-pass.new.doors)
     c.serve_behind-pass.result.1 c.args.office.register.history c.take_back.result.register.history c.in-Ok.shared.0.value c.in-Ok.shared.1 back
     c.in-Ok.ensures.shared served.begins served.ends served.served (λ memory. let nobody = served.unserved memory in (nobody.0, nobody.1))
     (c.take_back.ensures.history ∙ ap (λ (t : Lock g.row.D.Denot g.D.Disk). history_of (fixed_in t) (seen back)) c.deref.ensures)

@@ -1,6 +1,6 @@
 use Rattle.commands.proofs.OpeningLemmas.{works_under}
 use Rattle.commands.proofs.loading.load_input.Goals as goal
-use Rattle.commands.specs.Loading.{LoadedBetween}
+use Rattle.commands.specs.Loading.{StationsLoaded}
 use Rattle.commands.specs.Worlds.{shelf, sink_told, source_told}
 
 pub returns-clause-over : goal.returns-clause-over
@@ -8,7 +8,7 @@ returns-clause-over g c =
     let office = c.in_ok-office.office in
     let closed = c.load_stations-end.new.office in
     works_under g.C.Disk.Disk c.args.name.now
-    (LoadedBetween (source_told g.S.Source c.args.input.now) (source_told g.S.Source c.load_stations-end.new.source)
+    (StationsLoaded (source_told g.S.Source c.args.input.now) (source_told g.S.Source c.load_stations-end.new.source)
     (sink_told g.K.Sink c.args.output.now) (sink_told g.K.Sink c.load_stations-end.new.sink) c.load_stations-end.result)
     office.register office.disk closed.disk closed.register.history
     (shelf g.C.Cabinet c.args.cabinet.now) (shelf g.C.Cabinet c.open_office.new.cabinet) (shelf g.C.Cabinet c.close_office.new.cabinet)

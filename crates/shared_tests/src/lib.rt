@@ -3,4 +3,6 @@
 
 #[cfg(test)]
 mod drained;
+#[cfg(test)]
+mod newer_seen;
 pub mod offices;

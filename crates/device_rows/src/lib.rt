@@ -10,6 +10,7 @@ mod escapes;
 mod journals;
 mod memory;
 mod messages;
+mod orders;
 mod reads;
 mod replies;
 mod streams;

@@ -2,6 +2,7 @@
 
 use crate::escapes::{push_counted, push_shown};
 use crate::memory::bytes_of;
+use crate::orders::{push_import, push_notes};
 use command_words::{Command, WordsFault, read_words};
 use fixed_units::{NoMemory, Text};
 use std::alloc::Global;
@@ -23,7 +24,8 @@ fn read(alloc: Global, rest: &str, came: &mut Text) -> Result<(), NoMemory> {
 
 fn read_plain(alloc: Global, words: &str, came: &mut Text) -> Result<(), NoMemory> {
     let own = words_of(alloc, words)?;
-    push_asked(read_words(alloc, &own), came)
+    let asked = read_words(alloc, &own);
+    push_asked(&asked, came)
 }
 
 /// The words, as the program is given them.
@@ -40,7 +42,7 @@ fn push_word(alloc: Global, word: &str, own: &mut Vec<String>) -> Result<(), NoM
     Ok(())
 }
 
-fn push_asked(asked: Result<Command<'_>, WordsFault>, came: &mut Text) -> Result<(), NoMemory> {
+fn push_asked(asked: &Result<Command<'_>, WordsFault>, came: &mut Text) -> Result<(), NoMemory> {
     match asked {
         Ok(command) => push_command(command, came),
         Err(WordsFault::Usage) => came.push_slice(b"nothing"),
@@ -48,8 +50,8 @@ fn push_asked(asked: Result<Command<'_>, WordsFault>, came: &mut Text) -> Result
     }
 }
 
-fn push_command(command: Command<'_>, came: &mut Text) -> Result<(), NoMemory> {
-    match command {
+fn push_command(command: &Command<'_>, came: &mut Text) -> Result<(), NoMemory> {
+    match *command {
         Command::Init(name) => push_named(b"init ", name, came),
         Command::Batch { journal, workers } => push_batch(journal, workers, came),
         Command::Serve {
@@ -60,6 +62,8 @@ fn push_command(command: Command<'_>, came: &mut Text) -> Result<(), NoMemory> {
         } => push_serve(journal, [u32::from(port), workers, connections], came),
         Command::Stations(name) => push_named(b"stations ", name, came),
         Command::Trial(number) => push_counted(b"trial ", u64::from(number), came),
+        Command::Import(ref order) => push_import(order, came),
+        Command::Notes(ref order) => push_notes(order, came),
     }
 }
 
@@ -76,7 +80,7 @@ fn push_serve(journal: &str, numbers: [u32; 3], came: &mut Text) -> Result<(), N
     push_counted(b" connections ", u64::from(connections), came)
 }
 
-fn push_named(command: &[u8], name: &str, came: &mut Text) -> Result<(), NoMemory> {
+pub fn push_named(command: &[u8], name: &str, came: &mut Text) -> Result<(), NoMemory> {
     came.push_slice(command)?;
     push_shown(name.as_bytes(), came)
 }
@@ -106,7 +110,8 @@ fn asks(alloc: Global, words: &str, list: usize) -> Result<bool, NoMemory> {
         return Ok(false);
     }
     let own = words_at(alloc, words, &places)?;
-    is_asked(read_words(alloc, &own))
+    let asked = read_words(alloc, &own);
+    is_asked(&asked)
 }
 
 fn words_at(alloc: Global, words: &str, places: &[usize]) -> Result<Vec<String>, NoMemory> {
@@ -123,7 +128,7 @@ fn word_at(words: &str, place: usize) -> &str {
     words.split('|').nth(place).unwrap_or("")
 }
 
-fn is_asked(asked: Result<Command<'_>, WordsFault>) -> Result<bool, NoMemory> {
+fn is_asked(asked: &Result<Command<'_>, WordsFault>) -> Result<bool, NoMemory> {
     match asked {
         Ok(_) => Ok(true),
         Err(WordsFault::Usage) => Ok(false),

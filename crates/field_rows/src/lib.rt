@@ -15,11 +15,13 @@ mod rated;
 mod rating_parts;
 mod reading_lists;
 mod same_days;
+mod section_notes;
 mod series;
 mod sheet_texts;
 mod sites;
 mod tables;
 mod texts;
+mod unit_records;
 mod unit_values;
 mod whole_days;
 mod windows;
@@ -59,8 +61,10 @@ fn answer_of_a_station(
         "readings" => reading_lists::answer(alloc, word, rest, came)?,
         "curves" => curve_points::answer(alloc, word, rest, came)?,
         "tables" => tables::answer(alloc, word, rest, came)?,
+        "notes" => section_notes::answer(alloc, word, rest, came)?,
         "ratings" => rated::answer(alloc, word, rest, came)?,
         "periods" => periods::answer(alloc, word, rest, came)?,
+        "unit_records" => unit_records::answer(alloc, word, rest, came)?,
         "units" => unit_values::answer(alloc, word, rest, came)?,
         _ => return Ok(false),
     }

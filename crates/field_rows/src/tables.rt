@@ -94,7 +94,7 @@ fn read_escaped(alloc: Global, text: &str, bytes: &mut Text, came: &mut Text) ->
 }
 
 /// Writes a text in which `\n`, `\r` and `\t` stand for the end of a line, a carriage return and a tabulator, and `\m` for the mark of UTF-8.
-fn push_unescaped(text: &str, bytes: &mut Text) -> Result<(), Stop> {
+pub fn push_unescaped(text: &str, bytes: &mut Text) -> Result<(), Stop> {
     let (first, rest) = text.split_once('\\').unwrap_or((text, ""));
     bytes.push_slice(first.as_bytes())?;
     if rest.is_empty() {
@@ -146,7 +146,8 @@ fn push_numbered(name: &[u8], number: u64, came: &mut Text) -> Result<(), NoMemo
     push_next(i128::from(number), came)
 }
 
-fn push_line(line: u64, came: &mut Text) -> Result<(), NoMemory> {
+/// Writes a line by its number.
+pub fn push_line(line: u64, came: &mut Text) -> Result<(), NoMemory> {
     came.push_slice(b", line ")?;
     came.push_number(line)
 }

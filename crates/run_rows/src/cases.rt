@@ -2,10 +2,10 @@
 
 use crate::flaws::flawed_line;
 use crate::objects::{Ran, cabinet_of, ran_over};
-use crate::rows::{asked_in, says, told};
+use crate::rows::{asked_in, head_of, says, told};
 use crate::streams::{Side, push_stream};
-use crate::texts::{At, push_bytes, push_shown, push_text};
-use devices::MemoryCabinet;
+use crate::texts::{At, number_of, push_bytes, push_shown, push_text};
+use devices::{MemoryCabinet, MemoryDoors, MemoryEnds, MemorySink};
 use fixed_units::{NoMemory, Text};
 use std::alloc::Global;
 use std::sync::Wait;
@@ -147,22 +147,97 @@ fn judge(file: &str, run: &str, ran: &Ran, room: &mut Room) -> Result<&'static s
     if !is_same(ran.faults.bytes(), room)? {
         return Ok("what is told is");
     }
-    room.due.truncate(0);
-    push_stream(file, run, Side::Replied, &mut room.body, &mut room.due)?;
-    if !is_same(ran.output.bytes(), room)? {
+    if !is_written(file, head_of(run), &ran.output, room)? {
         return Ok("what is written is");
     }
-    judge_end(run, ran, room)
+    let what = judge_connections(file, run, &ran.doors, room)?;
+    if what.is_empty() {
+        judge_end(head_of(run), ran, room)
+    } else {
+        Ok(what)
+    }
+}
+
+/// Whether what was written is what is due, or what may come in its place.
+fn is_written(
+    file: &str,
+    run: &str,
+    output: &MemorySink,
+    room: &mut Room,
+) -> Result<bool, NoMemory> {
+    for replies in run.split("\nor\n") {
+        room.told.truncate(0);
+        room.due.truncate(0);
+        push_stream(file, replies, Side::Replied, &mut room.body, &mut room.due)?;
+        if is_same(output.bytes(), room)? {
+            return Ok(true);
+        }
+    }
+    Ok(false)
+}
+
+/// What of the connections at the doors is not as due.
+fn judge_connections(
+    file: &str,
+    run: &str,
+    doors: &MemoryDoors,
+    room: &mut Room,
+) -> Result<&'static str, NoMemory> {
+    let due = told(head_of(run), "given ");
+    let due = if due.is_empty() { "0" } else { due };
+    if !is_number(doors.given_count() as u64, due, room)? {
+        return Ok("the count of connections is");
+    }
+    let mut number = 0_u32;
+    for connection in run.split("\nconnection").skip(1) {
+        number = number.saturating_add(1);
+        let what = judge_connection(file, connection, doors.ends(number), room)?;
+        if !what.is_empty() {
+            return Ok(what);
+        }
+    }
+    Ok("")
+}
+
+/// What of a connection is not as due, which is taken back or is not let in.
+fn judge_connection(
+    file: &str,
+    connection: &str,
+    ends: Option<&MemoryEnds>,
+    room: &mut Room,
+) -> Result<&'static str, NoMemory> {
+    match ends {
+        Some(ends) => judge_ends(file, connection, ends, room),
+        None if says(connection, "unread") && !connection.contains("\n<") => Ok(""),
+        None => Ok("whether a connection is let in is"),
+    }
+}
+
+fn judge_ends(
+    file: &str,
+    connection: &str,
+    ends: &MemoryEnds,
+    room: &mut Room,
+) -> Result<&'static str, NoMemory> {
+    if !is_written(file, connection, &ends.output, room)? {
+        return Ok("what is written to a connection is");
+    }
+    Ok(judge_reads(connection, ends.input.calls()))
 }
 
 fn judge_end(run: &str, ran: &Ran, room: &mut Room) -> Result<&'static str, NoMemory> {
     if !is_number(u64::from(ran.status), told(run, "status "), room)? {
         return Ok("the status is");
     }
-    if says(run, "unread") == (ran.reads == 0) {
-        Ok("")
+    Ok(judge_reads(run, ran.reads))
+}
+
+/// Whether an input is not asked for bytes exactly where that is due.
+fn judge_reads(run: &str, reads: u64) -> &'static str {
+    if says(run, "unread") == (reads == 0) {
+        ""
     } else {
-        Ok("whether the input is read is")
+        "whether an input is read is"
     }
 }
 

@@ -12,6 +12,8 @@ enum Place {
     Row,
     /// In a run, or behind the runs of a row.
     Run,
+    /// In a connection of a run, or behind the runs of a row.
+    Connection,
 }
 
 /// The first line of a file that is none of a row, or that says nothing where it stands; an empty text where there is none.
@@ -31,6 +33,7 @@ fn behind(place: Place, word: &str) -> Place {
     match word {
         "==" => Place::Row,
         "run" => Place::Run,
+        "connection" => Place::Connection,
         _ => place,
     }
 }
@@ -42,6 +45,7 @@ fn is_well(file: &str, place: Place, word: &str, rest: &str) -> bool {
         Place::Head => is_of_head(word, rest),
         Place::Row => is_of_row(file, word, rest),
         Place::Run => is_of_run(file, word, rest),
+        Place::Connection => is_of_connection(file, word, rest),
     }
 }
 
@@ -64,12 +68,29 @@ fn is_of_row(file: &str, word: &str, rest: &str) -> bool {
 
 fn is_of_run(file: &str, word: &str, rest: &str) -> bool {
     match word {
+        "fail" => are_calls(rest, "input output faults doors"),
+        "told" => are_named(file, rest),
+        "handed" => rest == "back",
+        "status" | "given" => is_number(rest),
+        _ => is_of_streams(file, word, rest),
+    }
+}
+
+fn is_of_connection(file: &str, word: &str, rest: &str) -> bool {
+    match word {
+        "fail" => are_calls(rest, "input output"),
+        _ => is_of_streams(file, word, rest),
+    }
+}
+
+/// Whether the line is one of the streams of a run or a connection, or stands behind the runs of a row.
+fn is_of_streams(file: &str, word: &str, rest: &str) -> bool {
+    match word {
         "run" => true,
-        "fail" => are_calls(rest, "input output faults"),
-        ">" | "told" => are_named(file, rest),
+        ">" => are_named(file, rest),
         "<" => is_status(parted(rest).0) && are_named(file, rest),
         "left" => rest == "nothing" || are_bytes(file, rest),
-        "unread" => rest.is_empty(),
+        "unread" | "or" | "connection" => rest.is_empty(),
         _ => is_counted(word, rest) || is_raw(word) && are_named(file, rest),
     }
 }
@@ -77,7 +98,7 @@ fn is_of_run(file: &str, word: &str, rest: &str) -> bool {
 fn is_counted(word: &str, rest: &str) -> bool {
     match word {
         "piece" => is_number(rest) && rest != "0",
-        "repeat" | "status" | "calls" | "faults" => is_number(rest),
+        "repeat" | "calls" | "faults" => is_number(rest),
         _ => false,
     }
 }

@@ -1,13 +1,15 @@
-//! The objects of a run: its words, a source, two sinks, and a disk in a cabinet.
+//! The objects of a run: its words, a source, two sinks, a disk in a cabinet, and doors at which connections wait.
 
-ghost use Rattle.std.specs.Prelude.{◌<◌};
+ghost use Rattle.std.specs.Prelude.{◌<◌, ◌≡◌, [], IfOk};
+ghost use Rattle.devices.specs.MemoryDoors.{told_in_memory};
 
-use crate::rows::told;
+use crate::rows::{head_of, says, told};
 use crate::streams::{Side, push_stream};
 use crate::texts::push_bytes;
 use commands::run_office;
 use devices::{
-    MemoryCabinet, MemoryDisk, MemoryDoors, MemorySink, MemorySource, OpenGate, ThreadSpawner,
+    HandsBack, MemoryCabinet, MemoryDisk, MemoryDoors, MemoryEnds, MemorySink, MemorySource,
+    OpenGate, Spawner, ThreadSpawner,
 };
 use fixed_units::{NoMemory, Text};
 use std::alloc::Global;
@@ -26,6 +28,8 @@ pub struct Ran {
     pub faults: MemorySink,
     /// How often the input was asked for bytes.
     pub reads: u64,
+    /// The doors.
+    pub doors: MemoryDoors,
 }
 
 /// The cabinet of a row.
@@ -84,8 +88,9 @@ pub fn ran_over<R: Threads + Wait + Clock + Copy + Drop + Send + 'static>(
     body: &mut Text,
 ) -> Result<Ran, NoMemory> {
     let words = words_of(alloc, run)?;
-    let mut source = source_of(alloc, file, run, body)?;
-    run_with(rt, alloc, run, &words, &mut source, cabinet)
+    let doors = doors_of(alloc, file, run, body)?;
+    let mut source = source_of(alloc, file, head_of(run), body)?;
+    run_with(rt, alloc, head_of(run), &words, &mut source, cabinet, doors)
 }
 
 fn run_with<R: Threads + Wait + Clock + Copy + Drop + Send + 'static>(
@@ -95,20 +100,50 @@ fn run_with<R: Threads + Wait + Clock + Copy + Drop + Send + 'static>(
     words: &[String],
     source: &mut MemorySource,
     cabinet: &mut MemoryCabinet,
-) -> Result<Ran, NoMemory> {
+    mut doors: MemoryDoors,
+) -> Result<Ran, NoMemory>
+    requires { (told_in_memory doors.places.items).given ≡ [] }
+{
     let mut output = sink_of(alloc, run, "fail output ")?;
     let mut faults = sink_of(alloc, run, "fail faults ")?;
-    let status = status_of(rt, alloc, words, source, &mut output, &mut faults, cabinet);
+    let status = if says(run, "handed back") {
+        let mut spawner = HandsBack::new();
+        status_of(
+            rt,
+            alloc,
+            words,
+            source,
+            &mut output,
+            &mut faults,
+            cabinet,
+            &mut doors,
+            &mut spawner,
+        )
+    } else {
+        let mut spawner = ThreadSpawner::new();
+        status_of(
+            rt,
+            alloc,
+            words,
+            source,
+            &mut output,
+            &mut faults,
+            cabinet,
+            &mut doors,
+            &mut spawner,
+        )
+    };
     Ok(Ran {
         status,
         output,
         faults,
         reads: source.calls(),
+        doors,
     })
 }
 
-/// The status of a run, at whose doors nobody waits.
-fn status_of<R: Threads + Wait + Clock + Copy + Drop + Send + 'static>(
+/// The status of a run.
+fn status_of<R: Threads + Wait + Clock + Copy + Drop + Send + 'static, P: Spawner>(
     rt: R,
     alloc: Global,
     words: &[String],
@@ -116,21 +151,38 @@ fn status_of<R: Threads + Wait + Clock + Copy + Drop + Send + 'static>(
     output: &mut MemorySink,
     faults: &mut MemorySink,
     cabinet: &mut MemoryCabinet,
-) -> u8 {
-    let mut doors = MemoryDoors::new(alloc, Vec::new(alloc));
-    let mut spawner = ThreadSpawner::new();
+    doors: &mut MemoryDoors,
+    spawner: &mut P,
+) -> u8
+    requires { (told_in_memory doors.old.places.items).given ≡ [] }
+{
     run_office(
-        rt,
-        alloc,
-        words,
-        source,
-        output,
-        faults,
-        cabinet,
-        &mut doors,
-        &mut spawner,
-        &OpenGate,
+        rt, alloc, words, source, output, faults, cabinet, doors, spawner, &OpenGate,
     )
+}
+
+/// The doors of a run, at which its connections wait.
+fn doors_of(alloc: Global, file: &str, run: &str, body: &mut Text) -> Result<MemoryDoors, NoMemory>
+    ensures { IfOk result (λ doors. (told_in_memory doors.places.items).given ≡ []) }
+{
+    let failing = numbers(alloc, told(head_of(run), "fail doors "))?;
+    let mut doors = MemoryDoors::new(alloc, failing);
+    for connection in run.split("\nconnection").skip(1) {
+        doors.add(ends_of(alloc, file, connection, body)?)?;
+    }
+    Ok(doors)
+}
+
+/// The ends of a connection.
+fn ends_of(
+    alloc: Global,
+    file: &str,
+    connection: &str,
+    body: &mut Text,
+) -> Result<MemoryEnds, NoMemory> {
+    let input = source_of(alloc, file, connection, body)?;
+    let output = sink_of(alloc, connection, "fail output ")?;
+    Ok(MemoryEnds { input, output })
 }
 
 /// The words of a run.

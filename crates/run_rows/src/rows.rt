@@ -11,8 +11,13 @@
 //! - `< STATUS KIND TEXT` is a reply that is due (`json`, `GET` or `POST` where that method alone is allowed, `sheet`, `table`), and `<< TEXT`
 //!   and `<<N TEXT` are bytes of the output.
 //! - `repeat N` repeats the requests and replies behind it so many times, up to the next `repeat` or the end of the run.
+//! - `or` begins replies that may come in the place of all those before it in the run.
 //! - `told TEXT` is what is told of faults; without it nothing is. `status N` is the status. `unread` says that the input is not asked for
 //!   bytes; without it it is.
+//! - `handed back` says that no thread can be started. `fail doors N ..` are the calls of the doors that fail, and `given N` how many
+//!   connections are given; without it none is.
+//! - `connection` begins, behind all of these, a connection that waits at the doors, with requests, replies, `fail input`, `fail output`,
+//!   `piece`, `repeat` and `unread` of its own.
 //! - Behind the runs: `left BYTES` is what stands under `J` then, and `left nothing` that nothing does; it may lack where no call of the disk
 //!   fails. `calls N` is how many calls the disk had, where that is told, and `faults N` what the cabinet counts; without it that is 0.
 //!
@@ -52,4 +57,9 @@ pub fn asked_in(file: &str) -> u64 {
         }
     }
     asked
+}
+
+/// What stands in a run before its connections.
+pub fn head_of(run: &str) -> &str {
+    run.split_once("\nconnection").unwrap_or((run, "")).0
 }

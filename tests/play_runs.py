@@ -5,17 +5,21 @@
 
 Each row has a folder of its own, in which the journal before is the file `J`, and its runs come one behind another: their words, what is
 on standard input, the exit status, what is on standard output and on standard error, and, behind the last, the bytes of the journal. A
-row with a line `fail` needs an object in memory that fails, and is not played; nor can be seen here how many calls a disk had, what a cabinet
-counted and whether the input was read. The notation is told in crates/run_rows/src/rows.rt and texts.rt. FILE is a name such as `days.txt`;
+row with a line `fail`, one at whose doors fewer connections wait than are asked for, and one whose threads cannot be started need an object in
+memory, and are not played; nor can be seen here how many calls a disk had, what a cabinet counted and whether an input was read. Connections
+are those of a free port of this machine, one behind another. The notation is told in crates/run_rows/src/rows.rt and texts.rt. FILE is a name such as `days.txt`;
 without one all of them are played. The script tells each row that is not as due, and ends with status 1 then.
 """
 import datetime
 import os
 import pathlib
 import re
+import socket
 import subprocess
 import sys
 import tempfile
+
+from servers import free_port, read_all, wait_for
 
 DATA = pathlib.Path(__file__).resolve().parent.parent / "crates/run_rows/data"
 STATUSES = {
@@ -130,6 +134,27 @@ def shown(value, other):
     return value[begin : begin + 300]
 
 
+def chosen(texts, got):
+    return got if got in texts else texts[0]
+
+
+def pieces(data, most):
+    """The bytes in pieces of at most so many, or whole."""
+    size = int(most or len(data) or 1)
+    return [data[start : start + size] for start in range(0, len(data), size)]
+
+
+def needs_memory(lines):
+    """Whether a row needs an object that fails, or a thread that cannot be started."""
+    return any(line.startswith("fail ") or line in ("handed back", "told streamoffice: door fault\\n") for line in lines)
+
+
+def parts_of(run):
+    """What stands in a run before its connections, and each of these."""
+    starts = [place for place, line in enumerate(run) if line == "connection"] + [len(run)]
+    return run[: starts[0]], [run[start:end] for start, end in zip(starts, starts[1:])]
+
+
 class Played:
     """How many runs were played, and how many came as due."""
 
@@ -139,7 +164,7 @@ class Played:
     def file(self, name):
         file = File(name)
         for title, lines in file.rows:
-            if any(line.startswith("fail ") for line in lines):
+            if needs_memory(lines):
                 self.left_out += len(runs_of(lines))
                 continue
             with tempfile.TemporaryDirectory() as folder:
@@ -158,19 +183,43 @@ class Played:
             self.compare(f"{title}, run {place + 1}", wanted, got)
 
     def due(self, file, run):
+        head, connections = parts_of(run)
+        given = int(said(head, "given") or 0)
         return {
-            "the status": int(said(run, "status")),
-            "what is written": file.stream(run, "<"),
-            "what is told": file.text(said(run, "told") or ""),
+            "the status": int(said(head, "status")),
+            "what is written": self.replies(file, head),
+            "what is told": file.text(said(head, "told") or ""),
+            "what is written to connections": [self.replies(file, each) for each in connections[:given]],
         }
 
+    def replies(self, file, lines):
+        """Each text that may be written."""
+        starts = [0] + [place for place, line in enumerate(lines) if line == "or"] + [len(lines)]
+        return [file.stream(lines[start:end], "<") for start, end in zip(starts, starts[1:])]
+
     def run(self, file, run, journal):
-        words = ["" if word == "''" else word for word in run[0].split(" ")[1:]]
-        data = file.stream(run, ">")
-        done = subprocess.run([self.program, *words], input=data, capture_output=True, cwd=journal.parent, timeout=600)
-        return {"the status": done.returncode, "what is written": done.stdout, "what is told": done.stderr}
+        head, connections = parts_of(run)
+        given, port = int(said(head, "given") or 0), free_port()
+        words = ["" if word == "''" else word for word in head[0].split(" ")[1:]]
+        words = [str(port) if before == "--port" else word for before, word in zip([""] + words, words)]
+        streams = {name: subprocess.PIPE for name in ("stdin", "stdout", "stderr")}
+        with subprocess.Popen([self.program, *words], cwd=journal.parent, **streams) as process:
+            written = []
+            for each in connections[:given] if given and wait_for(process, port) else []:
+                with socket.create_connection(("127.0.0.1", port), timeout=600) as stream:
+                    for piece in pieces(file.stream(each, ">"), said(each, "piece")):
+                        stream.sendall(piece)
+                    stream.shutdown(socket.SHUT_WR)
+                    written.append(read_all(stream))
+            output, told = process.communicate(file.stream(head, ">"), timeout=600)
+        return {"the status": process.returncode, "what is written": output, "what is told": told, "what is written to connections": written}
 
     def compare(self, title, wanted, got):
+        """Compares; where one of several texts may be written, with the one that was, or with the first."""
+        wanted["what is written"] = chosen(wanted["what is written"], got["what is written"])
+        both = wanted["what is written to connections"], got["what is written to connections"]
+        if len(both[0]) == len(both[1]):
+            wanted["what is written to connections"] = [chosen(*each) for each in zip(*both)]
         self.runs += 1
         self.as_due += wanted == got
         for what in wanted:
@@ -185,7 +234,7 @@ def main():
     played = Played(str(pathlib.Path(sys.argv[1]).resolve()))
     for name in sys.argv[2:] or (DATA / "files.txt").read_text().split():
         played.file(name)
-    print(f"{played.as_due} of {played.runs} runs as due; {played.left_out} need an object that fails, and were not played")
+    print(f"{played.as_due} of {played.runs} runs as due; {played.left_out} need an object in memory, and were not played")
     if played.as_due != played.runs or played.runs == 0:
         raise SystemExit(1)
 

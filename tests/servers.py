@@ -21,13 +21,8 @@ class Server:
 
     def __enter__(self):
         self.process = subprocess.Popen(self.words, stdout=subprocess.PIPE, stderr=subprocess.PIPE)
-        # Whether it listens is looked up and not tried: each try would be one of its connections.
-        for _ in range(2_000):
-            if listens(self.port):
-                return self
-            if self.process.poll() is not None:
-                break
-            time.sleep(0.005)
+        if wait_for(self.process, self.port):
+            return self
         self.process.kill()
         _, errors = self.process.communicate()
         raise SystemExit(f"{' '.join(map(str, self.words))} does not listen: status {self.process.returncode}, {errors!r}")
@@ -76,6 +71,17 @@ def listens(port):
     wanted = f"0100007F:{port:04X}"
     lines = [line.split() for line in pathlib.Path("/proc/net/tcp").read_text().splitlines()[1:]]
     return any(line[1] == wanted and line[3] == "0A" for line in lines)
+
+
+def wait_for(process, port):
+    """Whether the program listens within some ten seconds; this is looked up and not tried, since each try would be one of its connections."""
+    for _ in range(2_000):
+        if listens(port):
+            return True
+        if process.poll() is not None:
+            break
+        time.sleep(0.005)
+    return False
 
 
 def read_all(stream):

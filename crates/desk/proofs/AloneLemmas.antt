@@ -1,9 +1,9 @@
 -- What is replied by an office that nobody else asks, and what passes in it meanwhile.
 use Rattle.std.proofs.Common.{ℕ, ◌≤◌, List, Option, arith}
 use Rattle.desk.proofs.RepliesLemmas.{kept_behind, replies_by_part}
-use Rattle.desk.proofs.StretchLemmas.{passes_more}
+use Rattle.shared_office.proofs.StretchLemmas.{passes_more}
 use Rattle.desk.specs.Asked.{AnswersAlone}
-use Rattle.desk.specs.Passing.{Passes}
+use Rattle.shared_office.specs.Passages.{Passes}
 use Rattle.desk.specs.Replies.{IsAnswered}
 use Rattle.desk.specs.Replying.{AreReplies}
 use Rattle.desk.specs.Sessions.{IsServed, IsServedBy}

@@ -10,7 +10,7 @@ use Rattle.desk.specs.Replying.{memory_reply}
 use Rattle.desk.specs.declared.answers.Told.{Told}
 use Rattle.desk.specs.declared.answers.Told.TheVariants as tells
 use Rattle.desk.proofs.AnswerLemmas.{by_reading, forgone, memory_leaves}
-use Rattle.desk.proofs.PassingLemmas.{go_on_none}
+use Rattle.shared_office.proofs.PassageLemmas.{go_on_none}
 use Rattle.edits.specs.declared.content.Edit.{Edit}
 use Rattle.history.specs.After.{go_on}
 use Rattle.history.specs.Events.{Event, History}

@@ -7,7 +7,7 @@ use Rattle.approval.specs.declared.status.Status.{Status}
 use Rattle.edits.specs.declared.content.Edit.{Edit}
 use Rattle.desk.specs.Replies.{AreReplies, Fails, IsAnswered, IsLeftBy, day_reply, departure_reply, edit_reply, fault_reply, history_after, history_by, measurement_reply, reply_to, sheet_reply, station_reply, table_reply, tells_fault}
 use Rattle.desk.specs.Replying.{IsAnsweredBy, IsReplied, IsTold, memory_reply}
-use Rattle.desk.proofs.PassingLemmas.{Publishes}
+use Rattle.shared_office.proofs.PassageLemmas.{Publishes}
 use Rattle.desk.proofs.TurnLemmas.{publishes_turns}
 use Rattle.history.specs.After.{after_edit, after_fault, publication, reopen}
 use Rattle.history.specs.Awaited.{DayAnswer, pending_days}

@@ -96,7 +96,7 @@ module _ (fixed : Fixed) where
       (all_on one.mine is.0 one.grow more.0, omega (arith, split, sum, first, later))
 
 -- the faults of a list are among those of a list that goes on from it
-fewer_before : (xs ys : List Entry) → IsPrefix xs ys → fault_count (events_in xs) ≤ fault_count (events_in ys)
+pub fewer_before : (xs ys : List Entry) → IsPrefix xs ys → fault_count (events_in xs) ≤ fault_count (events_in ys)
 fewer_before xs ys on =
     let whole : fault_count (events_in ys) ≡ fault_count (events_in xs) + fault_count (events_in on.0) =
     ap (λ (l : List Entry). fault_count (events_in l)) (sym on.1) ∙ ap fault_count (events_on xs on.0) ∙ fault_count-append (events_in xs) (events_in on.0) in

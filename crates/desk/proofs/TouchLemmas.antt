@@ -8,7 +8,7 @@ use Rattle.desk.specs.Replies.{turned_reply}
 use Rattle.desk.specs.Replying.{AreReplies, IsAnsweredBy, IsReplied, IsTold}
 use Rattle.desk.proofs.GrowthLemmas.{Holdings, AllGrow, all_grow, grown_by, settlement_adds, turns_add}
 use Rattle.desk.proofs.DayByDayLemmas.{whole_settlement, whole_turns}
-use Rattle.desk.proofs.PassingLemmas.{go_on_none, published_on}
+use Rattle.shared_office.proofs.PassageLemmas.{go_on_none, published_on}
 use Rattle.desk.proofs.PendingOrderLemmas.{Comes, in_order}
 use Rattle.desk.proofs.RepliesLemmas.{replies_by_part}
 use Rattle.desk.proofs.TurnLemmas.{turns_end}

@@ -3,7 +3,7 @@ use Rattle.std.proofs.Common.{◌≡◌, ℕ, zero, suc, ◌+◌, ◌-◌, ◌�
 use Rattle.std.proofs.lemmas.List.{length-map}
 use Rattle.desk.specs.Replies.{IsLeftBy, turned_reply}
 use Rattle.fixed_units.specs.Quantities.{SiteNumber}
-use Rattle.desk.proofs.PassingLemmas.{Publishes, publishes_none, publishes_more}
+use Rattle.shared_office.proofs.PassageLemmas.{Publishes, publishes_none, publishes_more}
 use Rattle.history.specs.After.{after_publication, after_settlement, after_turn, after_turns, next_day, publication}
 use Rattle.history.specs.Awaited.{SiteDay, pending_days}
 use Rattle.history.specs.Events.{History}

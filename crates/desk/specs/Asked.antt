@@ -1,6 +1,6 @@
 -- Which asks only read, and what is answered by an office that nobody else asks, and what has become of it then.
 use Rattle.std.specs.Prelude.{◌≡◌, ℕ, ◌≤◌, List, ⊤}
-use Rattle.desk.specs.Passing.{Passes}
+use Rattle.shared_office.specs.Passages.{Passes}
 use Rattle.desk.specs.Replies.{IsAnswered}
 use Rattle.desk.specs.Replying.{memory_reply}
 use Rattle.devices.specs.declared.disks.Disk.{Ghosts}

@@ -1,8 +1,8 @@
 pub mod Answering
 pub mod Asked
 pub mod Behind
+pub mod Courses
 pub mod Endings
-pub mod Passing
 pub mod Replies
 pub mod Replying
 pub mod Serving

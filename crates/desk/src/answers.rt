@@ -3,7 +3,7 @@
 ghost use Rattle.std.specs.Prelude.{◌≡◌, ◌≤◌, ◌<◌, ◌+◌, ◌-◌, ◌^◌, ℕ, Bool, Some, length, min, OnOk, OnErr, IfOk, true, false};
 ghost use Rattle.desk.specs.Answering.{IsMade, IsRefusedBy, acceptance_or, told_bytes};
 ghost use Rattle.desk.specs.Asked.{IsReading};
-ghost use Rattle.desk.specs.Passing.{Passes};
+ghost use Rattle.shared_office.specs.Passages.{Passes};
 ghost use Rattle.desk.specs.Replies.{IsAnswered, IsLeftBy, fault_reply, history_after, reply_to};
 ghost use Rattle.desk.specs.Replying.{memory_reply};
 ghost use Rattle.edits.specs.declared.content.Edit.{Edit};

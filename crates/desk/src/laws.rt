@@ -1,9 +1,12 @@
 //! What holds of the replies of a session, over an office that nobody else asks and over one behind a lock.
 
-ghost use Rattle.std.specs.Prelude.{◌≡◌, ◌+◌, ◌-◌, ◌^◌, ◌≤◌, ℕ, List, [], ◌∷◌, All, count_by, min};
+ghost use Rattle.std.specs.Prelude.{◌≡◌, ◌+◌, ◌-◌, ◌^◌, ◌≤◌, ◌++◌, ℕ, ℤ, List, [], ◌∷◌, length, All, count_by, min};
+ghost use Rattle.std.specs.List.{AllByRecursion};
 ghost use mathlib.Core.List.{IsPrefix};
 ghost use Rattle.desk.specs.Behind as behind;
 ghost use Rattle.desk.specs.Behind.{Touch, Uses, faults_added};
+ghost use Rattle.desk.specs.Courses.{Asks, IsCourse, IsHeldInSteps, TellsDay, TellsDays};
+ghost use Rattle.shared_office.specs.Passages.{Passes, RoseBy};
 ghost use Rattle.desk.specs.Replies.{AreReplies, IsAnswered, IsOwn, tells_fault};
 ghost use Rattle.desk.specs.Replying as replying;
 ghost use Rattle.desk.specs.Replying.{memory_reply};
@@ -12,12 +15,19 @@ ghost use Rattle.desk.specs.Sessions.{IsServed};
 ghost use Rattle.desk.specs.declared.sessions.SessionEnd.{SessionEnd};
 ghost use Rattle.devices.specs.Doors.{Ends};
 ghost use Rattle.edits.specs.declared.content.Edit.{Edit};
+ghost use Rattle.fixed_units.specs.Quantities.{SiteNumber};
+ghost use Rattle.history.specs.Accepted.{accepted, edits_of};
 ghost use Rattle.history.specs.After.{reopen};
 ghost use Rattle.history.specs.Events.{History};
+ghost use Rattle.history.specs.Legal.{IsLegal};
 ghost use Rattle.http_api.specs.declared.asks.Ask.TheVariants as asks;
+ghost use Rattle.journal.specs.JournalBytes.{IsJournalOf};
 ghost use Rattle.office.specs.Counting.{fault_count};
+ghost use Rattle.office.specs.Steps.{GoesOver, IsCall, Step, added};
+ghost use Rattle.office.specs.Stops.{IsLeftBetween};
 ghost use Rattle.office_inputs.specs.declared.limits.Limits.{Limits};
 ghost use Rattle.records.specs.Sheets.{Record};
+ghost use Rattle.register.specs.Registered.{NoneOut, Registered};
 ghost use Rattle.shared_office.specs.Entries.{events_in, history_of};
 ghost use Rattle.shared_office.specs.Holdings.{Holding, Follow};
 ghost use Rattle.shared_office.specs.Passing.{adding, listed};
@@ -82,3 +92,50 @@ pub fn the_disk_has_counted_each_503<D: Disk>(shared: &Shared<D>)
 {
     let _ = &shared.office;
 }
+
+/// As many replies of a session over an office that nobody else asks are 503 as the disk's count of faults rose by at most, unless that
+/// stands at the end of its type: of the replies and of what has passed meanwhile, as one session tells of both.
+pub fn no_more_503s_than_faults<D: Disk>()
+    ensures { (h after : History) (messages : List Message) (replies : List (List ℕ)) (old new : D) → AreReplies h messages replies after
+        → Passes D.Disk h after old new → RoseBy (count_by tells_fault replies) (D.faults old) (D.faults new) }
+{}
+
+/// What an office that nobody else asks replies to messages it replies in its steps: where no claim is out it goes over by calls, from the
+/// history before the messages to the one behind them, and each message has its own of these, whose answers its reply tells. So what holds
+/// over steps holds of what is replied. Each holding of a session behind a lock is of steps likewise.
+pub fn replies_are_a_course()
+    ensures steps { (old : Registered) (messages : List Message) (replies : List (List ℕ)) (after : History) → NoneOut old
+        → AreReplies old.history messages replies after
+        → (new : Registered) × (steps : List Step) × IsCourse old steps messages replies new × (new.history ≡ after) × NoneOut new }
+    ensures over { (old new : Registered) (steps : List Step) (messages : List Message) (replies : List (List ℕ))
+        → IsCourse old steps messages replies new → GoesOver old steps new × All IsCall steps }
+    ensures held { (fixed : Fixed) (holdings : List (Holding (List Entry))) (messages : List Message) (replies : List (List ℕ))
+        → replying.AreReplies (Uses fixed) holdings messages replies [] → AllByRecursion (IsHeldInSteps fixed) holdings }
+{}
+
+/// What is replied for a day is true of the edits that were accepted so far, those that were acknowledged in the steps before among them: a
+/// value is that of computing from scratch, and any other answer names the last edit that changed the day, or says that none of them added
+/// the station. So is each row of a daily table. In place of both may stand the reply of want of memory.
+pub fn days_are_told_truly()
+    ensures day { (old new : Registered) (steps : List Step) (before behind : List Message) (message : Message) (told more : List (List ℕ)) (reply : List ℕ)
+        (site : SiteNumber) (day : ℤ) → length told ≡ length before
+        → IsCourse old steps (before ++ message ∷ behind) (told ++ reply ∷ more) new → Asks message (asks.DayOf site day)
+        → (first rest : List Step) × (steps ≡ first ++ rest) × TellsDay (edits_of old.history.events ++ added first) site day reply }
+    ensures table { (old new : Registered) (steps : List Step) (before behind : List Message) (message : Message) (told more : List (List ℕ)) (reply : List ℕ)
+        (site : SiteNumber) (from to : ℤ) → length told ≡ length before
+        → IsCourse old steps (before ++ message ∷ behind) (told ++ reply ∷ more) new → Asks message (asks.Daily site from to)
+        → (first rest : List Step) × (steps ≡ first ++ rest) × TellsDays (edits_of old.history.events ++ added first) site from to reply }
+{}
+
+/// Whatever a stop leaves at any point of a course of calls is opened in a course of steps: some of these calls and a stop, from the same
+/// office to one that goes on from the records that were found, which are those of the edits that were accepted up to that point and at most
+/// one more.
+pub fn a_stop_in_a_course_is_a_step()
+    ensures opened { (old new : Registered) (steps : List Step) (image : List ℕ) (pieces : List Record) → NoneOut old → IsLegal old.history
+        → All IsCall steps → GoesOver old steps new → IsLeftBetween old.history new.history image → IsJournalOf pieces image
+        → (opened : Registered) × (all : List Step) × GoesOver old all opened × (opened.history ≡ reopen old.history.limits pieces)
+        × NoneOut opened × IsLegal opened.history }
+    ensures few { (h after : History) (image : List ℕ) (pieces : List Record) → IsLegal after → after.limits ≡ h.limits
+        → (left : IsLeftBetween h after image) → IsJournalOf pieces image
+        → (more : List Record) × (length more ≤ 1) × (pieces ≡ accepted (h.events ++ left.since) ++ more) }
+{}

@@ -5,7 +5,7 @@ ghost use Rattle.std.specs.Prelude.{◌≡◌, ◌≢◌, ◌<◌, ◌≤◌, �
 ghost use Rattle.desk.specs.Answering.{told_bytes};
 ghost use Rattle.desk.specs.Asked.{AnswersAlone};
 ghost use Rattle.desk.specs.Endings.{is_malformed};
-ghost use Rattle.desk.specs.Passing.{Passes};
+ghost use Rattle.shared_office.specs.Passages.{Passes};
 ghost use Rattle.desk.specs.Replying.{IsReplied};
 ghost use Rattle.desk.specs.Sessions.{GoesOn, HasCause, IsEndOf, IsFinished, IsServed, IsServedBy, IsUnderWay};
 ghost use Rattle.devices.specs.Faults.{Rose};

@@ -34,7 +34,7 @@ went_at : (fixed : Fixed) (came : Ends) (start : ℕ) (list : List Entry) (ps : 
 went_at fixed came start list ps None s = absurd s
 went_at fixed came start list ps (Some w) s = served_at fixed came w start list ps s
 
-connections_at : (fixed : Fixed) (start : ℕ) (list : List Entry) (back : ℕ → Option Ends) (number : ℕ) (given : List Ends) (connections : List (List ℕ))
+pub connections_at : (fixed : Fixed) (start : ℕ) (list : List Entry) (back : ℕ → Option Ends) (number : ℕ) (given : List Ends) (connections : List (List ℕ))
     → AreServed fixed start list back number given connections → AllByRecursion (λ ps. AllByRecursion (IsEventAt IsAny list) ps) connections
 connections_at fixed start list back number given [] s = tt
 connections_at fixed start list back number [] (c ∷ cs) s = absurd s
@@ -42,16 +42,17 @@ connections_at fixed start list back number (came ∷ given) (c ∷ cs) s =
     (went_at fixed came start list c (back number) s.0, connections_at fixed start list back (number + 1) given cs s.1)
 
 -- and at each of a worker a publication
-work_at : {D : Type 0} {g : Ghosts D} (lock : Lock D g) (list : List Entry) (ps : List ℕ) → IsWorkIn lock list ps → AllByRecursion (IsEventAt IsPublished list) ps
-work_at lock list ps w =
-    subst (λ (l : List ℕ). AllByRecursion (IsEventAt IsPublished list) l) (sym w.places_are) (holdings_at IsPublished [] w.holdings list w.follow (tasks_add w.holdings w.adds))
+pub work_at : {D : Type 0} {g : Ghosts D} (lock : Lock D g) (start list : List Entry) (ps : List ℕ) → IsWorkIn lock start list ps
+    → AllByRecursion (IsEventAt IsPublished list) ps
+work_at lock start list ps w =
+    subst (λ (l : List ℕ). AllByRecursion (IsEventAt IsPublished list) l) (sym w.places_are) (holdings_at IsPublished start w.holdings list w.follow (tasks_add w.holdings w.adds))
 
 published_at : (list : List Entry) (place : ℕ) → IsEventAt IsPublished list place → IsPublicationAt list place
 published_at list place e = (e.1.0, e.1.1, e.2 ∙ ap (λ (event : Event). Some (Happened event)) e.1.2)
 
-published_in : {D : Type 0} {g : Ghosts D} (lock : Lock D g) (list : List Entry) (ps : List ℕ) → IsWorkIn lock list ps → All (IsPublicationAt list) ps
-published_in lock list ps w =
-    All-from_recursion (IsPublicationAt list) ps (all_weaker (IsEventAt IsPublished list) (IsPublicationAt list) (published_at list) ps (work_at lock list ps w))
+published_in : {D : Type 0} {g : Ghosts D} (lock : Lock D g) (start list : List Entry) (ps : List ℕ) → IsWorkIn lock start list ps → All (IsPublicationAt list) ps
+published_in lock start list ps w =
+    All-from_recursion (IsPublicationAt list) ps (all_weaker (IsEventAt IsPublished list) (IsPublicationAt list) (published_at list) ps (work_at lock start list ps w))
 
 -- What was seen at the start; what was seen once the connections were taken in; what was there when the end was told; and what is seen then.
 -- The tally is that of the whole share.
@@ -59,7 +60,7 @@ module _ {D : Type 0} {g : Ghosts D} (lock : Lock D g) (before taken from after 
     (connections workers : List (List ℕ)) (count first : ℕ) where
   module _ (unended : has_ended before ≡ false) (within : All (λ place. place < length before) tally_before) (begun : first ≤ length before)
       (count_is : length workers ≡ count) (grows : IsPrefix before taken) (enters : IsPrefix taken from) (leaves : IsPrefix (with_ending from) after)
-      (served : AreServed (fixed_in lock) (length before) taken back 1 given connections) (work : All (IsWorkIn lock after) workers)
+      (served : AreServed (fixed_in lock) (length before) taken back 1 given connections) (work : All (IsWorkIn lock before after) workers)
       (tally_is : tally_after ≡ ((tally_before ++ concat connections) ++ places (length from) (length (with_ending from) - length from)) ++ concat workers)
       (once : IsEachOnce first (length after) tally_after) where
     counted : (place : ℕ) → times place tally_after ≡ times place tally_before + (times place (concat connections)
@@ -89,8 +90,8 @@ module _ {D : Type 0} {g : Ghosts D} (lock : Lock D g) (before taken from after 
         (connections_at (fixed_in lock) (length before) after back 1 given connections
         (all_later (fixed_in lock) (length before) taken after back 1 given connections (prefix_on taken from after enters on) served)) in
         let none_worked = times_of_all IsPublished after place workers at
-        (all_weaker (IsWorkIn lock after) (λ ps. AllByRecursion (IsEventAt IsPublished after) ps) (work_at lock after) workers
-        (recursion_from_All (IsWorkIn lock after) workers work)) in
+        (all_weaker (IsWorkIn lock before after) (λ ps. AllByRecursion (IsEventAt IsPublished after) ps) (work_at lock before after) workers
+        (recursion_from_All (IsWorkIn lock before after) workers work)) in
         let none_ended = times-before place (length from) (length (with_ending from) - length from) below in
         let once_there = times-in place first (length after - first) (omega (arith, begun, above)) (omega (arith, below, longest)) in
         let c = counted place in let o = once place in
@@ -115,7 +116,7 @@ module _ {D : Type 0} {g : Ghosts D} (lock : Lock D g) (before taken from after 
               (all_later (fixed_in lock) (length before) taken from back 1 given connections enters served);
           work = work;
           published = All-from_recursion (λ ps. All (IsPublicationAt after) ps) workers
-              (all_weaker (IsWorkIn lock after) (λ ps. All (IsPublicationAt after) ps) (published_in lock after) workers (recursion_from_All (IsWorkIn lock after) workers work));
+              (all_weaker (IsWorkIn lock before after) (λ ps. All (IsPublicationAt after) ps) (published_in lock before after) workers (recursion_from_All (IsWorkIn lock before after) workers work));
           tally = λ place.
               let c = counted place in
               let e = ap (λ l. times place l) one in

@@ -28,7 +28,7 @@ IsEventAt Q list place = (event : Event) × Q event × (slice_get list place ≡
 abbrev pub Adds : (Event → Type 0) → Holding (List Entry) → Type 0
 Adds Q x = (added : List Event) × (x.to ≡ with_events x.from added) × AllByRecursion Q added
 
-get_here : (xs : List Entry) (x : Entry) (more : List Entry) → slice_get (xs ++ x ∷ more) (length xs) ≡ Some x
+pub get_here : (xs : List Entry) (x : Entry) (more : List Entry) → slice_get (xs ++ x ∷ more) (length xs) ≡ Some x
 get_here [] x more = refl
 get_here (y ∷ xs) x more = get_here xs x more
 

@@ -1,8 +1,10 @@
 pub mod AcceptingLemmas
 pub mod BesideLemmas
 pub mod CrewLemmas
+pub mod DrainLemmas
 pub mod EndLemmas
 pub mod EventLemmas
+pub mod FailingLemmas
 pub mod SendLemmas
 pub mod TakingLemmas
 pub mod WorkedLemmas

@@ -1,4 +1,5 @@
 pub mod Connections
 pub mod Crews
+pub mod Failing
 pub mod Serving
 pub mod Taking

@@ -22,7 +22,7 @@ abbrev pub IsPublicationAt : List Entry → ℕ → Type 0
 IsPublicationAt list place = (site : SiteNumber) × (day : ℤ) × (slice_get list place ≡ Some (Happened (Published site day)))
 
 -- Connections were served, and so many workers worked, each to its end, beside each other, and the end was told behind the connections:
--- `before` was seen at the start, and `after` is seen then. The tally grew by the places of each connection, of each worker and of the
+-- `before` was seen at the start, behind which all holdings lie, and `after` is seen then. The tally grew by the places of each connection, of each worker and of the
 -- ending, each once.
 pub record ServedBeside {D : Type 0} {g : Ghosts D} (lock : Lock D g) (count : ℕ) (before after : List Entry) (tally_before tally_after : List ℕ)
     (given : List Ends) (back : ℕ → Option Ends) : Type 0 where
@@ -32,7 +32,7 @@ pub record ServedBeside {D : Type 0} {g : Ghosts D} (lock : Lock D g) (count : �
   pub grows : IsPrefix before after
   pub ended : has_ended after ≡ true
   pub each : AreServed (fixed_in lock) (length before) (before_ending after) back 1 given connections
-  pub work : All (IsWorkIn lock after) workers
+  pub work : All (IsWorkIn lock before after) workers
   pub published : All (λ places. All (IsPublicationAt after) places) workers
   pub tally : (place : ℕ) → times place tally_after
       ≡ times place tally_before + times place (concat connections ++ (concat workers ++ length (before_ending after) ∷ []))

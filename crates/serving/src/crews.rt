@@ -1,7 +1,7 @@
 //! Workers beside sessions, each in a thread where one can be started.
 
 ghost use Rattle.std.specs.Prelude.{◌≡◌, ◌+◌, ◌<◌, All, IfErr, IfOk, IfSome, vec_len};
-ghost use Rattle.serving.specs.Crews.{AreJoined, IsCrew, IsDue, IsEmployed, IsJoined, IsOutcome, IsRoom};
+ghost use Rattle.serving.specs.Crews.{AreJoined, IsCrew, IsDue, IsEmployed, IsJoined, IsOutcome, IsRoom, seen_before};
 ghost use Rattle.shared_office.specs.Passing.{IsOf, PassTo};
 ghost use Rattle.turnstile.specs.Passes.{seen, share, tally};
 ghost use Rattle.workers.specs.Work.{IsWork};
@@ -56,9 +56,11 @@ pub struct Room<D: Disk, G: Drop> {
     kept: Vec<Outcome<D, G>>,
 }
 
-/// Workers that were to be started: those that run in threads, and those that were handed back.
+/// Workers that were to be started: those that run in threads, and those that were handed back, with the pass as it was when they were
+/// started. It takes no bytes.
 #[derive(Drop)]
 pub struct Crew<D: Disk, G: Drop> {
+    begun: Snapshot<Pass<Shared<D>>>,
     tasks: Vec<Task<Outcome<D, G>, Employed<D>>>,
     kept: Vec<Outcome<D, G>>,
 }
@@ -196,6 +198,7 @@ pub fn start_workers<
     requires share { workers < share given }
     ensures pass { IsOf lock.now result.0 }
     ensures crew { IsCrew lock.now workers result.1 }
+    ensures begun { seen_before result.1 ≡ seen given }
     ensures share { share result.0 + workers ≡ share given }
     ensures same { (seen result.0 ≡ seen given) × (tally result.0 ≡ tally given) }
 {
@@ -204,6 +207,7 @@ pub fn start_workers<
         mut tasks,
         mut kept,
     } = room;
+    let begun = Snapshot::of(&given);
     let mut pass = given;
     for hand in hands {
         let (mine, other) = lock.split(pass);
@@ -213,16 +217,17 @@ pub fn start_workers<
             Err(outcome) => kept.push_reserved(outcome),
         }
     }
-    (pass, Crew { tasks, kept })
+    (pass, Crew { begun, tasks, kept })
 }
 
 /// What a worker came to: one that was handed back works now.
 fn worked<R: Wait + Clock, D: Disk, G: Gate + Drop>(
     rt: &R,
     lock: &Turnstile<Shared<D>>,
+    begun: &Snapshot<Pass<Shared<D>>>,
     outcome: Outcome<D, G>,
 ) -> (Pass<Shared<D>>, WorkerEnd)
-    requires { IsDue lock.now outcome }
+    requires { IsDue lock.now (seen begun.now.value) outcome }
     ensures pass { IsOf lock.now result.0 }
     ensures worked { (given : PassTo D D.Disk) → IsOutcome lock.now given outcome → IsWork lock.now given result.0 result.1 }
 {
@@ -236,15 +241,16 @@ fn worked<R: Wait + Clock, D: Disk, G: Gate + Drop>(
 fn end_and_join<R: Wait + Clock, D: Disk, G: Gate + Drop>(
     rt: &R,
     lock: &Turnstile<Shared<D>>,
+    begun: &Snapshot<Pass<Shared<D>>>,
     pass: Pass<Shared<D>>,
     outcome: Outcome<D, G>,
 ) -> Pass<Shared<D>>
     requires pass { IsOf lock.now pass }
-    requires outcome { IsDue lock.now outcome }
+    requires outcome { IsDue lock.now (seen begun.now.value) outcome }
     ensures pass { IsOf lock.now result }
-    ensures joined { IsJoined lock.now pass result }
+    ensures joined { IsJoined lock.now (seen begun.now.value) pass result }
 {
-    let (other, _) = worked(rt, lock, outcome);
+    let (other, _) = worked(rt, lock, begun, outcome);
     lock.join(pass, other)
 }
 
@@ -252,17 +258,18 @@ fn end_and_join<R: Wait + Clock, D: Disk, G: Gate + Drop>(
 fn end_kept<R: Wait + Clock, D: Disk, G: Gate + Drop>(
     rt: &R,
     lock: &Turnstile<Shared<D>>,
+    begun: &Snapshot<Pass<Shared<D>>>,
     given: Pass<Shared<D>>,
     kept: Vec<Outcome<D, G>>,
 ) -> Pass<Shared<D>>
     requires pass { IsOf lock.now given }
-    requires kept { All (IsDue lock.now) kept.items }
+    requires kept { All (IsDue lock.now (seen begun.now.value)) kept.items }
     ensures pass { IsOf lock.now result }
-    ensures joined { AreJoined lock.now given result (vec_len kept) }
+    ensures joined { AreJoined lock.now (seen begun.now.value) given result (vec_len kept) }
 {
     let mut pass = given;
     for outcome in kept {
-        pass = end_and_join(rt, lock, pass, outcome);
+        pass = end_and_join(rt, lock, begun, pass, outcome);
     }
     pass
 }
@@ -271,17 +278,18 @@ fn end_kept<R: Wait + Clock, D: Disk, G: Gate + Drop>(
 fn take_in<R: Threads + Wait + Clock, D: Disk, G: Gate + Drop>(
     rt: &R,
     lock: &Turnstile<Shared<D>>,
+    begun: &Snapshot<Pass<Shared<D>>>,
     given: Pass<Shared<D>>,
     tasks: Vec<Task<Outcome<D, G>, Employed<D>>>,
 ) -> Pass<Shared<D>>
     requires pass { IsOf lock.now given }
-    requires tasks { All (IsEmployed lock.now) tasks.items }
+    requires tasks { All (IsEmployed lock.now (seen begun.now.value)) tasks.items }
     ensures pass { IsOf lock.now result }
-    ensures joined { AreJoined lock.now given result (vec_len tasks) }
+    ensures joined { AreJoined lock.now (seen begun.now.value) given result (vec_len tasks) }
 {
     let mut pass = given;
     for task in tasks {
-        pass = end_and_join(rt, lock, pass, task.wait(rt));
+        pass = end_and_join(rt, lock, begun, pass, task.wait(rt));
     }
     pass
 }
@@ -298,9 +306,9 @@ pub fn finish_workers<R: Threads + Wait + Clock, D: Disk, G: Gate + Drop>(
     requires pass { IsOf lock.now pass }
     requires crew { IsCrew lock.now workers crew }
     ensures pass { IsOf lock.now result }
-    ensures joined { AreJoined lock.now pass result workers }
+    ensures joined { AreJoined lock.now (seen_before crew) pass result workers }
 {
-    let Crew { tasks, kept } = crew;
-    let pass = end_kept(rt, lock, pass, kept);
-    take_in(rt, lock, pass, tasks)
+    let Crew { begun, tasks, kept } = crew;
+    let pass = end_kept(rt, lock, &begun, pass, kept);
+    take_in(rt, lock, &begun, pass, tasks)
 }

@@ -3,7 +3,7 @@
 ghost use Rattle.std.specs.Prelude.{◌≡◌, ◌≢◌, ◌^◌, ◌+◌, ◌<◌, ◌≤◌, All, IfSome, [], false, if◌then◌else◌, length, true, vec_capacity, vec_len};
 ghost use mathlib.Core.List.{IsPrefix};
 ghost use Rattle.devices.specs.Faults.{Rose};
-ghost use Rattle.serving.specs.Crews.{IsCrew, IsRoom};
+ghost use Rattle.serving.specs.Crews.{IsCrew, IsRoom, seen_before};
 ghost use Rattle.serving.specs.Serving.{IsServeEnd, ServedBeside};
 ghost use Rattle.shared_office.specs.Entries.{has_ended};
 ghost use Rattle.shared_office.specs.Passing.{IsOf};
@@ -179,6 +179,7 @@ fn serve_beside<
     requires connections { connections ≤ 10000 }
     requires workers { workers ≤ 16 }
     requires crew { IsCrew lock.now workers crew }
+    requires begun { seen_before crew ≡ seen pass }
     requires locks { (vec_len locks ≡ connections) × All (λ l. l.value ≡ lock.now) locks.items }
     requires tasks { (tasks.items ≡ []) × (connections ≤ vec_capacity tasks) }
     requires listens { L.listens doors.old ≡ true }

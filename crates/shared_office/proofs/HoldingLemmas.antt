@@ -9,10 +9,9 @@ use Rattle.turnstile.specs.declared.held.Held.{Held}
 use Rattle.turnstile.proofs.ListLemmas.{prefix_here, prefix_on}
 use Rattle.shared_office.specs.Entries.{with_events}
 use Rattle.shared_office.specs.Holdings.{Holding, Follow, places_of}
-use Rattle.shared_office.specs.Passing.{Goes, GoesOnce, PassTo, adding, listed}
+use Rattle.shared_office.specs.Passing.{Goes, GoesOnce, PassTo, Unchanging, adding, listed}
 use Rattle.shared_office.specs.declared.entries.Entry.{Entry}
 use Rattle.shared_office.specs.declared.entries.Entry.TheVariants.{Happened}
-use Rattle.shared_office.specs.declared.entries.Fixed.{Fixed}
 use Rattle.shared_office.specs.declared.shared.Shared.{Shared}
 
 -- holdings behind holdings
@@ -33,7 +32,7 @@ places_on size (x ∷ xs) ys =
 
 module _ {D : Type 0} {g : Ghosts D} where
   -- what `enter` and `leave` tell is one holding: of the office `w` that was lent, and the list that was left
-  pub once : (given back : PassTo D g) (held : Held (Shared D g) Entry Fixed) (w : Shared D g) (to : List Entry) → w ≡ value_of held
+  pub once : (given back : PassTo D g) (held : Held (Shared D g) Entry (Unchanging D)) (w : Shared D g) (to : List Entry) → w ≡ value_of held
       → IsPrefix (listed w) to → IsPrefix (seen given) (listed (value_of held)) → entered held ≡ listed (value_of held)
       → share (pass_of held) ≡ share given → tally (pass_of held) ≡ tally given → seen back ≡ to → share back ≡ share (pass_of held)
       → tally back ≡ tally (pass_of held) ++ places (length (entered held)) (length to - length (entered held))
@@ -48,15 +47,15 @@ module _ {D : Type 0} {g : Ghosts D} where
   }
 
   -- what is left begins with what was found: where the list goes on, and where nothing is changed
-  pub left_on : (held : Held (Shared D g) Entry Fixed) (w u : Shared D g) → w ≡ value_of held → entered held ≡ listed (value_of held)
+  pub left_on : (held : Held (Shared D g) Entry (Unchanging D)) (w u : Shared D g) → w ≡ value_of held → entered held ≡ listed (value_of held)
       → IsPrefix (listed w) (listed u) → IsPrefix (entered held) (listed u)
   left_on held w u same entering grows = subst (λ (l : List Entry). IsPrefix l (listed u)) (sym (entering ∙ sym (ap listed same))) grows
 
-  pub left_as_found : (held : Held (Shared D g) Entry Fixed) → entered held ≡ listed (value_of held) → IsPrefix (entered held) (listed (value_of held))
+  pub left_as_found : (held : Held (Shared D g) Entry (Unchanging D)) → entered held ≡ listed (value_of held) → IsPrefix (entered held) (listed (value_of held))
   left_as_found held entering = left_on held (value_of held) (value_of held) refl entering (prefix_here (listed (value_of held)))
 
   -- the list goes on by these events
-  pub once_adding : (given back : PassTo D g) (held : Held (Shared D g) Entry Fixed) (w u : Shared D g) (added : List Event) → w ≡ value_of held
+  pub once_adding : (given back : PassTo D g) (held : Held (Shared D g) Entry (Unchanging D)) (w u : Shared D g) (added : List Event) → w ≡ value_of held
       → listed u ≡ with_events (listed w) added → IsPrefix (seen given) (listed (value_of held)) → entered held ≡ listed (value_of held)
       → share (pass_of held) ≡ share given → tally (pass_of held) ≡ tally given → seen back ≡ listed u → share back ≡ share (pass_of held)
       → tally back ≡ tally (pass_of held) ++ places (length (entered held)) (length (listed u) - length (entered held))
@@ -66,7 +65,7 @@ module _ {D : Type 0} {g : Ghosts D} where
       (tally_out ∙ ap (λ (l : List Entry). tally (pass_of held) ++ places (length (entered held)) (length l - length (entered held))) on)
 
   -- nothing is changed
-  pub once_reading : (given back : PassTo D g) (held : Held (Shared D g) Entry Fixed) (w : Shared D g) → w ≡ value_of held
+  pub once_reading : (given back : PassTo D g) (held : Held (Shared D g) Entry (Unchanging D)) (w : Shared D g) → w ≡ value_of held
       → IsPrefix (seen given) (listed (value_of held)) → entered held ≡ listed (value_of held)
       → share (pass_of held) ≡ share given → tally (pass_of held) ≡ tally given → seen back ≡ listed (value_of held) → share back ≡ share (pass_of held)
       → tally back ≡ tally (pass_of held) ++ places (length (entered held)) (length (listed (value_of held)) - length (entered held))

@@ -4,4 +4,6 @@ pub mod FindLemmas
 pub mod GivenLemmas
 pub mod ShareLemmas
 pub mod HoldingLemmas
+pub mod PassageLemmas
+pub mod StretchLemmas
 pub mod TaskLemmas

@@ -11,13 +11,13 @@ use Rattle.office.specs.Offices.{Officed}
 use Rattle.office.specs.Steps.{Step, AnEdit, AClaim, ALook, APublication, ATurn, ASettlement, AnAnswer, AStop, IsStep}
 use Rattle.recompute.specs.declared.jobs.Publish.TheVariants.{Settled, Superseded, Foreign, Published}
 use Rattle.register.specs.Asked.{day_of}
-use Rattle.turnstile.specs.Passes.{value_of}
+use Rattle.turnstile.specs.Passes.{first_value, value_of}
 use Rattle.turnstile.specs.declared.held.Held.{Held}
 use Rattle.turnstile.proofs.ListLemmas.{prefix_here}
 use Rattle.shared_office.specs.Entries.{GoOn, entries, events_in, fixed_part, has_ended, history_of, with_ending, with_events}
 use Rattle.shared_office.specs.Finding.{Finds, FindsBy, IsWorkStep, added_by_work}
 use Rattle.shared_office.specs.Holdings.{Holding}
-use Rattle.shared_office.specs.Passing.{Lock, adding, fixed_in, fixed_of, history_in, listed}
+use Rattle.shared_office.specs.Passing.{Lock, Unchanging, adding, begun_in, fixed_in, fixed_of, history_in, listed, unchanging}
 use Rattle.shared_office.specs.Working.{AddsADay, IsDrained, IsFound, IsTask}
 use Rattle.shared_office.specs.declared.entries.Entry.{Entry}
 use Rattle.shared_office.specs.declared.entries.Entry.TheVariants.{Happened, Ending}
@@ -110,6 +110,20 @@ finding_step (AnAnswer site day told) result by = absurd by
 finding_step (AStop cut found) result by = absurd by
 
 module _ {D : Type 0} {g : Ghosts D} where
+  -- both parts of what never changes
+  pub fixed_alone : (s : Shared D g) (lock : Lock D g) → unchanging s ≡ unchanging (first_value lock) → fixed_of s ≡ fixed_in lock
+  fixed_alone s lock e = ap (λ (u : Unchanging D). u.0) e
+
+  pub begun_alone : (s : Shared D g) (lock : Lock D g) → unchanging s ≡ unchanging (first_value lock) → s.begun.value ≡ begun_in lock
+  begun_alone s lock e = ap (λ (u : Unchanging D). u.1) e
+
+  -- an office that was lent and given back has them still
+  pub unchanged : (lock : Lock D g) (held w u : Shared D g) → w ≡ held → unchanging held ≡ unchanging (first_value lock)
+      → fixed_of u ≡ fixed_of w → u.begun ≡ w.begun → unchanging u ≡ unchanging (first_value lock)
+  unchanged lock held w u same is fixed begun =
+      ap (λ (f : Fixed). (f, u.begun.value)) (fixed ∙ ap fixed_of same ∙ fixed_alone held lock is)
+      ∙ ap (λ (o : Officed D). (fixed_in lock, o)) (ap (λ b. b.value) begun ∙ ap (λ (s : Shared D g). s.begun.value) same ∙ begun_alone held lock is)
+
   -- the history that the list tells is that of the office
   pub history_told : (s : Shared D g) (fixed : Fixed) → fixed_of s ≡ fixed → history_of fixed (listed s) ≡ s.office.register.history
   history_told s fixed e =
@@ -118,9 +132,9 @@ module _ {D : Type 0} {g : Ghosts D} where
       (events_of_entries s.ending s.office.register.history.events))
 
   -- and so it is of the office that was lent
-  pub history_lent : (lock : Lock D g) (held : Held (Shared D g) Entry Fixed) (w : Shared D g) → w ≡ value_of held → fixed_of (value_of held) ≡ fixed_in lock
-      → history_in lock (listed w) ≡ w.office.register.history
-  history_lent lock held w same fixed = history_told w (fixed_in lock) (ap fixed_of same ∙ fixed)
+  pub history_lent : (lock : Lock D g) (held : Held (Shared D g) Entry (Unchanging D)) (w : Shared D g) → w ≡ value_of held
+      → unchanging (value_of held) ≡ unchanging (first_value lock) → history_in lock (listed w) ≡ w.office.register.history
+  history_lent lock held w same kept = history_told w (fixed_in lock) (ap fixed_of same ∙ fixed_alone (value_of held) lock kept)
 
   -- how many days are pending in what was left
   pub pending_behind : (lock : Lock D g) (w u v : Shared D g) (list : List Entry) (added : List Event) (count : ℕ) → fixed_of w ≡ fixed_in lock

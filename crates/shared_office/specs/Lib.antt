@@ -1,5 +1,6 @@
 pub mod Entries
 pub mod Finding
 pub mod Holdings
+pub mod Passages
 pub mod Passing
 pub mod Working

@@ -8,6 +8,7 @@ ghost use Rattle.office.specs.Edits.{Edits};
 ghost use Rattle.office.specs.Steps.{APublication, AnEdit, IsStep, Step};
 ghost use Rattle.register.specs.Registered.{first_unclaimed};
 ghost use Rattle.shared_office.specs.Entries.{CanEnd, GoOn, entries, fixed_part};
+ghost use Rattle.shared_office.specs.Passages.{Passes};
 ghost use Rattle.shared_office.specs.Finding.{Finds, FindsBy, IsLooked, published_by};
 ghost use Rattle.shared_office.specs.declared.entries.Entry.TheVariants as entry;
 
@@ -15,9 +16,11 @@ use crate::entries::{Entry, Fixed};
 use devices::Disk;
 use edits::Edit;
 use fixed_units::{Day, NoMemory, Site};
+use office::laws::an_office_stands_on_its_disk;
 use office::{Accepted, Office};
 use office_inputs::Refusal;
 use recompute::{Done, Job, Publish};
+use std::snapshot::Snapshot;
 use turnstile::Kept;
 
 /// An office that is shared, and how many events it had when it was told that no further edit will be asked for. Its disk has counted
@@ -28,19 +31,22 @@ pub struct Shared<D: Disk> {
     pub office: Office<D>,
     /// How many events it had when its end was told, or `None` where it was not told yet.
     pub ending: Option<u64>,
+    /// The office as it was when it was shared. It takes no bytes.
+    pub begun: Snapshot<Office<D>>,
     pub ghost ended: { ForSome ending (λ n. n ≤ length office.register.history.events) },
     pub ghost counted: { HasCounted office.register.history (D.faults office.disk) },
     pub ghost can_end: { CanEnd office.register.history },
+    pub ghost passed: { ∥ Passes D.Disk begun.value.register.history office.register.history begun.value.disk office.disk ∥₁ },
 }
 
 impl<D: Disk> Kept for Shared<D> {
     type Entry = Entry;
 
-    type Fixed = Fixed;
+    type Fixed = (Fixed, Office<D>);
 
     ghost history = { λ s. entries s.office.register.history.events s.ending };
 
-    ghost fixed = { λ s. fixed_part s.office.register.history };
+    ghost fixed = { λ s. (fixed_part s.office.register.history, s.begun.value) };
 
     fn events(&self) -> u64 {
         let count = self.office.events();
@@ -83,13 +89,17 @@ impl<D: Disk> Shared<D> {
     /// ending could not be counted by a number of 64 bits, or its limit of events is the greatest such number.
     pub fn new(office: Office<D>) -> Result<Shared<D>, Office<D>>
         requires { HasCounted office.register.history (D.faults office.disk) }
-        ensures shared { IfOk result (λ s. (s.office ≡ office) × (s.ending ≡ None)) }
+        ensures shared { IfOk result (λ s. (s.office ≡ office) × (s.ending ≡ None) × (s.begun.value ≡ office)) }
         ensures back { IfErr result (λ o. (o ≡ office) × ¬ CanEnd office.register.history) }
     {
         if can_end(&office) {
+            // this runs nothing: it tells the proof what a stop leaves before anything was done
+            an_office_stands_on_its_disk(&office);
+            let begun = Snapshot::of(&office);
             Ok(Shared {
                 office,
                 ending: None,
+                begun,
             })
         } else {
             Err(office)
@@ -106,6 +116,7 @@ impl<D: Disk> Shared<D> {
         ensures step { IsStep self.old.office.register (AnEdit edit result) self.new.office.register }
         ensures list { (added : List Event) × GoOn self.old.office.register.history self.old.ending self.new.office.register.history self.new.ending added }
         ensures counts { CountsEdit (D.faults self.old.office.disk) result (D.faults self.new.office.disk) }
+        ensures begun { self.new.begun ≡ self.old.begun }
     {
         self.office.take(edit)
     }
@@ -126,6 +137,7 @@ impl<D: Disk> Shared<D> {
         ensures step { (step : Step) × FindsBy step result × IsStep self.old.office.register step self.new.office.register }
         ensures list { GoOn self.old.office.register.history self.old.ending self.new.office.register.history self.new.ending [] }
         ensures err { OnErr result (self.new.office ≡ self.old.office) }
+        ensures begun { self.new.begun ≡ self.old.begun }
         ensures disk { self.new.office.disk ≡ self.old.office.disk }
     {
         match self.office.claim() {
@@ -156,7 +168,10 @@ impl<D: Disk> Shared<D> {
         ensures step { IsStep self.old.office.register (APublication done.job result) self.new.office.register }
         ensures list { GoOn self.old.office.register.history self.old.ending self.new.office.register.history self.new.ending (published_by result done.job) }
         ensures disk { self.new.office.disk ≡ self.old.office.disk }
+        ensures begun { self.new.begun ≡ self.old.begun }
     {
+        // this runs nothing: it tells the proof what a stop leaves while nothing is written
+        an_office_stands_on_its_disk(&self.office);
         self.office.publish(done)
     }
 
@@ -166,6 +181,7 @@ impl<D: Disk> Shared<D> {
             ≡ entries self.old.office.register.history.events self.old.ending ++ entry.Ending ∷ [] }
         ensures before { IsSome self.old.ending → self.new.ending ≡ self.old.ending }
         ensures office { self.new.office ≡ self.old.office }
+        ensures begun { self.new.begun ≡ self.old.begun }
     {
         if self.ending.is_none() {
             self.ending = Some(self.office.events());
@@ -176,6 +192,7 @@ impl<D: Disk> Shared<D> {
     pub fn into_office(self) -> Office<D>
         ensures office { result ≡ self.office }
         ensures counted { HasCounted result.register.history (D.faults result.disk) }
+        ensures passed { ∥ Passes D.Disk self.begun.value.register.history result.register.history self.begun.value.disk result.disk ∥₁ }
     {
         self.office
     }

@@ -1,9 +1,9 @@
 use Rattle.std.proofs.Common.{sym, subst, rules}
 use Rattle.desk.specs.Asked.{IsReading}
-use Rattle.desk.specs.Passing.{Passes}
+use Rattle.shared_office.specs.Passages.{Passes}
 use Rattle.http_api.specs.declared.asks.Ask.TheVariants as asks
 use Rattle.desk.proofs.AnswerLemmas.{by_office, by_reading}
-use Rattle.desk.proofs.PassingLemmas.{passes_published, publishes_none}
+use Rattle.shared_office.proofs.PassageLemmas.{passes_published, publishes_none}
 use Rattle.desk.proofs.TurnLemmas.{published_by_settlement, published_by_turns}
 use Rattle.desk.proofs.answers.answer.Goals as goal
 

@@ -1,6 +1,6 @@
 use Rattle.std.proofs.Common.{◌≡◌, ◌+◌, ◌-◌, ◌^◌, Some, length, min, ◌∙◌, ap, rules}
 use Rattle.desk.proofs.AnswerLemmas.{edits_none}
-use Rattle.desk.proofs.PassingLemmas.{passes_published, passes_told, publishes_none}
+use Rattle.shared_office.proofs.PassageLemmas.{passes_published, passes_told, publishes_none}
 use Rattle.desk.proofs.answers.take_edit.Goals as goal
 use Rattle.history.specs.Accepted.{accepted}
 

@@ -1,10 +1,11 @@
 use Rattle.std.proofs.Common.{◌≡◌, ◌+◌, ◌-◌, ◌^◌, min, length, [], ◌∷◌, Some, sym, ◌∙◌, ap}
 use Rattle.history.specs.Accepted.{accepted}
 use Rattle.desk.specs.Answering.{told_bytes}
+use Rattle.shared_office.specs.Entries.{fixed_part}
 use Rattle.shared_office.specs.Passing.{adding, fixed_in, listed}
 use Rattle.shared_office.specs.declared.shared.Shared.{Shared}
 use Rattle.shared_office.proofs.HoldingLemmas.{goes_one, left_as_found, once_adding, once_reading}
-use Rattle.shared_office.proofs.TaskLemmas.{history_lent}
+use Rattle.shared_office.proofs.TaskLemmas.{history_lent, unchanged}
 use Rattle.desk.proofs.AtOnceLemmas.{edit_forgone, edit_in_one}
 use Rattle.desk.proofs.behind.take_edit.Goals as goal
 
@@ -39,3 +40,8 @@ returns-clause-answered g c =
           (history_lent c.args.lock.now c.enter-held.result w c.value_mut.ensures.value e.fixed) list.1.0
           (c.tell_edit.ensures.answered w.office.register.history u.office.register.history c.args.edit c.take-told.ensures.edited due),
     )
+
+pub leave-back-requires-clause-fixed : goal.leave-back-requires-clause-fixed
+leave-back-requires-clause-fixed g c =
+    unchanged c.args.lock.now _ c.value_mut.result.now c.take-told.new.self c.value_mut.ensures.value c.enter-held.ensures.fixed
+    (ap fixed_part c.take-told.ensures.list.1.0) c.take-told.ensures.begun

@@ -1,4 +1,4 @@
-use Rattle.desk.proofs.StretchLemmas.{passes_none}
+use Rattle.shared_office.proofs.StretchLemmas.{passes_none}
 use Rattle.desk.proofs.sessions.stands_still.Goals as goal
 
 pub returns : goal.returns

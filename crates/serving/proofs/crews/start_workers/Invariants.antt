@@ -13,6 +13,6 @@ invariant-loop-hand g l =
     × (vec_len l.tasks + vec_len l.kept + length l.hand-iterator.rest.items ≡ l.fn.workers)
     × ((l.fn.workers ≤ vec_capacity l.tasks) × (l.fn.workers ≤ vec_capacity l.kept))
     × All (λ h. h.lock.value ≡ l.lock) l.hand-iterator.rest.items
-    × All (IsEmployed l.lock) l.tasks.items
-    × All (IsDue l.lock) l.kept.items
+    × All (IsEmployed l.lock (seen l.fn.given)) l.tasks.items
+    × All (IsDue l.lock (seen l.fn.given)) l.kept.items
     × ((seen l.pass ≡ seen l.fn.given) × (tally l.pass ≡ tally l.fn.given))

@@ -1,3 +1,6 @@
+use Rattle.serving.proofs.FailingLemmas.{few_fail}
+use Rattle.serving.proofs.DrainLemmas.{drained_to_the_end}
+use Rattle.serving.proofs.CrewLemmas.{crew_of}
 use Rattle.serving.proofs.TakingLemmas.{all_later, served_later}
 use Rattle.serving.proofs.laws.what_is_served_stays_served.Goals as goal
 

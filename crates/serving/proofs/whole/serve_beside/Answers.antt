@@ -1,4 +1,4 @@
-use Rattle.std.specs.Prelude.{◌≡◌, ◌+◌, ◌-◌, ◌^◌, ◌++◌, List, length}
+use Rattle.std.specs.Prelude.{◌≡◌, ◌+◌, ◌-◌, ◌^◌, ◌++◌, All, List, length}
 use Rattle.std.specs.List.{concat}
 use Rattle.std.proofs.Common.{rules, sym, ap, ◌∙◌, subst, arith}
 use Rattle.std.proofs.lemmas.List.Elements.{All-weaker}
@@ -72,6 +72,7 @@ returns-clause-served g c =
     let e = c.end-pass.ensures.held in
     let j = c.finish_workers-pass.ensures.joined in
     let gl = c.glance.ensures in
+    let before = seen c.args.pass in
     let after = seen c.glance.new.pass in
     let first = length (listed (first_value lock)) in
     let shares : share c.finish_workers-pass.result ≡ 2 ^ 32 =
@@ -84,7 +85,9 @@ returns-clause-served g c =
     e.1.begins
     (subst (λ (l : List Entry). IsPrefix l after) e.1.seen_is (prefix_on (seen c.end-pass.result) (seen c.finish_workers-pass.result) after j.begins gl.begins))
     h.2
-    (All-weaker (IsWorkIn lock (seen c.finish_workers-pass.result)) (IsWorkIn lock after) (work_later lock (seen c.finish_workers-pass.result) after gl.begins) j.workers j.work)
+    (All-weaker (IsWorkIn lock before (seen c.finish_workers-pass.result)) (IsWorkIn lock before after)
+    (work_later lock before (seen c.finish_workers-pass.result) after gl.begins) j.workers
+    (subst (λ (l : List Entry). All (IsWorkIn lock l (seen c.finish_workers-pass.result)) j.workers) c.requires.begun j.work))
     (gl.tally
     ∙ (j.tally_is ∙ ap (λ l. l ++ concat j.workers)
     (e.1.tally_is ∙ ap (λ l. l ++ places (length e.0) (length (with_ending e.0) - length e.0)) (h.1 ∙ ap (λ l. l ++ concat h.0) c.take_connections-pass.ensures.tally))))

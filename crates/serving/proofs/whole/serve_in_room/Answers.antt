@@ -1,5 +1,5 @@
 use Rattle.std.specs.Prelude.{◌≡◌, List, ℕ}
-use Rattle.std.proofs.Common.{false, ap, ◌∙◌, subst}
+use Rattle.std.proofs.Common.{false, ap, sym, ◌∙◌, subst}
 use mathlib.Core.List.{IsPrefix}
 use Rattle.serving.specs.Serving.{ServedBeside}
 use Rattle.shared_office.specs.Entries.{has_ended}
@@ -9,6 +9,9 @@ use Rattle.serving.proofs.whole.serve_in_room.Goals as goal
 
 pub serve_beside-requires-clause-open : goal.serve_beside-requires-clause-open
 serve_beside-requires-clause-open g c κs within = ap has_ended c.start_workers-pass.ensures.same.0 ∙ c.requires.open
+
+pub serve_beside-requires-clause-begun : goal.serve_beside-requires-clause-begun
+serve_beside-requires-clause-begun g c κs within = c.start_workers-pass.ensures.begun ∙ sym c.start_workers-pass.ensures.same.0
 
 pub returns-clause-begins : goal.returns-clause-begins
 returns-clause-begins g c =

@@ -2,6 +2,9 @@ use Rattle.std.proofs.Common.{refl}
 use Rattle.office.proofs.CountLemmas.{counted_step}
 use Rattle.office.specs.Steps.{AnEdit}
 use Rattle.shared_office.proofs.EntryLemmas.{go_on_by}
+use Rattle.std.proofs.Math.Logic.{∥∥₁_map}
+use Rattle.shared_office.proofs.PassageLemmas.{passes_told}
+use Rattle.shared_office.proofs.StretchLemmas.{passes_more}
 use Rattle.shared_office.proofs.ShareLemmas.{can_end_kept, ending_kept, grown}
 use Rattle.shared_office.proofs.shared.Shared.take.Goals as goal
 
@@ -26,3 +29,13 @@ returns-clause-list g c =
       go_on_by c.args.self.now.office.register.history c.args.self.now.ending c.take.new.self.register.history c.args.self.now.ending more.0 c.args.self.now.ended
           more.1 refl,
     )
+
+pub invariant_of-self-clause-passed : goal.invariant_of-self-clause-passed
+invariant_of-self-clause-passed g c =
+    let old = c.args.self.now in
+    let taken = c.take.ensures in
+    ∥∥₁_map old.passed (λ p.
+    passes_more g.D.Disk old.begun.value.register.history old.office.register.history c.take.new.self.register.history old.begun.value.disk old.office.disk
+    c.take.new.self.disk p
+    (passes_told g.D.Disk old.office.register.history c.take.new.self.register.history c.args.edit c.take.result old.office.disk c.take.new.self.disk
+    taken.edited taken.counted taken.cause taken.any_moment taken.told))

@@ -1,7 +1,7 @@
 -- What passes in the office while an ask is answered.
-use Rattle.std.proofs.Common.{◌≡◌, ℕ, ◌≤◌, Bool, true, false, List, [], ◌∷◌, ◌++◌, map, Option, Result, Ok, Err, IsSome, is_some, refl, sym, ◌∙◌, ap, subst, inl, append_assoc, append-nil, arith}
+use Rattle.std.proofs.Common.{◌≡◌, ◌≢◌, ℕ, ◌≤◌, Bool, true, false, List, [], ◌∷◌, ◌++◌, map, Option, Result, Ok, Err, IsSome, is_some, refl, sym, ◌∙◌, ap, subst, inl, append_assoc, append-nil, arith}
 use Rattle.std.proofs.lemmas.List.{map-append}
-use Rattle.desk.specs.Passing.{Passes, RoseBy}
+use Rattle.shared_office.specs.Passages.{Passes, RoseBy}
 use Rattle.devices.specs.Faults.{Rose}
 use Rattle.devices.specs.declared.disks.Disk.{Ghosts}
 use Rattle.edits.specs.declared.content.Edit.{Edit}
@@ -18,6 +18,8 @@ use Rattle.office.specs.Edits.{Edits, IsRefusedBy, IsTaken}
 use Rattle.office.specs.declared.offices.Accepted.{Accepted as Done}
 use Rattle.office_inputs.specs.declared.refusals.Refusal.{Refusal}
 use Rattle.office_inputs.specs.declared.refusals.Refusal.TheVariants as refusals
+use Rattle.recompute.specs.declared.jobs.Publish.{Publish}
+use Rattle.recompute.specs.declared.jobs.Publish.TheVariants.{Settled, Superseded, Foreign, Published}
 use Rattle.records.specs.Sheets.{Record}
 
 -- a history goes on by no event
@@ -44,6 +46,14 @@ publishes_more h mid after first second = record {
   after_is = second.after_is ∙ ap (λ (m : History). after_publications m second.days) first.after_is
       ∙ published_on h first.days second.days;
 }
+
+-- a job was published, or it was not
+pub published_some : (outcome : Publish) (h after : History) (day : SiteDay) → (outcome ≡ Published → after ≡ after_publications h (day ∷ []))
+    → (outcome ≢ Published → after ≡ h) → Publishes h after
+published_some Published h after day is others = record { days = day ∷ []; after_is = is refl }
+published_some Settled h after day is others = subst (Publishes h) (sym (others (λ e. absurd (cc e)))) (publishes_none h)
+published_some (Superseded edit) h after day is others = subst (Publishes h) (sym (others (λ e. absurd (cc e)))) (publishes_none h)
+published_some Foreign h after day is others = subst (Publishes h) (sym (others (λ e. absurd (cc e)))) (publishes_none h)
 
 left_now : (h : History) (behind : List Event) (image : List ℕ) → IsLeft h image → IsLeftBefore (go_on h []) behind image
 left_now h [] image is = subst (λ (x : History). IsLeft x image) (sym (go_on_none h)) is

@@ -1,6 +1,6 @@
 -- What passes in an office: nothing, and one stretch behind another.
 use Rattle.std.proofs.Common.{◌≡◌, inl, ℕ, ◌+◌, List, [], ◌∷◌, ◌++◌, Option, Some, None, IsSome, is_some, refl, sym, ◌∙◌, ap, subst, append_assoc, append-nil, arith}
-use Rattle.desk.specs.Passing.{Passes, RoseBy}
+use Rattle.shared_office.specs.Passages.{Passes, RoseBy}
 use Rattle.devices.specs.declared.disks.Disk.{Ghosts}
 use Rattle.history.specs.After.{go_on}
 use Rattle.history.specs.Events.{Event, History}

@@ -1,0 +1,119 @@
+-- The steps of an office in which messages are replied to.
+use Rattle.std.specs.Prelude.{◌≡◌, ◌⊎◌, ℕ, false, Bool, List, [], ◌∷◌, ◌++◌, map, All, Result, Ok, Err, is_some, ℤ, ⊤}
+use Rattle.std.specs.List.{AllByRecursion, flat_map}
+use Rattle.approval.specs.declared.status.Status.{Status}
+use Rattle.daily_values.specs.DayValue.{day_value}
+use Rattle.depend.specs.Compared.{days_within}
+use Rattle.desk.specs.Replies.{IsAnswered, day_reply, day_row, table_reply}
+use Rattle.desk.specs.Replying.{AreReplies, memory_reply}
+use Rattle.edits.specs.declared.content.Edit.{Edit}
+use Rattle.fixed_units.specs.Quantities.{SiteNumber}
+use Rattle.fixed_units.specs.declared.texts.NoMemory.{NoMemory}
+use Rattle.history.specs.Awaited.{Computed, DayAnswer, NoStation, Pending}
+use Rattle.history.specs.LastChanges.{ChangedLast}
+use Rattle.http_api.specs.Asks.{ask_of, question}
+use Rattle.http_api.specs.Replies.{bytes_of}
+use Rattle.http_api.specs.declared.asks.Ask.{Ask}
+use Rattle.http_api.specs.declared.asks.Ask.TheVariants as asks
+use Rattle.http_api.specs.declared.replies.Reply.TheVariants as replies
+use Rattle.office.specs.Steps.{Step, AnEdit, ATurn, ASettlement, AnAnswer, GoesOver, IsCall}
+use Rattle.office.specs.declared.offices.Accepted.{Accepted}
+use Rattle.office_inputs.specs.Stations.{inputs_of_day, station_of, stations_of}
+use Rattle.office_inputs.specs.declared.refusals.Refusal.{Refusal}
+use Rattle.register.specs.Registered.{NoneOut, Registered}
+use Rattle.shared_office.specs.Entries.{history_of}
+use Rattle.shared_office.specs.Holdings.{Holding}
+use Rattle.shared_office.specs.declared.entries.Entry.{Entry}
+use Rattle.shared_office.specs.declared.entries.Fixed.{Fixed}
+use Rattle.wire.specs.declared.messages.Message.{Message}
+use Rattle.wire.specs.declared.messages.Message.TheVariants as messages
+
+-- the reply that tells what was answered to an edit
+abbrev pub edit_told : Result Accepted Refusal → List ℕ
+edit_told (Ok told) = bytes_of (replies.Edit told.number told.repeated)
+edit_told (Err refusal) = bytes_of (replies.Refused refusal)
+
+-- the answers for the days from one to another, both included
+abbrev pub answers_within : SiteNumber → ℤ → ℤ → (ℤ → DayAnswer) → List Step
+answers_within site from to answers = map (λ day. AnAnswer site day (answers day)) (days_within from to)
+
+abbrev pub IsATurn : Step → Type 0
+IsATurn (ATurn told) = ⊤
+IsATurn step = ⊥
+
+-- there was no memory for what was read, and no step was made
+abbrev pub IsForgone : List ℕ → List Step → Type 0
+IsForgone reply steps = (steps ≡ []) × (reply ≡ memory_reply)
+
+-- The steps in which an ask is answered, and what the reply tells of them: that to an edit what was answered to it, that for a day what was
+-- answered for it, and a daily table what was for each of its days. Turns are turns, a settlement is one, and what else is asked for is read
+-- without a step.
+abbrev pub AreStepsOf : Ask → List ℕ → List Step → Type 0
+AreStepsOf (asks.Edit edit) reply steps =
+    (told : Result Accepted Refusal) × (steps ≡ AnEdit edit told ∷ []) × (reply ≡ edit_told told)
+AreStepsOf (asks.Station site) reply steps = steps ≡ []
+AreStepsOf (asks.DayOf site day) reply steps =
+    ((status : Status) × (told : DayAnswer) × (steps ≡ AnAnswer site day told ∷ []) × (reply ≡ day_reply status told)) ⊎ IsForgone reply steps
+AreStepsOf (asks.SheetOf site day) reply steps = steps ≡ []
+AreStepsOf (asks.Daily site from to) reply steps =
+    ((kept : Bool) × (status : ℤ → Status) × (told : ℤ → DayAnswer) × (steps ≡ answers_within site from to told)
+    × (reply ≡ table_reply kept (flat_map (λ day. day_row day (status day) (told day)) (days_within from to))))
+    ⊎ IsForgone reply steps
+AreStepsOf (asks.Measurement site number) reply steps = steps ≡ []
+AreStepsOf (asks.Turns count) reply steps = All IsATurn steps
+AreStepsOf asks.Settle reply steps = (told : Result ℕ NoMemory) × (steps ≡ ASettlement told ∷ [])
+AreStepsOf asks.Counts reply steps = steps ≡ []
+
+-- an office at some point of its steps, with those that are still to come
+pub record Coming : Type 0 where
+  pub office : Registered
+  pub steps : List Step
+
+-- an ask is answered in the first of the steps that are still to come, each of which is a call
+pub record AnswersInSteps (x : Coming) (ask : Ask) (reply : List ℕ) (y : Coming) : Type 0 where
+  pub mine : List Step
+  pub splits : x.steps ≡ mine ++ y.steps
+  pub over : GoesOver x.office mine y.office
+  pub calls : All IsCall mine
+  pub answered : IsAnswered x.office.history ask reply y.office.history
+  pub told : AreStepsOf ask reply mine
+
+-- a message asks this
+abbrev pub Asks : Message → Ask → Type 0
+Asks (messages.Request verb target body) ask = ask_of verb target body ≡ Ok (question ask)
+Asks message ask = ⊥
+
+-- messages are replied to by an office that goes over by these steps, each in its own
+abbrev pub IsCourse : Registered → List Step → List Message → List (List ℕ) → Registered → Type 0
+IsCourse old steps messages replies new =
+    AreReplies AnswersInSteps (record { office = old; steps = steps }) messages replies (record { office = new; steps = [] })
+
+-- What is answered for a day is true where these are the edits that were accepted so far: a value is that of computing from scratch, and any
+-- other answer names the last edit that changed the day, or says that none of them added the station.
+abbrev pub IsTrueOf : List Edit → SiteNumber → ℤ → DayAnswer → Type 0
+IsTrueOf edits site day (Computed value) = value ≡ day_value (inputs_of_day (stations_of edits) site day)
+IsTrueOf edits site day (Pending number) = ChangedLast edits site day number
+IsTrueOf edits site day NoStation = is_some (station_of (stations_of edits) site) ≡ false
+
+-- The same of each day from one to another, whose answers these are.
+abbrev pub AreTrueOf : List Edit → SiteNumber → List ℤ → (ℤ → DayAnswer) → Type 0
+AreTrueOf edits site days answers = AllByRecursion (λ day. IsTrueOf edits site day (answers day)) days
+
+-- what a reply tells of a day, where these edits were accepted so far: an answer that is true, or that there was no memory for it
+abbrev pub TellsDay : List Edit → SiteNumber → ℤ → List ℕ → Type 0
+TellsDay edits site day reply =
+    ((status : Status) × (told : DayAnswer) × (reply ≡ day_reply status told) × IsTrueOf edits site day told) ⊎ (reply ≡ memory_reply)
+
+-- and what a daily table tells: that the station is not kept, or such an answer for each of its days
+abbrev pub TellsDays : List Edit → SiteNumber → ℤ → ℤ → List ℕ → Type 0
+TellsDays edits site from to reply =
+    ((kept : Bool) × (status : ℤ → Status) × (told : ℤ → DayAnswer)
+    × (reply ≡ table_reply kept (flat_map (λ day. day_row day (status day) (told day)) (days_within from to)))
+    × AreTrueOf edits site (days_within from to) told)
+    ⊎ (reply ≡ memory_reply)
+
+-- A holding is of steps: an office with no claim out that is at what had happened when the lock's value was taken goes over by calls to one
+-- that is at what had happened when it was given back.
+abbrev pub IsHeldInSteps : Fixed → Holding (List Entry) → Type 0
+IsHeldInSteps fixed x = (old : Registered) → NoneOut old → old.history ≡ history_of fixed x.from
+    → (steps : List Step) × (new : Registered) × GoesOver old steps new × All IsCall steps × (new.history ≡ history_of fixed x.to) × NoneOut new

@@ -1,7 +1,7 @@
 //! Measurement notes are loaded: their discharges are written, and an office is asked the measurement.
 
 ghost use Rattle.std.specs.Prelude.{◌≡◌, ◌≤◌, ◌<◌, ◌+◌, length, IfOk, IfErr, false};
-ghost use Rattle.desk.specs.Passing.{Passes};
+ghost use Rattle.shared_office.specs.Passages.{Passes};
 ghost use Rattle.devices.specs.Faults.{Rose};
 ghost use Rattle.fixed_units.specs.Quantities.{IsDischarge};
 ghost use Rattle.note_loading.specs.Endings.{IsUnasked, LoadingCause};

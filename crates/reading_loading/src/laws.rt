@@ -15,6 +15,7 @@ ghost use Rattle.reading_loading.specs.Puts.{ArePuts, Order, readings_put};
 ghost use Rattle.reading_loading.specs.declared.loading.ReadingsEnd.TheVariants as ReadingsEnd;
 ghost use Rattle.told_edits.specs.Again.{AreInForce, AreToldAgain};
 ghost use Rattle.told_edits.specs.Lines.{AreSent};
+ghost use Rattle.told_edits.specs.Settled.{AreSettled};
 
 /// The edits that put the readings of a list put all of them and no others, in order, each edit but the last as many as it may; and no
 /// other edits do so for the same order.
@@ -32,4 +33,12 @@ pub fn readings_in_force_are_put_again()
     ensures loaded { (order : Order) (units : UnitList) (edits : List Edit) (h after : History) (numbers : List ℕ) (input left written : List ℕ) → IsLegal h → IsStated order.site order.column input units → ArePuts order units.readings edits
         → AreInForce h edits numbers → Loads order h after ReadingsEnd.Done input left written
         → (after ≡ h) × ((lines : List (List ℕ)) × AreToldAgain end_of edits numbers lines × (written ≡ concat lines ++ count_line units)) }
+{}
+
+/// However often a text is loaded, and whatever is refused of it, each of its edits that is not refused stands once: those that a loading adds
+/// to the accepted edits are new ones of its own, in order, and each of which a line tells a number is known under it from then on.
+pub fn each_put_stands_once()
+    ensures { (order : Order) (units : UnitList) (h after : History) (input left written : List ℕ) → IsLegal h → IsStated order.site order.column input units
+        → Loads order h after ReadingsEnd.Done input left written
+        → (edits : List Edit) × ArePuts order units.readings edits × ((lines : List (List ℕ)) × AreSettled end_of h after edits lines × (written ≡ concat lines ++ count_line units)) }
 {}

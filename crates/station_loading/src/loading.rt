@@ -1,7 +1,7 @@
 //! The stations of a document are added to an office, one behind another.
 
 ghost use Rattle.std.specs.Prelude.{◌≡◌, ◌≤◌, ◌+◌, List, ℕ, IfOk, IfErr, true, false};
-ghost use Rattle.desk.specs.Passing.{Passes};
+ghost use Rattle.shared_office.specs.Passages.{Passes};
 ghost use Rattle.devices.specs.Faults.{Rose};
 ghost use Rattle.devices.specs.Sinks.{AreWritten};
 ghost use Rattle.station_documents.specs.Documents.{most_bytes};

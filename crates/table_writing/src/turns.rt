@@ -1,7 +1,7 @@
 //! Turns of an office.
 
 ghost use Rattle.std.specs.Prelude.{◌≡◌, OnOk, OnErr};
-ghost use Rattle.desk.specs.Passing.{Passes};
+ghost use Rattle.shared_office.specs.Passages.{Passes};
 ghost use Rattle.history.specs.Accepted.{accepted};
 ghost use Rattle.history.specs.After.{after_turns};
 ghost use Rattle.register.specs.Registered.{NoneOut};

@@ -1,7 +1,7 @@
 //! Tables of an office, written behind turns of it.
 
 ghost use Rattle.std.specs.Prelude.{◌≡◌, ◌≤◌};
-ghost use Rattle.desk.specs.Passing.{Passes};
+ghost use Rattle.shared_office.specs.Passages.{Passes};
 ghost use Rattle.history.specs.Accepted.{accepted};
 ghost use Rattle.register.specs.Registered.{NoneOut};
 ghost use Rattle.table_writing.specs.Ends.{IsPut, IsWrittenBehind, TableCause};

@@ -22,7 +22,7 @@ module _ (h next : History) (edit : Edit) (number : ℕ) (repeats : verdict h ed
   refused_again end (JournalFault in_doubt) is = absurd (cc (sym is.lawful ∙ repeats))
   refused_again end refusal is = absurd (cc (sym is.0 ∙ repeats))
 
-  one_again : (end : List ℕ) (told : Result Accepted Refusal) → Edits h edit next told → (next ≡ h) × IsToldAgain end number (told_line end told)
+  pub one_again : (end : List ℕ) (told : Result Accepted Refusal) → Edits h edit next told → (next ≡ h) × IsToldAgain end number (told_line end told)
   one_again end (Ok told) is =
       let same = taken_again told.number told.repeated is in
       (same.0, inl (ap (λ (n : ℕ). accepted_line end n) same.1))

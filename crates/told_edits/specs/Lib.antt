@@ -1,3 +1,4 @@
 pub mod Lines
 pub mod Telling
 pub mod Again
+pub mod Settled

@@ -1,7 +1,7 @@
 //! An office is asked an edit, and a line on a sink tells what became of it.
 
 ghost use Rattle.std.specs.Prelude.{◌≡◌, ◌≤◌, List, ℕ, length, false};
-ghost use Rattle.desk.specs.Passing.{Passes};
+ghost use Rattle.shared_office.specs.Passages.{Passes};
 ghost use Rattle.devices.specs.Faults.{Rose};
 ghost use Rattle.devices.specs.Sinks.{AreWritten};
 ghost use Rattle.told_edits.specs.Lines.{IsSent};

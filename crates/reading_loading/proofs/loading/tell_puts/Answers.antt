@@ -1,7 +1,7 @@
 use Rattle.std.proofs.Common.{◌≡◌, ◌<◌, ◌+◌, ◌++◌, ◌∷◌, [], ℕ, List, arith, length, length-append, refl, rules, subst, sym}
 use Rattle.std.specs.Fork.{slice_chunk}
 use Rattle.desk.proofs.SessionLemmas.{wrote_reply}
-use Rattle.desk.proofs.StretchLemmas.{passes_more}
+use Rattle.shared_office.proofs.StretchLemmas.{passes_more}
 use Rattle.edits.specs.Lawful.{most_readings}
 use Rattle.edits.specs.declared.content.Edit.{Edit}
 use Rattle.fixed_units.specs.declared.readings.Reading.{Reading}

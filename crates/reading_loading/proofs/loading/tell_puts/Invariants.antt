@@ -1,6 +1,6 @@
 use Rattle.std.proofs.Common.{◌≡◌, ◌≤◌, ◌++◌, List, ℕ, length, Some, IfSome}
 use Rattle.std.specs.List.{concat}
-use Rattle.desk.specs.Passing.{Passes}
+use Rattle.shared_office.specs.Passages.{Passes}
 use Rattle.edits.specs.declared.content.Edit.{Edit}
 use Rattle.reading_loading.specs.Lines.{end_of}
 use Rattle.reading_loading.specs.Puts.{AreFirstPuts}

@@ -1,6 +1,6 @@
 use Rattle.std.proofs.Common.{◌++◌, ◌∷◌, [], arith, rules, refl}
 use Rattle.desk.proofs.SessionLemmas.{wrote_reply}
-use Rattle.desk.proofs.StretchLemmas.{passes_more}
+use Rattle.shared_office.proofs.StretchLemmas.{passes_more}
 use Rattle.station_loading.proofs.TakenLemmas.{none_more, one_more}
 use Rattle.station_loading.specs.Lines.{end_of}
 use Rattle.told_edits.proofs.LineLemmas.{sent_more}

@@ -1,7 +1,7 @@
 use Rattle.std.proofs.Common.{◌≡◌, ◌≤◌, ◌++◌, List, ℕ, length, Some, IfSome}
 use Rattle.std.specs.List.{concat}
 use Rattle.std.specs.Vec.Iter.{into_iter_items, into_iter_len}
-use Rattle.desk.specs.Passing.{Passes}
+use Rattle.shared_office.specs.Passages.{Passes}
 use Rattle.station_loading.specs.Lines.{end_of}
 use Rattle.told_edits.specs.Lines.{AreSent}
 use Rattle.station_loading.proofs.loading.add_stations.Given as goal

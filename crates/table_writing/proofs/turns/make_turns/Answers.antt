@@ -1,7 +1,7 @@
 -- Turns publish days, and nothing else happens.
 use Rattle.std.proofs.Common.{ap, sym, subst, ◌∙◌}
-use Rattle.desk.specs.Passing.{Passes}
-use Rattle.desk.proofs.PassingLemmas.{passes_published}
+use Rattle.shared_office.specs.Passages.{Passes}
+use Rattle.shared_office.proofs.PassageLemmas.{passes_published}
 use Rattle.desk.proofs.TurnLemmas.{published_by_turns}
 use Rattle.history.specs.Accepted.{accepted}
 use Rattle.history.specs.Events.{History}

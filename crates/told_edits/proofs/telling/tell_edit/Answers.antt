@@ -1,4 +1,4 @@
-use Rattle.desk.proofs.PassingLemmas.{passes_told}
+use Rattle.shared_office.proofs.PassageLemmas.{passes_told}
 use Rattle.told_edits.proofs.telling.tell_edit.Goals as goal
 
 pub returns-clause-passed : goal.returns-clause-passed

@@ -1,0 +1,8 @@
+use Rattle.told_edits.proofs.SettledLemmas.{known_again, settled}
+use Rattle.told_edits.proofs.laws.each_edit_stands_once.Goals as goal
+
+pub returns-clause-settled : goal.returns-clause-settled
+returns-clause-settled c = settled
+
+pub returns-clause-again : goal.returns-clause-again
+returns-clause-again c = known_again

@@ -6,9 +6,10 @@ use Rattle.std.proofs.lemmas.List.{append-nil, length-append}
 use Rattle.std.proofs.lemmas.List.Elements.{All-nil, All-cons, All-append, All-from_recursion, All-head, All-tail, All-contains_itself}
 use Rattle.std.proofs.lemmas.List.Sorted.{IsPermutation-append_left, IsPermutation-sym, IsPermutation-trans, All-permutation, Contains-permutation, length_permutation, sum_by-IsPermutation}
 use Rattle.std.proofs.lemmas.List.Sums.{get_or-le-sum_by, sum_by-append, sum_by-cons}
-use Rattle.command_words.specs.Words.{Asked, Init, Batch, Serve, Stations, Trial, Import, Notes, ImportAsked, NotesAsked, Given, Journal, Numeric, Station, Column, Sender, Reference, Dated, At, Gage, Graded, AreOptions, AreOptionsOf, IsAsked, command_word, defaults_of, option_word, options_of}
+use Rattle.command_words.specs.Words.{Asked, Init, Batch, Serve, Stations, Trial, Import, Daily, Water, Notes, ImportAsked, DailyAsked, WaterAsked, NotesAsked, Given, Journal, Numeric, Station, Column, Sender, Reference, Dated, At, Gage, Graded, AreOptions, AreOptionsOf, IsAsked, IsTableSpan, command_word, defaults_of, option_word, options_of}
 use Rattle.command_words.specs.Laws.{CanBeAsked, OneIsAsked}
 use Rattle.command_words.specs.Reading.{AreNoCommands, IsReadOf, is_worded}
+use Rattle.command_words.specs.declared.days.DayOption.TheVariants.{From, To}
 use Rattle.command_words.specs.declared.numbers.NumericOption.TheVariants.{Number, Port, Workers, Year}
 use Rattle.command_words.specs.Commands.{asked_by}
 use Rattle.command_words.specs.declared.reading.Command.{Command}
@@ -79,6 +80,8 @@ apart (Serve name port workers connections) = (refl, (refl, (refl, (refl, tt))))
 apart (Stations name) = (refl, tt)
 apart (Trial number) = (refl, tt)
 apart (Import order) = (refl, (refl, (refl, (refl, (refl, tt)))))
+apart (Daily order) = (refl, (refl, (refl, (refl, (refl, tt)))))
+apart (Water order) = (refl, (refl, (refl, (refl, tt))))
 apart (Notes order) = (refl, (refl, (refl, (refl, (refl, (refl, (refl, (refl, tt))))))))
 
 -- what is asked by the same options has the same ones
@@ -122,6 +125,14 @@ pub no_import : (options : List Given) → ((order : ImportAsked) → CanBeAsked
 no_import options none (Import order) can is its = none order can its
 no_import options none asked can is its = absurd (omega (arith, letters is))
 
+pub no_daily : (options : List Given) → ((order : DailyAsked) → CanBeAsked (Daily order) → ¬ (AreOptionsOf (Daily order) options)) → NoneOf (codes "daily") options
+no_daily options none (Daily order) can is its = none order can its
+no_daily options none asked can is its = absurd (omega (arith, letters is))
+
+pub no_water : (options : List Given) → ((order : WaterAsked) → CanBeAsked (Water order) → ¬ (AreOptionsOf (Water order) options)) → NoneOf (codes "water") options
+no_water options none (Water order) can is its = none order can its
+no_water options none asked can is its = absurd (omega (arith, letters is))
+
 pub no_notes : (options : List Given) → ((order : NotesAsked) → CanBeAsked (Notes order) → ¬ (AreOptionsOf (Notes order) options)) → NoneOf (codes "notes") options
 no_notes options none (Notes order) can is its = none order can its
 no_notes options none asked can is its = absurd (omega (arith, letters is))
@@ -151,6 +162,14 @@ pub import_lacks : (options : List Given) (word : List ℕ) → count_by (is_wor
     → ((order : ImportAsked) → (count_by (is_worded word) (defaults_of (Import order)) ≡ 0) × (count_by (is_worded word) (options_of (Import order)) ≡ 1)) → NoneOf (codes "import") options
 import_lacks options word none needed = no_import options (λ order can. lacking word (Import order) options none (needed order).0 (needed order).1)
 
+pub daily_lacks : (options : List Given) (word : List ℕ) → count_by (is_worded word) options ≡ 0
+    → ((order : DailyAsked) → (count_by (is_worded word) (defaults_of (Daily order)) ≡ 0) × (count_by (is_worded word) (options_of (Daily order)) ≡ 1)) → NoneOf (codes "daily") options
+daily_lacks options word none needed = no_daily options (λ order can. lacking word (Daily order) options none (needed order).0 (needed order).1)
+
+pub water_lacks : (options : List Given) (word : List ℕ) → count_by (is_worded word) options ≡ 0
+    → ((order : WaterAsked) → (count_by (is_worded word) (defaults_of (Water order)) ≡ 0) × (count_by (is_worded word) (options_of (Water order)) ≡ 1)) → NoneOf (codes "water") options
+water_lacks options word none needed = no_water options (λ order can. lacking word (Water order) options none (needed order).0 (needed order).1)
+
 pub notes_lacks : (options : List Given) (word : List ℕ) → count_by (is_worded word) options ≡ 0
     → ((order : NotesAsked) → (count_by (is_worded word) (defaults_of (Notes order)) ≡ 0) × (count_by (is_worded word) (options_of (Notes order)) ≡ 1)) → NoneOf (codes "notes") options
 notes_lacks options word none needed = no_notes options (λ order can. lacking word (Notes order) options none (needed order).0 (needed order).1)
@@ -171,6 +190,12 @@ trial_not_so_many options other = no_trial options (λ number can its. other (as
 pub import_not_so_many : (options : List Given) → length options ≢ 5 → NoneOf (codes "import") options
 import_not_so_many options other = no_import options (λ order can its. other (as_many (Import order) options refl its))
 
+pub daily_not_so_many : (options : List Given) → length options ≢ 5 → NoneOf (codes "daily") options
+daily_not_so_many options other = no_daily options (λ order can its. other (as_many (Daily order) options refl its))
+
+pub water_not_so_many : (options : List Given) → length options ≢ 4 → NoneOf (codes "water") options
+water_not_so_many options other = no_water options (λ order can its. other (as_many (Water order) options refl its))
+
 pub notes_not_so_many : (options : List Given) → length options ≢ 8 → NoneOf (codes "notes") options
 notes_not_so_many options other = no_notes options (λ order can its. other (as_many (Notes order) options refl its))
 
@@ -181,12 +206,18 @@ said_so asked options needed its one other here there same =
     only_one (options_of asked) one other (apart asked)
     (Contains-permutation options (options_of asked) one (its_own asked options needed its) here) there same
 
--- a number that 16 bits do not hold is no port
+-- a number that 16 bits do not hold is none that these options take
 pub port_too_great : (options : List Given) (read : ℕ) → Contains options (Numeric Port read) → 65535 < read → NoneOf (codes "serve") options
 port_too_great options read there great = no_serve options (λ name port workers connections can its.
     let same = said_so (Serve name port workers connections) options refl its (Numeric Port read) (Numeric Port port) there (1, omega arith, refl) refl in
     let number : read ≡ port = cc in
     omega (arith, number, great, (can.0 1 (Journal []) (omega arith)).1))
+
+pub year_too_great : (options : List Given) (read : ℕ) → Contains options (Numeric Year read) → 65535 < read → NoneOf (codes "water") options
+year_too_great options read there great = no_water options (λ order can its.
+    let same = said_so (Water order) options refl its (Numeric Year read) (Numeric Year order.year) there (2, omega arith, refl) refl in
+    let number : read ≡ order.year = cc in
+    omega (arith, number, great, (can.0 2 (Journal []) (omega arith)).1))
 
 -- what a command does not take
 pub reference_too_long : (options : List Given) (read : List ℕ) → Contains options (Reference read) → 30 < length read → NoneOf (codes "import") options
@@ -194,6 +225,15 @@ reference_too_long options read there long = no_import options (λ order can its
     let same = said_so (Import order) options refl its (Reference read) (Reference order.reference) there (4, omega arith, refl) refl in
     let text : read ≡ order.reference = cc in
     omega (arith, ap (length {A = ℕ}) text, long, can.1))
+
+pub no_table_span : (options : List Given) (first last : ℤ) → Contains options (Dated From first) → Contains options (Dated To last)
+    → ¬ (IsTableSpan first last) → NoneOf (codes "daily") options
+no_table_span options first last here there none = no_daily options (λ order can its.
+    let one = said_so (Daily order) options refl its (Dated From first) (Dated From order.first) here (2, omega arith, refl) refl in
+    let other = said_so (Daily order) options refl its (Dated To last) (Dated To order.last) there (3, omega arith, refl) refl in
+    let begins : order.first ≡ first = cc in
+    let ends : order.last ≡ last = cc in
+    none (subst (λ (d : ℤ). IsTableSpan d last) begins (subst (IsTableSpan order.first) ends can.1)))
 
 pub number_of_none : (options : List Given) (read : ℕ) → Contains options (Numeric Number read) → read ≡ 0 → NoneOf (codes "notes") options
 number_of_none options read there zero = no_notes options (λ order can its.
@@ -292,6 +332,16 @@ import_in order (Journal journal ∷ Station site ∷ Column column ∷ Sender b
     record { journal = journal; site = site; column = column; by = by; reference = reference }
 import_in order options = order
 
+daily_in : DailyAsked → List Given → DailyAsked
+daily_in order (Journal journal ∷ Station site ∷ Dated one first ∷ Dated other last ∷ Numeric option turns ∷ []) =
+    record { journal = journal; site = site; first = first; last = last; turns = turns }
+daily_in order options = order
+
+water_in : WaterAsked → List Given → WaterAsked
+water_in order (Journal journal ∷ Station site ∷ Numeric one year ∷ Numeric other turns ∷ []) =
+    record { journal = journal; site = site; year = year; turns = turns }
+water_in order options = order
+
 notes_in : NotesAsked → List Given → NotesAsked
 notes_in order (Journal journal ∷ Station site ∷ Numeric option number ∷ At at ∷ Gage gage ∷ Graded grade ∷ Sender by ∷ Reference reference ∷ []) =
     record { journal = journal; site = site; number = number; at = at; gage = gage; grade = grade; by = by; reference = reference }
@@ -299,7 +349,7 @@ notes_in order options = order
 
 -- a command's word and its options tell what is asked
 same_asked : (a b : Asked) (options : List Given) → command_word a ≡ command_word b → AreOptionsOf a options → AreOptionsOf b options → a ≡ b
-unfolding import_in notes_in
+unfolding import_in daily_in water_in notes_in
 same_asked (Init x) (Init y) options w h k =
     let same = alike (Init x) (Init y) options refl refl refl h k in
     cc
@@ -318,6 +368,8 @@ same_asked (Trial n) (Trial m) options w h k =
     let same = alike (Trial n) (Trial m) options refl refl refl h k in
     cc
 same_asked (Import x) (Import y) options w h k = ap (λ (l : List Given). Import (import_in x l)) (alike (Import x) (Import y) options refl refl refl h k)
+same_asked (Daily x) (Daily y) options w h k = ap (λ (l : List Given). Daily (daily_in x l)) (alike (Daily x) (Daily y) options refl refl refl h k)
+same_asked (Water x) (Water y) options w h k = ap (λ (l : List Given). Water (water_in x l)) (alike (Water x) (Water y) options refl refl refl h k)
 same_asked (Notes x) (Notes y) options w h k = ap (λ (l : List Given). Notes (notes_in x l)) (alike (Notes x) (Notes y) options refl refl refl h k)
 same_asked a b options w h k = absurd (omega (arith, letters w))
 

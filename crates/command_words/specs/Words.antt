@@ -1,5 +1,5 @@
 -- The words of the command line: what they ask, a command with its options in any order.
-use Rattle.std.specs.Prelude.{◌≡◌, ◌≢◌, ◌≤◌, ℕ, ℤ, List, [], ◌∷◌, ◌++◌, length, codes, Some, Ok, All, Contains, IsPermutation, ⊤}
+use Rattle.std.specs.Prelude.{◌≡◌, ◌≢◌, ◌≤◌, ◌<ℤ◌, ◌≤ℤ◌, ◌+ℤ◌, ℕ, ℤ, pos, List, [], ◌∷◌, ◌++◌, length, codes, Some, Ok, All, Contains, IsPermutation, ⊤}
 use Rattle.std.specs.Str.Parse.{IsNumeral, digits_value}
 use Rattle.civil_days.specs.Spelling.{day_of_text, stamp_of_text}
 use Rattle.edits.specs.Texts.{AreInitials, IsReference}
@@ -21,6 +21,21 @@ pub record ImportAsked : Type 0 where
   pub by : List ℕ
   pub reference : List ℕ
 
+-- `daily`: the journal's name, the site, the first and the last day, and how many turns are made before
+pub record DailyAsked : Type 0 where
+  pub journal : List ℕ
+  pub site : SiteNumber
+  pub first : ℤ
+  pub last : ℤ
+  pub turns : ℕ
+
+-- `water`: the journal's name, the site, the year, and how many turns are made before
+pub record WaterAsked : Type 0 where
+  pub journal : List ℕ
+  pub site : SiteNumber
+  pub year : ℕ
+  pub turns : ℕ
+
 -- `notes`: the journal's name, and what the notes do not tell of the measurement; by whom and under which reference
 pub record NotesAsked : Type 0 where
   pub journal : List ℕ
@@ -34,7 +49,7 @@ pub record NotesAsked : Type 0 where
 
 -- what is asked: a journal is made, the requests of an input are served over it, or those of connections, or the
 -- stations of a document are added to it, each with the journal's name; or a trial, with its number; or unit values are
--- put, or a measurement is put by its notes
+-- put, a daily table or a water year is written, or a measurement is put by its notes
 pub data Asked : Type 0 where
   Init : List ℕ → Asked
   Batch : List ℕ → ℕ → Asked
@@ -42,6 +57,8 @@ pub data Asked : Type 0 where
   Stations : List ℕ → Asked
   Trial : ℕ → Asked
   Import : ImportAsked → Asked
+  Daily : DailyAsked → Asked
+  Water : WaterAsked → Asked
   Notes : NotesAsked → Asked
 
 -- an option, with what its value says
@@ -65,6 +82,8 @@ command_word (Serve name port workers connections) = codes "serve"
 command_word (Stations name) = codes "stations"
 command_word (Trial number) = codes "trial"
 command_word (Import order) = codes "import"
+command_word (Daily order) = codes "daily"
+command_word (Water order) = codes "water"
 command_word (Notes order) = codes "notes"
 
 -- the options of a command
@@ -77,6 +96,10 @@ options_of (Stations name) = Journal name ∷ []
 options_of (Trial number) = Numeric Number number ∷ []
 options_of (Import order) =
     Journal order.journal ∷ Station order.site ∷ Column order.column ∷ Sender order.by ∷ Reference order.reference ∷ []
+options_of (Daily order) =
+    Journal order.journal ∷ Station order.site ∷ Dated From order.first ∷ Dated To order.last ∷ Numeric Turns order.turns ∷ []
+options_of (Water order) =
+    Journal order.journal ∷ Station order.site ∷ Numeric Year order.year ∷ Numeric Turns order.turns ∷ []
 options_of (Notes order) =
     Journal order.journal ∷ Station order.site ∷ Numeric Number order.number ∷ At order.at ∷ Gage order.gage
     ∷ Graded order.grade ∷ Sender order.by ∷ Reference order.reference ∷ []
@@ -86,10 +109,15 @@ abbrev pub defaults_of : Asked → List Given
 defaults_of (Batch name workers) = Numeric Workers 0 ∷ []
 defaults_of asked = []
 
+-- a daily table has 1 to 366 days
+abbrev pub IsTableSpan : ℤ → ℤ → Type 0
+IsTableSpan first last = (first ≤ℤ last) × (last <ℤ (first +ℤ pos 366))
+
 -- what a command takes of what its options may say: `import` a reference of at most 30 bytes, to which a number is added,
--- `notes` a number from 1
+-- `daily` a span of days that a table has, `notes` a number from 1
 abbrev pub Takes : Asked → Type 0
 Takes (Import order) = length order.reference ≤ 30
+Takes (Daily order) = IsTableSpan order.first order.last
 Takes (Notes order) = 1 ≤ order.number
 Takes asked = ⊤
 

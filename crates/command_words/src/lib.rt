@@ -10,5 +10,5 @@ pub mod orders;
 mod reading;
 mod second_reading;
 
-pub use orders::{ImportOrder, NotesOrder};
+pub use orders::{DailyOrder, ImportOrder, NotesOrder, WaterOrder};
 pub use reading::{Command, WordsFault, read_words};

@@ -1,7 +1,7 @@
 //! What the commands with many options ask.
 
 use edits::Grade;
-use fixed_units::{Micro, Second, Site};
+use fixed_units::{Day, Micro, Second, Site};
 
 /// To put the unit values of an RDB text on the input.
 #[derive(Clone, Copy, PartialEq, Eq)]
@@ -16,6 +16,34 @@ pub struct ImportOrder<'a> {
     pub by: &'a str,
     /// What the references begin with under which they are put: 1 to 30 ASCII letters, digits and `-`.
     pub reference: &'a str,
+}
+
+/// To write the daily values of a site.
+#[derive(Clone, Copy, PartialEq, Eq)]
+pub struct DailyOrder<'a> {
+    /// The journal's name.
+    pub journal: &'a str,
+    /// The site.
+    pub site: Site,
+    /// The first day.
+    pub first: Day,
+    /// The last day: not before the first, and at most 365 days behind it.
+    pub last: Day,
+    /// How many turns are made before, at most 999,999,999.
+    pub turns: u32,
+}
+
+/// To write the table of a water year.
+#[derive(Clone, Copy, PartialEq, Eq)]
+pub struct WaterOrder<'a> {
+    /// The journal's name.
+    pub journal: &'a str,
+    /// The site.
+    pub site: Site,
+    /// The year in which the water year ends, 1901 to 2099.
+    pub year: u16,
+    /// How many turns are made before, at most 999,999,999.
+    pub turns: u32,
 }
 
 /// To put the measurement that the notes on the input tell of.

@@ -1,14 +1,16 @@
 //! What the words of the command line ask.
 
-ghost use Rattle.std.specs.Prelude.{◌≡◌, ◌↔◌, List, ℕ, codes, map, string_bytes, MatchOption, IfOk};
-ghost use Rattle.command_words.specs.Words.{Asked, IsAsked};
+ghost use Rattle.std.specs.Prelude.{◌≡◌, ◌↔◌, List, ℕ, codes, map, string_bytes, true, MatchOption, IfOk};
+ghost use Rattle.command_words.specs.Words.{Asked, IsAsked, IsTableSpan};
 ghost use Rattle.command_words.specs.Commands.{asked_by};
 ghost use Rattle.command_words.specs.Reading.{IsReadOf, given_in};
 
+use crate::days::DayOption;
 use crate::numbers::NumericOption;
 use crate::options::{Options, read_options};
-use crate::orders::{ImportOrder, NotesOrder};
+use crate::orders::{DailyOrder, ImportOrder, NotesOrder, WaterOrder};
 use crate::second_reading::is_read_alike;
+use fixed_units::Day;
 use std::alloc::Global;
 use thiserror::Error;
 
@@ -41,6 +43,10 @@ pub enum Command<'a> {
     Trial(u32),
     /// To put unit values in a journal.
     Import(ImportOrder<'a>),
+    /// To write the daily values of a site.
+    Daily(DailyOrder<'a>),
+    /// To write the table of a water year.
+    Water(WaterOrder<'a>),
     /// To put a measurement in a journal, by its notes.
     Notes(NotesOrder<'a>),
 }
@@ -99,6 +105,8 @@ fn command_of<'a>(word: &str, options: &Options<'a>) -> Option<Command<'a>>
         "stations" => stations(options),
         "trial" => trial(options),
         "import" => import(options),
+        "daily" => daily(options),
+        "water" => water(options),
         "notes" => notes(options),
         _ => None,
     }
@@ -194,6 +202,58 @@ fn import<'a>(options: &Options<'a>) -> Option<Command<'a>>
         column,
         by,
         reference,
+    }))
+}
+
+fn daily<'a>(options: &Options<'a>) -> Option<Command<'a>>
+    ensures { IsReadOf (codes "daily") (given_in options.now) result }
+{
+    let journal = options.journal()?;
+    let site = options.site()?;
+    let first = options.day(DayOption::From)?;
+    let last = options.day(DayOption::To)?;
+    let turns = options.number(NumericOption::Turns)?;
+    if options.count() != 5 {
+        return None;
+    }
+    if !is_table_span(first, last) {
+        return None;
+    }
+    Some(Command::Daily(DailyOrder {
+        journal,
+        site,
+        first,
+        last,
+        turns,
+    }))
+}
+
+/// Whether there are 1 to 366 days from the first to the last.
+fn is_table_span(first: Day, last: Day) -> bool
+    ensures { (result ≡ true) ↔ IsTableSpan first last }
+{
+    let first = first.get();
+    (first..first + 366).contains(&last.get())
+}
+
+fn water<'a>(options: &Options<'a>) -> Option<Command<'a>>
+    ensures { IsReadOf (codes "water") (given_in options.now) result }
+{
+    let journal = options.journal()?;
+    let site = options.site()?;
+    let year = options.number(NumericOption::Year)?;
+    let turns = options.number(NumericOption::Turns)?;
+    let Ok(year) = u16::try_from(year) else {
+        return None;
+    };
+    if options.count() != 4 {
+        return None;
+    }
+    Some(Command::Water(WaterOrder {
+        journal,
+        site,
+        year,
+        turns,
     }))
 }
 

@@ -1,9 +1,9 @@
 //! The words once more, as `clap` reads them. It decides nothing: words are read by it only once they have passed.
 
 use crate::options::grade_named;
-use crate::orders::{ImportOrder, NotesOrder};
+use crate::orders::{DailyOrder, ImportOrder, NotesOrder, WaterOrder};
 use crate::reading::Command;
-use civil_days::read_instant;
+use civil_days::{read_day, read_instant};
 use clap::{Arg, ArgAction, ArgMatches, Error};
 use fixed_units::{Site, read_decimal};
 use site_texts::read_site;
@@ -39,6 +39,8 @@ fn command_read<'a>(matches: &ArgMatches<'a>) -> Option<Command<'a>> {
         "stations" => Some(Command::Stations(options.get_str("journal")?)),
         "trial" => Some(Command::Trial(options.get_one::<u32>("number")?)),
         "import" => import_read(options),
+        "daily" => daily_read(options),
+        "water" => water_read(options),
         "notes" => notes_read(options),
         _ => None,
     }
@@ -60,6 +62,25 @@ fn import_read<'a>(options: &ArgMatches<'a>) -> Option<Command<'a>> {
         column: options.get_str("column")?,
         by: options.get_str("by")?,
         reference: options.get_str("ref")?,
+    }))
+}
+
+fn daily_read<'a>(options: &ArgMatches<'a>) -> Option<Command<'a>> {
+    Some(Command::Daily(DailyOrder {
+        journal: options.get_str("journal")?,
+        site: site_read(options)?,
+        first: read_day(options.get_str("from")?.as_bytes())?,
+        last: read_day(options.get_str("to")?.as_bytes())?,
+        turns: options.get_one::<u32>("turns")?,
+    }))
+}
+
+fn water_read<'a>(options: &ArgMatches<'a>) -> Option<Command<'a>> {
+    Some(Command::Water(WaterOrder {
+        journal: options.get_str("journal")?,
+        site: site_read(options)?,
+        year: u16::try_from(options.get_one::<u32>("year")?).ok()?,
+        turns: options.get_one::<u32>("turns")?,
     }))
 }
 
@@ -97,6 +118,8 @@ fn program<'a>(alloc: Global) -> Result<clap::Command<'a>, AllocError> {
         .subcommand(needing(alloc, "stations", &["journal"])?)?
         .subcommand(needing(alloc, "trial", &["number"])?)?
         .subcommand(needing(alloc, "import", &["journal", "site", "column", "by", "ref"])?)?
+        .subcommand(needing(alloc, "daily", &["journal", "site", "from", "to", "turns"])?)?
+        .subcommand(needing(alloc, "water", &["journal", "site", "year", "turns"])?)?
         .subcommand(needing(
             alloc,
             "notes",

@@ -11,8 +11,9 @@ use Rattle.devices.specs.Doors.{Ends}
 use Rattle.devices.specs.declared.disks.Disk.{Ghosts}
 use Rattle.history.specs.After.{go_on}
 use Rattle.history.specs.Events.{Event, History}
+use Rattle.serving.proofs.BesideLemmas.{work_at}
 use Rattle.serving.proofs.EventLemmas.{IsEventAt, all_weaker, ended_on, ended_within, ending_at, holdings_at, open_before, open_on, times_of_all, times_of_events}
-use Rattle.serving.proofs.WorkedLemmas.{IsAny, IsPublished, session_adds, tasks_add}
+use Rattle.serving.proofs.WorkedLemmas.{IsAny, IsPublished, session_adds}
 use Rattle.serving.specs.Crews.{AreJoined, IsWorkIn}
 use Rattle.shared_office.specs.Entries.{before_ending, fixed_part, has_ended, history_of, with_ending}
 use Rattle.shared_office.specs.Holdings.{Follow, Holding, places_of}
@@ -37,7 +38,7 @@ module _ {D : Type 0} {g : Ghosts D} (lock : Lock D g) (given started served end
     (from : List Entry) (workers : ℕ)
     (same : seen started ≡ seen given) (kept : tally started ≡ tally given)
     (session : IsSession (fixed_in lock) started served end came went)
-    (told : GoesOnce served ended (telling_end from)) (joined : AreJoined lock ended back workers) where
+    (told : GoesOnce served ended (telling_end from)) (joined : AreJoined lock (seen given) ended back workers) where
   -- all begins with what was seen at the start
   pub beside_begins : IsPrefix (seen given) (seen back)
   beside_begins =
@@ -81,13 +82,6 @@ module _ {D : Type 0} {g : Ghosts D} (lock : Lock D g) (given started served end
     added_is = refl;
   }
 
--- at each place of a worker stands a publication
-work_at : {D : Type 0} {g : Ghosts D} (lock : Lock D g) (list : List Entry) (ps : List ℕ) → IsWorkIn lock list ps
-    → AllByRecursion (IsEventAt IsPublished list) ps
-work_at lock list ps w =
-    subst (λ (l : List ℕ). AllByRecursion (IsEventAt IsPublished list) l) (sym w.places_are)
-    (holdings_at IsPublished [] w.holdings list w.follow (tasks_add w.holdings w.adds))
-
 -- nobody had told the end before, since each place that was added stands once
 module _ {D : Type 0} {g : Ghosts D} (lock : Lock D g) (before list : List Entry) (added : List ℕ) (came went : Ends) (end : SessionEnd)
     (count first : ℕ) (b : IsBeside lock count before list added came went end) (unended : has_ended before ≡ false) (first_is : first ≡ length before)
@@ -122,8 +116,8 @@ module _ {D : Type 0} {g : Ghosts D} (lock : Lock D g) (before list : List Entry
       (holdings_at IsAny before b.holdings list (follow_on before b.holdings from list b.follow on)
       (session_adds (fixed_in lock) came went end b.holdings b.ends_in)) in
       let none_worked = times_of_all IsPublished list place b.workers at
-      (all_weaker (IsWorkIn lock list) (λ ps. AllByRecursion (IsEventAt IsPublished list) ps) (work_at lock list) b.workers
-      (recursion_from_All (IsWorkIn lock list) b.workers b.work)) in
+      (all_weaker (IsWorkIn lock before list) (λ ps. AllByRecursion (IsEventAt IsPublished list) ps) (work_at lock before list) b.workers
+      (recursion_from_All (IsWorkIn lock before list) b.workers b.work)) in
       let none_ended = times-before place (length from) (length (with_ending from) - length from) below in
       let once_there =
       times-in place first (length list - first) (omega (arith, first_is, above)) (omega (arith, first_is, above, below, longest)) in

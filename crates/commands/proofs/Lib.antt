@@ -1,7 +1,10 @@
 pub mod AskedLemmas
 pub mod BatchLemmas
 pub mod BesideLemmas
+pub mod JoinedLemmas
 pub mod Lawful
+pub mod DrainLemmas
+pub mod FailingLemmas
 pub mod LoadingLemmas
 pub mod MakingLemmas
 pub mod NotesLemmas
@@ -13,4 +16,6 @@ pub mod RunLemmas
 pub mod ServingLemmas
 pub mod SharingLemmas
 pub mod StationsLemmas
+pub mod TablesLemmas
+pub mod TruthLemmas
 pub mod TryingLemmas

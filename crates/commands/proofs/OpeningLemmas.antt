@@ -1,4 +1,5 @@
 -- How a journal is opened, carried on and closed, or not opened.
+use Rattle.std.proofs.Math.Logic.{∥∥₁_map}
 use Rattle.std.proofs.Common.{◌≡◌, ◌⊎◌, ℕ, zero, suc, ◌≤◌, true, false, List, Option, Some, None, is_some, IfSome, IsSome, IsSomeAnd, refl, sym, ◌∙◌, ap, subst, inl, inr, arith}
 use Rattle.devices.specs.declared.cabinets.Opened.TheVariants as opens
 use Rattle.devices.specs.declared.disks.Disk.{Ghosts}
@@ -6,7 +7,7 @@ use Rattle.devices.specs.Cabinets.{Place, Free, Kept, Out, IsCounted, IsKept, Is
 use Rattle.devices.specs.Disks.{IsUnchanged}
 use Rattle.devices.specs.Faults.{Rose}
 use Rattle.desk.proofs.FaultLemmas.{count_reopened}
-use Rattle.desk.specs.Passing.{Passes, RoseBy}
+use Rattle.shared_office.specs.Passages.{Passes, RoseBy}
 use Rattle.history.specs.After.{go_on, reopen}
 use Rattle.history.specs.Events.{Event, History}
 use Rattle.history.specs.Legal.{IsLegal}
@@ -147,9 +148,9 @@ works_under g name Worked register opened left last before now after o passed wo
 -- by several, behind a lock
 pub shared_under : {D : Type 0} (g : Ghosts D) (name : List ℕ) (Worked : History → History → Type 0) (register : Registered) (opened left : D)
     (last : History) (before now after : Shelf D)
-    → IsOpenedUnder g name register opened before now → HasCounted last (g.faults left) → Worked register.history last
-    → IsClosedUnder g name last left now after → WorksUnder g name (LeadsTo g) Worked before after
-shared_under g name Worked register opened left last before now after o counted worked closed =
+    → IsOpenedUnder g name register opened before now → HasCounted last (g.faults left) → ∥ Passes g register.history last opened left ∥₁
+    → Worked register.history last → IsClosedUnder g name last left now after → WorksUnder g name (LeadsTo g) Worked before after
+shared_under g name Worked register opened left last before now after o counted passed worked closed =
     let causes : RoseBy (fault_count last.events) 0 (g.faults left) = omega (arith, counted) in
     under g name (LeadsTo g) Worked register opened left last before now after o closed
     (λ held is. record {
@@ -158,6 +159,11 @@ shared_under g name Worked register opened left last before now after o counted 
       images = closed.images;
       causes = causes;
       legal = closed.legal;
+      any_moment =
+          ∥∥₁_map passed (λ p.
+          carried g o.pieces last held o.found left is
+          (carries g o.pieces last o.found opened left o.journal o.same o.synced (subst (λ (h : History). Passes g h last opened left) o.reopened p)
+          closed.stands closed.images closed.legal));
     })
     causes worked
 

@@ -1,6 +1,6 @@
 -- What holds of all runs: a row a command, and what follows for a run.
 use Rattle.std.proofs.Common.{◌≡◌, ◌⊎◌, ℕ, List, refl, sym, ◌∙◌, ap, subst, inr, ⊎_elim}
-use Rattle.command_words.specs.Words.{Asked, Init, Batch, Serve, Stations, Trial, Import, Notes, ImportAsked, NotesAsked}
+use Rattle.command_words.specs.Words.{Asked, Init, Batch, Serve, Stations, Trial, Import, Daily, Water, Notes, ImportAsked, DailyAsked, WaterAsked, NotesAsked}
 use Rattle.devices.specs.declared.disks.Disk.{Ghosts}
 use Rattle.commands.proofs.Lawful.{HasCause, IsEarly, IsLawful, by_ending, innocent}
 use Rattle.commands.proofs.MakingLemmas.{making_lawful}
@@ -9,6 +9,7 @@ use Rattle.commands.proofs.NotesLemmas.{notes_lawful, unwritten_at_notes}
 use Rattle.commands.proofs.ReadingsLemmas.{readings_lawful, unwritten_at_units}
 use Rattle.commands.proofs.ServingLemmas.{serving_lawful}
 use Rattle.commands.proofs.StationsLemmas.{stations_lawful, unwritten_at_document}
+use Rattle.commands.proofs.TablesLemmas.{table_lawful}
 use Rattle.commands.proofs.TryingLemmas.{trial_lawful}
 use Rattle.commands.specs.Loading.{LoadsNotes, LoadsReadings, LoadsStations, loading_ending, notes_ending, readings_ending}
 use Rattle.commands.specs.Making.{Makes, making_ending}
@@ -18,6 +19,7 @@ use Rattle.commands.specs.Runs.{Does, Runs}
 use Rattle.commands.specs.Batch.{ServesInput, session_ending}
 use Rattle.commands.specs.Serving.{ServesConnections, serving_ending}
 use Rattle.commands.specs.Statuses.{status_of}
+use Rattle.commands.specs.Tables.{WritesDaily, WritesWater, daily_written, table_ending, water_written}
 use Rattle.commands.specs.Trying.{Tries, trial_ending}
 use Rattle.commands.specs.Worlds.{DoorsStay, StreamsStay, Told, World}
 use Rattle.commands.specs.declared.endings.Ending.TheVariants.{NoMemory}
@@ -45,6 +47,12 @@ module _ {S K E C L P D : Type 0} (g : Ghosts D) (tell : World S K E C L P → T
   lawful (Import asked) =
       by_ending tell (ending_over readings_ending) (IsReady g (Import asked)) (λ before after. IsWell before after (Import asked))
       (λ end before after. LoadsReadings g tell asked end before after) (readings_lawful g tell asked)
+  lawful (Daily asked) =
+      by_ending tell (ending_over table_ending) (IsReady g (Daily asked)) (λ before after. IsWell before after (Daily asked))
+      (λ end before after. WritesDaily g tell asked end before after) (table_lawful g tell asked.journal asked.turns (daily_written asked))
+  lawful (Water asked) =
+      by_ending tell (ending_over table_ending) (IsReady g (Water asked)) (λ before after. IsWell before after (Water asked))
+      (λ end before after. WritesWater g tell asked end before after) (table_lawful g tell asked.journal asked.turns (water_written asked))
   lawful (Notes asked) =
       by_ending tell (ending_over notes_ending) (IsReady g (Notes asked)) (λ before after. IsWell before after (Notes asked))
       (λ end before after. LoadsNotes g tell asked end before after) (notes_lawful g tell asked)
@@ -138,4 +146,20 @@ module _ {S K E C L P D : Type 0} (g : Ghosts D) (tell : World S K E C L P → T
       ⊎_elim
       (λ none. ((none.1.streams.0, none.1.cabinet), none.1.doors))
       (λ did. ((did.2.input, did.2.cabinet), did.2.doors))
+      run.did
+
+  pub daily_alone : (what : DailyAsked) (status : ℕ) (before after : World S K E C L P) → Runs g tell (Daily what) status before after
+      → (after.input ≡ before.input) × DoorsStay before after
+  daily_alone what status before after run =
+      ⊎_elim
+      (λ none. (none.1.streams.0, none.1.doors))
+      (λ did. (did.2.input, did.2.doors))
+      run.did
+
+  pub water_alone : (what : WaterAsked) (status : ℕ) (before after : World S K E C L P) → Runs g tell (Water what) status before after
+      → (after.input ≡ before.input) × DoorsStay before after
+  water_alone what status before after run =
+      ⊎_elim
+      (λ none. (none.1.streams.0, none.1.doors))
+      (λ did. (did.2.input, did.2.doors))
       run.did

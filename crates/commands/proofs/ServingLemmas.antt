@@ -1,5 +1,5 @@
 -- What serving connections comes to, and what its end says of the status.
-use Rattle.std.proofs.Common.{◌≡◌, ◌⊎◌, ℕ, List, [], length, Ok, Err, Result, refl, sym, ◌∙◌, ap, subst, inl, inr, ⊎_elim}
+use Rattle.std.proofs.Common.{◌≡◌, ◌⊎◌, ℕ, false, List, [], length, Ok, Err, Result, refl, sym, ◌∙◌, ap, subst, inl, inr, ⊎_elim}
 use Rattle.std.proofs.lemmas.List.{append-nil}
 use mathlib.Core.List.{IsPrefix}
 use Rattle.devices.specs.declared.disks.Disk.{Ghosts}
@@ -32,10 +32,11 @@ pub serves_between : {D : Type 0} {g : Ghosts D} (workers connections : ℕ) (be
     → ServedBeside lock workers (seen given) (seen back) (tally given) (tally back) after.told.given after.told.back
     ⊎ ((after.told.given ≡ []) × (back ≡ given))
     → (end ≡ ends.NoMemory → (after.told.given ≡ []) × (back ≡ given))
+    → (after.listens ≡ false → (after.told.given ≡ []) × (back ≡ given))
     → last ≡ history_of (fixed_in lock) (seen back)
     → IsEachOnce (length (listed (first_value lock))) (length (seen back)) (tally back)
     → ServesBetween g workers connections before after end h last
-serves_between {D} {g} workers connections before after end h last lock given back s begins ended served unserved is once =
+serves_between {D} {g} workers connections before after end h last lock given back s begins ended served unserved unlistened is once =
     let list : List Entry = seen back in
     let last_is : last ≡ history_of (fixed_part h) list = is ∙ ap (λ (f : Fixed). history_of f list) s.fixed_is in
     let none : back ≡ given → last ≡ h =
@@ -63,6 +64,7 @@ serves_between {D} {g} workers connections before after end h last lock given ba
           (λ nobody. inr (nobody.0, none nobody.1))
           served;
       unserved = λ memory. let nobody = unserved memory in (nobody.0, none nobody.1);
+      unlistened = λ deaf. let nobody = unlistened deaf in (nobody.0, none nobody.1);
     }
 
 -- nobody was let in, since there was no memory
@@ -73,6 +75,7 @@ serves_nobody g workers connections before after h last none same is = record {
   goes_on = ([], is ∙ sym (nothing_more h));
   served = inr (none, is);
   unserved = λ memory. (none, is);
+  unlistened = λ deaf. (none, is);
 }
   where
     nothing_more : (h : History) → go_on h [] ≡ h

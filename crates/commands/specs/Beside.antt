@@ -25,8 +25,8 @@ ends_told input output =
 
 module _ {D : Type 0} {g : Ghosts D} where
   -- A session ended so beside so many workers, between these lists of a lock: its holdings, in which the replies were made, lie in what was
-  -- there when the end was told, and each worker's lie in the last list. Of the places that were added each is of the session, of the ending
-  -- or of a worker.
+  -- there when the end was told, and each worker's lie in the last list; both lie behind the first one. Of the places that were added each is
+  -- of the session, of the ending or of a worker.
   pub record IsBeside (lock : Lock D g) (count : ℕ) (before after : List Entry) (added : List ℕ) (came went : Ends) (end : SessionEnd) : Type 0 where
     pub holdings : List (Holding (List Entry))
     pub ends_in : EndsIn (fixed_in lock) came went end holdings
@@ -36,7 +36,7 @@ module _ {D : Type 0} {g : Ghosts D} where
     pub grows : IsPrefix (with_ending told_at) after
     pub workers : List (List ℕ)
     pub count_is : length workers ≡ count
-    pub work : All (IsWorkIn lock after) workers
+    pub work : All (IsWorkIn lock before after) workers
     pub added_is : added ≡ (places_of length holdings ++ places (length told_at) (length (with_ending told_at) - length told_at)) ++ concat workers
 
 -- The same, from one history to another, which are read off the lists. Each place that the list has grown by stands once among those, and

@@ -1,5 +1,6 @@
 pub mod Batch
 pub mod Beside
+pub mod Joined
 pub mod Loading
 pub mod Making
 pub mod Opening
@@ -9,5 +10,6 @@ pub mod Runs
 pub mod Serving
 pub mod Sharing
 pub mod Statuses
+pub mod Tables
 pub mod Trying
 pub mod Worlds

@@ -1,6 +1,6 @@
 -- A journal that is opened, worked over and closed, or not opened: what the commands over a journal have in common.
 use Rattle.std.specs.Prelude.{◌≡◌, ◌⊎◌, ℕ, false, List, Option, IfSome, IsSome, IsSomeAnd, Result, Ok, Err, ⊤}
-use Rattle.desk.specs.Passing.{RoseBy}
+use Rattle.shared_office.specs.Passages.{RoseBy}
 use Rattle.devices.specs.Cabinets.{Place, IsCounted, IsKept, IsOpened, OthersStay}
 use Rattle.devices.specs.Disks.{IsUnchanged}
 use Rattle.devices.specs.Faults.{Rose}
@@ -85,15 +85,16 @@ module _ {D : Type 0} (g : Ghosts D) where
     pub causes : RoseBy (fault_count last.events) 0 (g.faults left)
     pub legal : IsLegal last
 
-  -- The same of a disk that was behind a lock meanwhile, of which nothing is said but as it was given and as it came back: what is left
-  -- stands for the edits that were accepted, or for these and the one in doubt, where it tells its bytes, and so does whatever a stop may
-  -- leave of it then.
+  -- The same of a disk that was behind a lock meanwhile. What is left stands for the edits that were accepted, or for these and the one in
+  -- doubt, where it tells its bytes, and so does whatever a stop may leave of it then. That this and every moment before are as without a
+  -- lock is said without the way on which they came about.
   pub record LeadsTo (pieces : List Record) (last : History) (found left : D) : Type 0 where
     pub journal : IfSome (g.content found) (IsJournalOf pieces)
     pub now : IfSome (g.content left) (IsLeft last)
     pub images : IsSome (g.content left) → (image : List ℕ) → g.may_leave left image → IsLeft last image
     pub causes : RoseBy (fault_count last.events) 0 (g.faults left)
     pub legal : IsLegal last
+    pub any_moment : ∥ Carries pieces last found left ∥₁
 
   -- a disk was found under the name, and one is left there that goes on from it
   abbrev pub GoesOnAt : (D → D → Type 0) → Place D → Place D → Type 0

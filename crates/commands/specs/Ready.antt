@@ -1,6 +1,6 @@
 -- Where a run cannot fail, but for want of memory: a row a command.
 use Rattle.std.specs.Prelude.{◌≡◌, ◌⊎◌, ℕ, ◌<◌, ◌≤◌, Err, List, length, Option, IsSome, IsSomeAnd, ⊤}
-use Rattle.command_words.specs.Words.{Asked, Init, Batch, Serve, Stations, Trial, Import, Notes, ImportAsked}
+use Rattle.command_words.specs.Words.{Asked, Init, Batch, Serve, Stations, Trial, Import, Daily, Water, Notes, ImportAsked}
 use Rattle.devices.specs.Cabinets.{Place}
 use Rattle.devices.specs.Faults.{Rose}
 use Rattle.devices.specs.declared.disks.Disk.{Ghosts}
@@ -64,6 +64,8 @@ module _ {D : Type 0} (g : Ghosts D) where
   IsReady (Stations name) found = HasSound name found.cabinet.places × IsSomeAnd found.input.bytes IsDocument
   IsReady (Trial number) found = ⊤
   IsReady (Import asked) found = HasSound asked.journal found.cabinet.places × IsSomeAnd found.input.bytes (IsUnits asked)
+  IsReady (Daily asked) found = HasSound asked.journal found.cabinet.places
+  IsReady (Water asked) found = HasSound asked.journal found.cabinet.places
   IsReady (Notes asked) found = HasSound asked.journal found.cabinet.places × IsSomeAnd found.input.bytes IsNotes
 
 module _ {D : Type 0} (before after : Told D) where
@@ -88,6 +90,8 @@ module _ {D : Type 0} (before after : Told D) where
   IsWell (Stations name) = StreamsAreWell × CabinetIsWell
   IsWell (Trial number) = OutputIsWell
   IsWell (Import asked) = StreamsAreWell × CabinetIsWell
+  IsWell (Daily asked) = OutputIsWell × CabinetIsWell
+  IsWell (Water asked) = OutputIsWell × CabinetIsWell
   IsWell (Notes asked) = StreamsAreWell × CabinetIsWell
 
 -- the command is done, or there was no memory

@@ -1,6 +1,6 @@
 -- What a run comes to, by what is asked: a row a command.
 use Rattle.std.specs.Prelude.{◌≡◌, ◌⊎◌, ℕ, List}
-use Rattle.command_words.specs.Words.{Asked, Init, Batch, Serve, Stations, Trial, Import, Notes, IsAsked}
+use Rattle.command_words.specs.Words.{Asked, Init, Batch, Serve, Stations, Trial, Import, Daily, Water, Notes, IsAsked}
 use Rattle.devices.specs.declared.disks.Disk.{Ghosts}
 use Rattle.commands.specs.Loading.{LoadsNotes, LoadsReadings, LoadsStations, loading_ending, notes_ending, readings_ending}
 use Rattle.commands.specs.Making.{Makes, making_ending}
@@ -8,6 +8,7 @@ use Rattle.commands.specs.Opening.{ending_over}
 use Rattle.commands.specs.Batch.{ServesInput, session_ending}
 use Rattle.commands.specs.Serving.{ServesConnections, serving_ending}
 use Rattle.commands.specs.Statuses.{IsReported, line_of, status_of}
+use Rattle.commands.specs.Tables.{WritesDaily, WritesWater, table_ending}
 use Rattle.commands.specs.Trying.{Tries, trial_ending}
 use Rattle.commands.specs.Worlds.{IsIdle, Told, World}
 use Rattle.commands.specs.declared.endings.Ending.{Ending}
@@ -50,6 +51,8 @@ module _ {S K E C L P D : Type 0} (g : Ghosts D) (tell : World S K E C L P → T
   Does (Stations name) before after = EndsBy (ending_over loading_ending) (λ end. LoadsStations g tell name end before after)
   Does (Trial number) before after = EndsBy trial_ending (λ end. Tries tell number end before after)
   Does (Import asked) before after = EndsBy (ending_over readings_ending) (λ end. LoadsReadings g tell asked end before after)
+  Does (Daily asked) before after = EndsBy (ending_over table_ending) (λ end. WritesDaily g tell asked end before after)
+  Does (Water asked) before after = EndsBy (ending_over table_ending) (λ end. WritesWater g tell asked end before after)
   Does (Notes asked) before after = EndsBy (ending_over notes_ending) (λ end. LoadsNotes g tell asked end before after)
 
   -- A run of what is asked: how it ended, its status, its line, and what it did. Where there was no memory for the words it did nothing.

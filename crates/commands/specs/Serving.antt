@@ -1,14 +1,15 @@
 -- What a run of `serve` comes to.
-use Rattle.std.specs.Prelude.{◌≡◌, ◌⊎◌, ℕ, List, [], length, Result, Ok, IsErr}
+use Rattle.std.specs.Prelude.{◌≡◌, ◌⊎◌, ℕ, false, List, [], length, Result, Ok, IsErr}
 use Rattle.devices.specs.Doors.{Connections}
 use Rattle.devices.specs.declared.disks.Disk.{Ghosts}
 use Rattle.history.specs.After.{go_on}
 use Rattle.history.specs.Events.{Event, History}
 use Rattle.journal.specs.declared.opening.OpenFault.{OpenFault}
+use Rattle.serving.specs.Failing.{failed_replies}
 use Rattle.serving.specs.Serving.{IsServeEnd, ServedBeside}
 use Rattle.serving.specs.declared.whole.ServeEnd.{ServeEnd}
 use Rattle.serving.specs.declared.whole.ServeEnd.TheVariants as ends
-use Rattle.shared_office.specs.Entries.{fixed_part, history_of}
+use Rattle.shared_office.specs.Entries.{before_ending, fixed_part, history_of}
 use Rattle.shared_office.specs.Passing.{Lock, fixed_in}
 use Rattle.shared_office.specs.declared.entries.Entry.{Entry}
 use Rattle.turnstile.specs.Places.{IsEachOnce}
@@ -36,17 +37,25 @@ pub record AreServedBeside {D : Type 0} (g : Ghosts D) (workers : ℕ) (told : C
   pub each_once : IsEachOnce (length h.events) (length list) places
   pub beside : ServedBeside lock workers (begun h) list [] places told.given told.back
 
+-- how many replies of all its connections are 503
+abbrev pub failed_beside : {D : Type 0} {g : Ghosts D} {workers : ℕ} {told : Connections} {h last : History} → AreServedBeside g workers told h last → ℕ
+failed_beside {D} {g} {workers} {told} {h} {last} served =
+    failed_replies (fixed_in served.lock) (length (begun h)) (before_ending served.list) told.back 1 told.given served.beside.connections
+    served.beside.each
+
 -- nobody was let in, and nothing has happened
 abbrev pub NobodyWasServed : Connections → History → History → Type 0
 NobodyWasServed told h last = (told.given ≡ []) × (last ≡ h)
 
 -- What was done for the connections beside so many workers at an end of serving, from one history to another: `End` exactly where as many
--- were given as were asked for, and each that was given was served.
+-- were given as were asked for, and each that was given was served; where there was no memory to begin, or the doors do not listen then, since
+-- the port could not be had, nobody was let in and nothing has happened.
 pub record ServesBetween {D : Type 0} (g : Ghosts D) (workers connections : ℕ) (before after : Doorway) (end : ServeEnd) (h last : History) : Type 0 where
   pub ended : IsServeEnd end connections after.told.given before.faults after.faults
   pub goes_on : (since : List Event) × (last ≡ go_on h since)
   pub served : AreServedBeside g workers after.told h last ⊎ NobodyWasServed after.told h last
   pub unserved : end ≡ ends.NoMemory → NobodyWasServed after.told h last
+  pub unlistened : after.listens ≡ false → NobodyWasServed after.told h last
 
 -- A run of `serve`: the connections that were given and how each was served, over the journal that was found, and what is left is the
 -- journal of the edits that were accepted. The input and the output are not touched, nor are the doors where no journal was opened.

@@ -1,5 +1,5 @@
 -- The six objects of a run, and what they tell.
-use Rattle.std.specs.Prelude.{◌≡◌, ℕ, List, Option}
+use Rattle.std.specs.Prelude.{◌≡◌, ℕ, Bool, List, Option}
 use Rattle.devices.specs.Cabinets.{Place}
 use Rattle.devices.specs.Doors.{Connections}
 use Rattle.devices.specs.declared.cabinets.Cabinet.{Ghosts as CabinetGhosts}
@@ -18,8 +18,9 @@ pub record Shelf (D : Type 0) : Type 0 where
   pub places : Option (List ℕ → Place D)
   pub faults : ℕ
 
--- what doors tell: the connections that were given and taken back, and their count of faults
+-- what doors tell: whether they listen, the connections that were given and taken back, and their count of faults
 pub record Doorway : Type 0 where
+  pub listens : Bool
   pub told : Connections
   pub faults : ℕ
 
@@ -33,7 +34,7 @@ abbrev pub shelf : {C D : Type 0} → CabinetGhosts C D → C → Shelf D
 shelf ghosts cabinet = record { places = ghosts.places cabinet; faults = ghosts.faults cabinet }
 
 abbrev pub doorway : {L I O B : Type 0} → DoorsGhosts L I O B → L → Doorway
-doorway ghosts doors = record { told = ghosts.told doors; faults = ghosts.faults doors }
+doorway ghosts doors = record { listens = ghosts.listens doors; told = ghosts.told doors; faults = ghosts.faults doors }
 
 -- the objects: where requests come from, where replies go, where a failing run is told, where the journals are, where connections come
 -- in, and what starts threads

@@ -9,6 +9,7 @@ ghost use Rattle.commands.specs.Worlds.{shelf, sink_told, source_told};
 ghost use Rattle.desk.specs.Sessions.{HasCause};
 ghost use Rattle.office.specs.Counting.{HasCounted};
 ghost use Rattle.serving.specs.Crews.{IsRoom};
+ghost use Rattle.shared_office.specs.Passages.{Passes};
 ghost use Rattle.shared_office.specs.Passing.{IsOf};
 ghost use Rattle.turnstile.specs.Passes.{seen, share, tally};
 
@@ -86,6 +87,7 @@ fn serve_shared<
         (ends_told (source_told S.Source input.old) (sink_told K.Sink output.old)) (ends_told (source_told S.Source input.new) (sink_told K.Sink output.new))
         result.1 office.register.history result.0.register.history }
     ensures counted { HasCounted result.0.register.history (D.faults result.0.disk) }
+    ensures passed { ∥ Passes D.Disk office.register.history result.0.register.history office.disk result.0.disk ∥₁ }
     ensures cause { HasCause result.1 (S.faults input.old) (S.faults input.new) (K.faults output.old) (K.faults output.new) }
     ensures unserved { result.1 ≡ SessionEnd.NoMemory → (input.new ≡ input.old) × (output.new ≡ output.old) }
 {

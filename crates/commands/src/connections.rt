@@ -8,6 +8,7 @@ ghost use Rattle.commands.specs.Worlds.{doorway, shelf};
 ghost use Rattle.office.specs.Counting.{HasCounted};
 ghost use Rattle.serving.specs.Serving.{IsServeEnd, ServedBeside};
 ghost use Rattle.shared_office.specs.Entries.{has_ended};
+ghost use Rattle.shared_office.specs.Passages.{Passes};
 ghost use Rattle.shared_office.specs.Passing.{IsOf};
 ghost use Rattle.turnstile.specs.Passes.{seen, share, tally};
 
@@ -124,6 +125,7 @@ fn serve_over<
     ensures served { ServesBetween D.Disk options.workers options.connections (doorway L.Doors doors.old) (doorway L.Doors doors.new) result.1
         office.register.history result.0.register.history }
     ensures counted { HasCounted result.0.register.history (D.faults result.0.disk) }
+    ensures passed { ∥ Passes D.Disk office.register.history result.0.register.history office.disk result.0.disk ∥₁ }
     ensures unserved { result.1 ≡ ServeEnd.NoMemory → spawner.new ≡ spawner.old }
 {
     let (lock, pass) = match share_office(alloc, office) {
@@ -165,6 +167,7 @@ fn serve_behind<
     ensures served { ServedBeside lock.now.value options.workers (seen pass) (seen result.0) (tally pass) (tally result.0)
         (L.told doors.new).given (L.told doors.new).back ⊎ (((L.told doors.new).given ≡ []) × (result.0 ≡ pass)) }
     ensures unserved { result.1 ≡ ServeEnd.NoMemory → ((L.told doors.new).given ≡ []) × (result.0 ≡ pass) × (spawner.new ≡ spawner.old) }
+    ensures unlistened { L.listens doors.new ≡ false → ((L.told doors.new).given ≡ []) × (result.0 ≡ pass) }
 {
     match doors.listen(options.port) {
         Ok(()) => serve_all(

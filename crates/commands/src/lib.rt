@@ -1,5 +1,6 @@
 //! The commands of the program: a journal is made, or the messages of an input or of connections are served over one, or what an input states
-//! is put into it (stations, unit values, the notes of a measurement); or the trial of a number is run.
+//! is put into it (stations, unit values, the notes of a measurement), or a table of it is written (daily values, a water year); or the trial
+//! of a number is run.
 #![tactic(auto)]
 
 mod batch;
@@ -11,6 +12,7 @@ mod loading;
 mod making;
 mod opening;
 mod sharing;
+mod tables;
 pub mod top;
 mod trying;
 

@@ -15,6 +15,7 @@ use crate::connections::{self, serve_connections};
 use crate::endings::Ending;
 use crate::loading::{import_input, load_input, note_input};
 use crate::making::make_journal;
+use crate::tables::{write_daily, write_water};
 use crate::trying::write_trial;
 use command_words::{Command, WordsFault, read_words};
 use devices::{Cabinet, Doors, Gate, Sink, Source, Spawner};
@@ -25,8 +26,10 @@ use std::time::Clock;
 
 /// Runs the command that the words name: `init` makes a journal under a name of the cabinet; `batch` reads requests to the input's end and writes
 /// the replies, with each edit in the journal before its reply, beside as many workers as are asked for; `serve` does so for as many connections
-/// of the doors; `stations` adds the stations of the document on the input and writes a line of each. `trial` asks the made-up record of a number
-/// of an office over a disk in memory, and writes its six figures.
+/// of the doors; `stations` adds the stations of the document on the input and writes a line of each; `import` puts the readings of a text of unit
+/// values, and `notes` the measurement that notes tell of, each with the lines of what became of it; `daily` and `water` write the daily values of
+/// a site and the table of a water year, behind so many turns. `trial` asks the made-up record of a number of an office over a disk in memory, and
+/// writes its six figures.
 ///
 /// The doors have given no connection. Threads are started by the spawner, for workers and connections alone, and each worker passes a gate of
 /// its own. What is answered is the status of the program: 0 where the command is done, for `batch` at the input's end, for `serve` once all
@@ -154,6 +157,14 @@ where
         }
         Command::Import(ref order) => {
             let end = import_input(alloc, cabinet, order, input, output);
+            Ending::from(end).finish(faults)
+        }
+        Command::Daily(ref order) => {
+            let end = write_daily(alloc, cabinet, order, output);
+            Ending::from(end).finish(faults)
+        }
+        Command::Water(ref order) => {
+            let end = write_water(alloc, cabinet, order, output);
             Ending::from(end).finish(faults)
         }
         Command::Notes(ref order) => {

@@ -2,10 +2,10 @@
 
 use crate::escapes::push_counted;
 use crate::words::push_named;
-use civil_days::write_instant;
-use command_words::{ImportOrder, NotesOrder};
+use civil_days::{write_day, write_instant};
+use command_words::{DailyOrder, ImportOrder, NotesOrder, WaterOrder};
 use edits::Grade;
-use fixed_units::{Micro, NoMemory, Second, Site, Text, write_micro};
+use fixed_units::{Day, Micro, NoMemory, Second, Site, Text, write_micro};
 use site_texts::write_site;
 
 pub fn push_import(order: &ImportOrder<'_>, came: &mut Text) -> Result<(), NoMemory> {
@@ -13,6 +13,19 @@ pub fn push_import(order: &ImportOrder<'_>, came: &mut Text) -> Result<(), NoMem
     push_named(b" column ", order.column, came)?;
     push_named(b" by ", order.by, came)?;
     push_named(b" ref ", order.reference, came)
+}
+
+pub fn push_daily(order: &DailyOrder<'_>, came: &mut Text) -> Result<(), NoMemory> {
+    push_begun(b"daily ", order.journal, order.site, came)?;
+    push_day(b" from ", order.first, came)?;
+    push_day(b" to ", order.last, came)?;
+    push_counted(b" turns ", u64::from(order.turns), came)
+}
+
+pub fn push_water(order: &WaterOrder<'_>, came: &mut Text) -> Result<(), NoMemory> {
+    push_begun(b"water ", order.journal, order.site, came)?;
+    push_counted(b" year ", u64::from(order.year), came)?;
+    push_counted(b" turns ", u64::from(order.turns), came)
 }
 
 pub fn push_notes(order: &NotesOrder<'_>, came: &mut Text) -> Result<(), NoMemory> {
@@ -27,6 +40,11 @@ fn push_begun(command: &[u8], journal: &str, site: Site, came: &mut Text) -> Res
     push_named(command, journal, came)?;
     came.push_slice(b" site ")?;
     write_site(site, came)
+}
+
+fn push_day(word: &[u8], day: Day, came: &mut Text) -> Result<(), NoMemory> {
+    came.push_slice(word)?;
+    write_day(day, came)
 }
 
 fn push_measured(at: Second, gage: Micro, grade: Grade, came: &mut Text) -> Result<(), NoMemory> {

@@ -2,7 +2,7 @@
 
 use crate::escapes::{push_counted, push_shown};
 use crate::memory::bytes_of;
-use crate::orders::{push_import, push_notes};
+use crate::orders::{push_daily, push_import, push_notes, push_water};
 use command_words::{Command, WordsFault, read_words};
 use fixed_units::{NoMemory, Text};
 use std::alloc::Global;
@@ -63,6 +63,8 @@ fn push_command(command: &Command<'_>, came: &mut Text) -> Result<(), NoMemory> 
         Command::Stations(name) => push_named(b"stations ", name, came),
         Command::Trial(number) => push_counted(b"trial ", u64::from(number), came),
         Command::Import(ref order) => push_import(order, came),
+        Command::Daily(ref order) => push_daily(order, came),
+        Command::Water(ref order) => push_water(order, came),
         Command::Notes(ref order) => push_notes(order, came),
     }
 }

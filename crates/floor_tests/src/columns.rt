@@ -193,9 +193,10 @@ fn values_of_no_size(rt: HostRuntime) {
     assert!(rt; went);
 }
 
-/// Whether there is no room for so many values more, in any of some numbers.
+/// Whether there is no room for so many values more, in any of some numbers: the last is refused by the allocator, since its bytes are more
+/// than a process has addresses, and the others without asking it.
 fn is_refused<T: Copy>(column: &mut Column<T>) -> bool {
-    for count in [usize::MAX, usize::MAX / 2, usize::MAX / 8, 1 << 61] {
+    for count in [usize::MAX, usize::MAX / 2, usize::MAX / 8, 1 << 61, 1 << 45] {
         if column.reserve(count).is_ok() {
             return false;
         }
@@ -215,4 +216,21 @@ fn no_block_is_as_large(rt: HostRuntime) {
     let mut column = Column::<u32>::new(rt.alloc());
     let refused = fill(&mut column) && is_refused(&mut column) && is(&column, &[1, 2, 4]);
     assert!(rt; refused);
+}
+
+/// Behind growths that were refused the room that was left is used, and the list goes on.
+fn goes_on(column: &mut Column<u32>) -> bool {
+    fill(column)
+        && column.reserve(1).is_ok()
+        && is_refused(column)
+        && put_between(column)
+        && lends_parts(column)
+        && remove(column, 0) == Some(1)
+        && is(column, &[2, 3, 4])
+}
+
+#[test]
+fn a_column_goes_on_behind_a_refusal(rt: HostRuntime) {
+    let mut column = Column::<u32>::new(rt.alloc());
+    assert!(rt; goes_on(&mut column));
 }

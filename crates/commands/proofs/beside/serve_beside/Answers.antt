@@ -18,4 +18,4 @@ returns-clause-over g c =
     (ends_told (source_told g.S.Source served.new.input) (sink_told g.K.Sink served.new.output)) served.result.1)
     office.register office.disk served.result.0.disk served.result.0.register.history
     (shelf g.C.Cabinet c.args.cabinet.now) (shelf g.C.Cabinet c.open_office.new.cabinet) (shelf g.C.Cabinet c.close_office.new.cabinet)
-    c.in_ok-office.ensures.opened served.ensures.counted served.ensures.served c.close_office.ensures
+    c.in_ok-office.ensures.opened served.ensures.counted served.ensures.passed served.ensures.served c.close_office.ensures

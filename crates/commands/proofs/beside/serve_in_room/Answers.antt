@@ -1,7 +1,10 @@
+use Rattle.std.proofs.Common.{List, subst}
 use Rattle.commands.proofs.BesideLemmas.{added, beside_begins, beside_tally, is_beside}
 use Rattle.commands.proofs.beside.serve_in_room.Goals as goal
 use Rattle.commands.specs.Beside.{ends_told}
 use Rattle.commands.specs.Worlds.{sink_told, source_told}
+use Rattle.serving.specs.Crews.{AreJoined}
+use Rattle.shared_office.specs.declared.entries.Entry.{Entry}
 
 pub returns-clause-begins : goal.returns-clause-begins
 returns-clause-begins g c =
@@ -9,7 +12,9 @@ returns-clause-begins g c =
     (ends_told (source_told g.S.Source c.args.input.now) (sink_told g.K.Sink c.args.output.now))
     (ends_told (source_told g.S.Source c.session-pass.new.source) (sink_told g.K.Sink c.session-pass.new.sink)) c.session-pass.result.1
     c.end-pass.ensures.held.0 c.args.workers c.start_workers-pass.ensures.same.0 c.start_workers-pass.ensures.same.1
-    c.session-pass.ensures.served c.end-pass.ensures.held.1 c.finish_workers.ensures.joined
+    c.session-pass.ensures.served c.end-pass.ensures.held.1
+    (subst (λ (l : List Entry). AreJoined c.args.lock.now l c.end-pass.result c.finish_workers.result c.args.workers) c.start_workers-pass.ensures.begun
+    c.finish_workers.ensures.joined)
 
 pub returns-clause-beside : goal.returns-clause-beside
 returns-clause-beside g c =
@@ -25,7 +30,7 @@ returns-clause-beside g c =
     let held = c.end-pass.ensures.held in
     let same = c.start_workers-pass.ensures.same in
     let session = c.session-pass.ensures.served in
-    let joined = c.finish_workers.ensures.joined in (
+    let joined = subst (λ (l : List Entry). AreJoined lock l ended back c.args.workers) c.start_workers-pass.ensures.begun c.finish_workers.ensures.joined in (
       added lock given started served ended back came went end held.0 c.args.workers same.0 same.1 session held.1 joined,
       beside_tally lock given started served ended back came went end held.0 c.args.workers same.0 same.1 session held.1 joined,
       is_beside lock given started served ended back came went end held.0 c.args.workers same.0 same.1 session held.1 joined,

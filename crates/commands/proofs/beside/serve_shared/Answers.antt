@@ -3,8 +3,10 @@ use Rattle.commands.proofs.BesideLemmas.{served_beside, unbegun_beside}
 use Rattle.commands.proofs.beside.serve_shared.Goals as goal
 use Rattle.commands.specs.Beside.{ends_told}
 use Rattle.commands.specs.Worlds.{sink_told, source_told}
+use Rattle.office.specs.Offices.{Officed}
+use Rattle.shared_office.specs.Passages.{Passes}
 use Rattle.shared_office.specs.Entries.{history_of}
-use Rattle.shared_office.specs.Passing.{Lock, fixed_in, listed}
+use Rattle.shared_office.specs.Passing.{Lock, begun_in, fixed_in, listed}
 use Rattle.turnstile.specs.Passes.{first_value, seen, tally}
 use Rattle.turnstile.specs.Places.{IsEachOnce}
 
@@ -25,3 +27,9 @@ returns-clause-served g c =
     (c.take_back.ensures.history ∙ ap (λ (t : Lock g.row.D.Denot g.D.Disk). history_of (fixed_in t) (seen back)) c.deref.ensures)
     (subst (λ (t : Lock g.row.D.Denot g.D.Disk). IsEachOnce (length (listed (first_value t))) (length (seen back)) (tally back)) c.deref.ensures
     c.take_back.ensures.once)
+
+pub returns-clause-passed : goal.returns-clause-passed
+returns-clause-passed g c =
+    let last = c.take_back.result in
+    subst (λ (o : Officed g.row.D.Denot). ∥ Passes g.D.Disk o.register.history last.register.history o.disk last.disk ∥₁)
+    (ap (λ (t : Lock g.row.D.Denot g.D.Disk). begun_in t) c.deref.ensures ∙ c.in-Ok.ensures.begun) c.take_back.ensures.passed

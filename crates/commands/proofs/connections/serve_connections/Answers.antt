@@ -17,4 +17,4 @@ returns-clause-over g c =
     (ServesBetween g.C.Disk.Disk c.args.options.workers c.args.options.connections (doorway g.L.Doors c.args.doors.now) (doorway g.L.Doors served.new.doors) served.result.1)
     office.register office.disk served.result.0.disk served.result.0.register.history
     (shelf g.C.Cabinet c.args.cabinet.now) (shelf g.C.Cabinet c.open_office.new.cabinet) (shelf g.C.Cabinet c.close_office.new.cabinet)
-    c.in_ok-office.ensures.opened served.ensures.counted served.ensures.served c.close_office.ensures
+    c.in_ok-office.ensures.opened served.ensures.counted served.ensures.passed served.ensures.served c.close_office.ensures

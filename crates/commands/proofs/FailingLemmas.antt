@@ -1,0 +1,75 @@
+-- No more replies of a run tell that the journal failed than faults have joined its history.
+use Rattle.std.proofs.Common.{◌≡◌, ℕ, ◌+◌, ◌-◌, ◌^◌, ◌≤◌, min, List, [], ◌∷◌, ◌++◌, length, sym, ◌∙◌, ap, subst, arith}
+use Rattle.std.specs.List.{concat}
+use Rattle.std.proofs.lemmas.List.{length-map}
+use mathlib.Core.List.{IsPrefix}
+use Rattle.desk.proofs.SharedFaultLemmas.{few_replies}
+use Rattle.desk.specs.declared.sessions.SessionEnd.{SessionEnd}
+use Rattle.devices.specs.Doors.{Connections, Ends}
+use Rattle.devices.specs.declared.disks.Disk.{Ghosts}
+use Rattle.history.specs.Events.{History}
+use Rattle.office.specs.Counting.{fault_count}
+use Rattle.records.specs.Sheets.{Record}
+use Rattle.serving.proofs.BesideLemmas.{connections_at}
+use Rattle.serving.proofs.CrewLemmas.{follow_out}
+use Rattle.serving.proofs.DrainLemmas.{none_behind_all}
+use Rattle.serving.proofs.EventLemmas.{open_before}
+use Rattle.serving.proofs.FailingLemmas.{few_fail, front_begins}
+use Rattle.serving.proofs.WorkedLemmas.{IsAny}
+use Rattle.serving.specs.Failing.{failed_in, failed_replies}
+use Rattle.shared_office.specs.Entries.{before_ending, events_in}
+use Rattle.shared_office.specs.Holdings.{Follow}
+use Rattle.shared_office.specs.Passing.{fixed_in}
+use Rattle.shared_office.specs.declared.entries.Entry.{Entry}
+use Rattle.shared_office.specs.declared.entries.Entry.TheVariants.{Happened}
+use Rattle.turnstile.proofs.ListLemmas.{times-append}
+use Rattle.turnstile.specs.Places.{places, times}
+use Rattle.commands.proofs.SharingLemmas.{not_ended, same_history}
+use Rattle.commands.specs.Beside.{WorksBeside}
+use Rattle.commands.specs.Opening.{LeadsTo}
+use Rattle.commands.specs.Serving.{AreServedBeside, failed_beside}
+use Rattle.commands.specs.Sharing.{begun}
+
+-- the faults of a history are those of its list
+faults_begun : (h : History) → fault_count (events_in (begun h)) ≡ fault_count h.events
+faults_begun h = ap (λ (k : History). fault_count k.events) (same_history h)
+
+-- of `serve`
+pub serve_fails : {D : Type 0} (g : Ghosts D) (workers : ℕ) (told : Connections) (h last : History) (served : AreServedBeside g workers told h last)
+    → fault_count h.events + failed_beside served ≤ fault_count last.events
+serve_fails g workers told h last a =
+    let b = a.beside in
+    let list : List Entry = a.list in
+    let front : List Entry = before_ending list in
+    let rest : List Entry = before_ending b.grows.0 in
+    let whole : begun h ++ rest ≡ front =
+    sym (ap (λ (l : List Entry). before_ending l) (sym b.grows.1) ∙ open_before (begun h) b.grows.0 (not_ended h.events)) in
+    let few = few_fail (fixed_in a.lock) (begun h) rest list told.back told.given b.connections b.each whole
+    (λ place behind. none_behind_all IsAny front place b.connections behind
+    (connections_at (fixed_in a.lock) (length (begun h)) front told.back 1 told.given b.connections b.each))
+    (λ place.
+    let t = b.tally place in
+    let x = times-append place (concat b.connections) (concat b.workers ++ length front ∷ []) in
+    let o = subst (λ (n : ℕ). times place a.places ≡ times place (places n (length list - n))) (sym (length-map h.events Happened)) (a.each_once place) in
+    omega (arith, t, x, o)) in
+    let first = faults_begun h in
+    let is = ap (λ (k : History). fault_count k.events) a.last_is in
+    omega (arith, few, first, is)
+
+-- of `batch`
+pub batch_fails : {D : Type 0} (g : Ghosts D) (workers : ℕ) (came went : Ends) (end : SessionEnd) (h last : History)
+    (worked : WorksBeside g workers came went end h last) → fault_count h.events + failed_in worked.beside.ends_in ≤ fault_count last.events
+batch_fails g workers came went end h last a =
+    let b = a.beside in
+    let list : List Entry = a.list in
+    let on : IsPrefix b.told_at list = subst (λ (l : List Entry). IsPrefix l list) a.front (front_begins list) in
+    let few = few_replies (fixed_in a.lock) (begun h) b.holdings list b.ends_in.messages b.ends_in.replies
+    (follow_out (begun h) b.holdings b.told_at list b.follow on) b.ends_in.answers in
+    let first = faults_begun h in
+    let is = ap (λ (k : History). fault_count k.events) a.last_is in
+    omega (arith, few, first, is)
+
+-- of which a disk that a run leaves has counted each
+pub disk_counts : {D : Type 0} (g : Ghosts D) (pieces : List Record) (last : History) (found left : D) (failed : ℕ) → LeadsTo g pieces last found left
+    → failed ≤ fault_count last.events → min failed (2 ^ 64 - 1) ≤ g.faults left
+disk_counts g pieces last found left failed leads few = let all = leads.causes in omega (arith, few, all)

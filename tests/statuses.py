@@ -59,12 +59,12 @@ class Place:
         done = subprocess.run(all_words, executable=self.program, preexec_fn=before, timeout=60, **pipes)
         return done.returncode, done.stdout or b"", done.stderr or b""
 
-    def on_journal(self, command, content, data=b"", before=None, **streams):
+    def on_journal(self, command, content, data=b"", before=None, options=(), **streams):
         """Runs a command over a journal of this content, or over none."""
         self.journal.unlink(missing_ok=True)
         if content is not None:
             self.journal.write_bytes(content)
-        return self.run([command, "--journal", str(self.journal)], data, before, **streams)
+        return self.run([command, "--journal", str(self.journal), *options], data, before, **streams)
 
     def content(self):
         return self.journal.read_bytes() if self.journal.exists() else None
@@ -95,6 +95,8 @@ def usage(place):
         ["stations"],
         ["stations", "--number", "1"],
         ["stations", "--journal", name, "--"],
+        ["daily", "--journal", name, "--site", "01646500", "--from", "2024-01-05", "--to", "2024-01-04", "--turns", "0"],
+        ["water", "--journal", name, "--site", "01646500", "--year", "1900", "--turns", "0"],
         ["trial"],
         ["trial", "--number", "1234567890"],
         ["--help"],
@@ -218,6 +220,38 @@ def stations(place):
     got = place.on_journal("stations", EMPTY, two, before=closed(1))
     expect("stations, stream 1 closed", (3, b"", OUTPUT_FAULT), got)
     expect("    what is left: the one whose line was being written", one, place.content())
+
+
+SITE = ("--site", "01646500")
+TABLES = {
+    "daily": (*SITE, "--from", "2024-01-05", "--to", "2024-01-05", "--turns", "9"),
+    "water": (*SITE, "--year", "2024", "--turns", "9"),
+}
+HEAD = b"# daily values\nagency_cd\tsite_no\tdatetime\tdischarge\tdischarge_cd\n5s\t15s\t20d\t14n\t10s\n"
+MONTHS = zip(b"OCT NOV DEC JAN FEB MAR APR MAY JUN JUL AUG SEP YEAR".split(), [31, 30, 31, 31, 29, 31, 30, 31, 30, 31, 31, 30, 366])
+WRITTEN = {
+    "daily": HEAD + b"LOCAL\t01646500\t2024-01-05\t\tP\n",
+    "water": b"WATER YEAR 2024 01646500\n" + b"".join(b"%s DAYS %d MISSING %d\n" % (m, n, n) for m, n in MONTHS) + b"STATE P\n",
+}
+
+
+def tables(place):
+    """Daily values and a water year over real files, with every stream. No input is read, and the journal stays as it is."""
+    for command, options in TABLES.items():
+        for what, content, wanted, before in [
+            ("", STATION, (0, WRITTEN[command], b""), None),
+            (", stream 0 closed", STATION, (0, WRITTEN[command], b""), closed(0)),
+            (" of no station", EMPTY, (0, b"NO STATION\n", b""), None),
+            (", stream 1 closed", STATION, (3, b"", OUTPUT_FAULT), closed(1)),
+            (" on nothing", None, (5, b"", NOT_A_JOURNAL), None),
+            (" on a damaged one", STATION[:-1], (5, b"", b"streamoffice: damaged at %d\n" % (len(STATION) - 1)), None),
+        ]:
+            expect(command + what, wanted, place.on_journal(command, content, b"x", before, options))
+            expect("    what is left", content, place.content())
+        content = journals.journal(range(1, 400_001))
+        got = place.on_journal(command, content, b"", limit_memory, options)
+        expect(f"{command} with little memory", (6, b"", b"streamoffice: out of memory\n"), got)
+        expect("    what is left", content, place.content())
 
 
 # the total of the trial of a number, as an independent program computes it
@@ -346,8 +380,8 @@ def another_run(place):
         first.stdin.write(request(2))
         first.stdin.flush()
         first.stdout.read(len(reply(2)))
-        for command in ["init", "batch", "stations"]:
-            got = place.run([command, "--journal", str(place.journal)], request(2))
+        for command in ["init", "batch", "stations", *TABLES]:
+            got = place.run([command, "--journal", str(place.journal), *TABLES.get(command, ())], request(2))
             expect(f"{command} beside another run", (4, b"", DISK_FAULT), got)
             expect("    what is left", READING, place.content())
         first.stdin.write(request(3))
@@ -390,7 +424,7 @@ def main():
     if len(sys.argv) not in (2, 3):
         raise SystemExit(__doc__)
     program = str(pathlib.Path(sys.argv[1]).resolve())
-    cases = [usage, own_name, ends, served, stations, trial, replies, closed_streams, failing_streams, another_run, little_memory]
+    cases = [usage, own_name, ends, served, stations, tables, trial, replies, closed_streams, failing_streams, another_run, little_memory]
     for case in cases + [long_input] * ("--long" in sys.argv):
         with tempfile.TemporaryDirectory() as folder:
             case(Place(program, folder))

@@ -1,14 +1,16 @@
 #!/usr/bin/env python3
 """Makes each allocation of a run fail in turn, and looks at what is replied and kept.
 
-    python3 tests/want_of_memory.py PROGRAM [--year] [--folder .] [--jobs 4] [--from 1] [--step 47]
+    python3 tests/want_of_memory.py PROGRAM [--row FILE] [--folder .] [--jobs 4] [--from 1] [--step 47]
 
 A whole batch (a station, its rating, the rating's period, three readings in one edit, a review and an approval of three other days
 with their sheets, a day before and after turns, and its sheet) is run once for each allocation that it makes, with that one refused.
 Every request must be answered: by its reply, or one of them by 507; behind a POST that was answered 507 any whole reply will do. Then
 the same batch is sent once more over the journal that was left, with all the memory there is: every edit must be accepted or told to be
-repeated, and the day must be computed. With `--year` the three readings are a logger's year in one body, settled, with a day and the
-table of its days (some minutes).
+repeated, and the last reply must be the one due. With `--row FILE` the batch is the first run of that file of `crates/run_rows/data`, such
+as `whole_run.txt` or `logger_year.txt` (some minutes), and its replies with all the memory there is must be those of the row.
+
+A request whose body finds no memory, since its bytes and no fewer are refused, is answered 507, and the next request as ever.
 
 `init` is run so too: it makes a journal, or ends by a status and leaves nothing that keeps a second `init` from making one. So is
 `stations`: its lines come, one of which may tell of no memory, or a status and no line; run again, it adds what is missing. And
@@ -21,7 +23,6 @@ It needs a C compiler (`cc`) for the few lines that stand before the system's al
 """
 import argparse
 import concurrent.futures
-import datetime
 import os
 import pathlib
 import re
@@ -30,13 +31,17 @@ import subprocess
 import sys
 import tempfile
 
+import play_runs
+
 SHIM = r"""
 #define _GNU_SOURCE
 #include <dlfcn.h>
 #include <errno.h>
 #include <stdio.h>
 #include <stdlib.h>
-static unsigned long asked, refused_at;
+#include <sys/syscall.h>
+#include <unistd.h>
+static unsigned long asked, refused_at, refused_size;
 static int ready;
 static void *(*next_malloc)(size_t);
 static void *(*next_calloc)(size_t, size_t);
@@ -51,6 +56,8 @@ __attribute__((constructor)) static void begin(void) {
     next_aligned = dlsym(RTLD_NEXT, "aligned_alloc");
     const char *text = getenv("REFUSED_ALLOCATION");
     refused_at = text ? strtoul(text, 0, 10) : 0;
+    text = getenv("REFUSED_SIZE");
+    refused_size = text ? strtoul(text, 0, 10) : 0;
     ready = 1;
 }
 __attribute__((destructor)) static void end(void) {
@@ -59,29 +66,35 @@ __attribute__((destructor)) static void end(void) {
     FILE *file = name ? fopen(name, "w") : 0;
     if (file) { fprintf(file, "%lu", asked); fclose(file); }
 }
-static int refused(void) { return ready && ++asked == refused_at; }
+/* The program may end by this, which runs no destructor. */
+void _exit(int status) {
+    end();
+    syscall(SYS_exit_group, status);
+    __builtin_unreachable();
+}
+static int refused(size_t size) { return ready && (++asked == refused_at || (refused_size && size >= refused_size)); }
 static char early[65536];
 static size_t early_used;
 void *malloc(size_t size) {
     if (!next_malloc) { void *p = early + early_used; early_used += (size + 15) & ~15UL; return early_used <= sizeof early ? p : 0; }
-    if (refused()) { errno = ENOMEM; return 0; }
+    if (refused(size)) { errno = ENOMEM; return 0; }
     return next_malloc(size);
 }
 void *calloc(size_t n, size_t size) {
     if (!next_calloc) return malloc(n * size);
-    if (refused()) { errno = ENOMEM; return 0; }
+    if (refused(n * size)) { errno = ENOMEM; return 0; }
     return next_calloc(n, size);
 }
 void *realloc(void *p, size_t size) {
-    if (refused()) { errno = ENOMEM; return 0; }
+    if (refused(size)) { errno = ENOMEM; return 0; }
     return next_realloc(p, size);
 }
 int posix_memalign(void **p, size_t align, size_t size) {
-    if (refused()) return ENOMEM;
+    if (refused(size)) return ENOMEM;
     return next_memalign(p, align, size);
 }
 void *aligned_alloc(size_t align, size_t size) {
-    if (refused()) { errno = ENOMEM; return 0; }
+    if (refused(size)) { errno = ENOMEM; return 0; }
     return next_aligned(align, size);
 }
 static void (*next_free)(void *);
@@ -130,17 +143,23 @@ def whole_batch():
     return station(720) + [edit("PutReadings", "a4", rows), *reviewed, get(day), post("/turns/10"), get(day + "/sheet"), get(day)]
 
 
-def year():
-    first = datetime.datetime(2024, 1, 1, 5)
-    rows = []
-    for number in range(35_136):
-        at = (first + datetime.timedelta(minutes=15 * number)).strftime("%Y-%m-%dT%H:%M:%SZ")
-        rows.append('["%s",%s]' % (at, '"2001.50","erroneous"' if number == 17_500 else '"1.50","ok"'))
-    put = edit("PutReadings", "a4", '"readings":[%s]' % ",".join(rows))
-    last = edit("PutReadings", "a5", '"readings":[["2025-01-01T05:00:00Z","1.50"]]')
-    table = get("/stations/01646500/daily/2024-01-01/2024-12-31")
-    last_day = get("/stations/01646500/days/2024-12-31")
-    return station(60) + [put, post("/settle"), last_day, last, post("/settle"), table]
+def parted(stream):
+    """The requests of a stream."""
+    found, at = [], 0
+    while at < len(stream):
+        end = stream.index(b"\r\n\r\n", at) + 4
+        length = re.search(rb"\r\nContent-Length: (\d+)\r\n", stream[at:end])
+        end += int(length[1]) if length else 0
+        found.append(stream[at:end])
+        at = end
+    return found
+
+
+def row(name):
+    """The requests of the first run of a file of rows, and the replies to them."""
+    rows = play_runs.File(name)
+    run = play_runs.runs_of(rows.rows[0][1])[0]
+    return parted(rows.stream(run, ">")), replies(rows.stream(run, "<"))
 
 
 def replies(output):
@@ -229,6 +248,17 @@ def refused(words, shim, number, given=None):
     return subprocess.run(words, input=given, capture_output=True, env=environment)
 
 
+def refused_body(program, shim, folder):
+    """Sends a body whose bytes are refused, and asks for the counts behind it."""
+    journal = os.path.join(folder, "body")
+    subprocess.run([program, "init", "--journal", journal], check=True)
+    requests = [post("/edits", " " * 4_000_000), get("/status")]
+    ran = run(program, journal, requests, {"LD_PRELOAD": shim, "REFUSED_SIZE": "4000000"})
+    if not is_ended(ran, (0,)) or replies(ran.stdout) != [NO_MEMORY, (200, b'{"edits":0,"pending":0}')]:
+        raise SystemExit("a body without memory: status %d, %r, %r" % (ran.returncode, ran.stdout, ran.stderr))
+    print("a body whose bytes are refused is skipped and answered 507, and the next request as ever")
+
+
 def refused_init(program, shim, folder, number):
     """Makes a journal with one allocation refused, and then with all the memory there is; the status of the first."""
     journal = os.path.join(folder, "made-%d" % number)
@@ -283,7 +313,7 @@ def tell(name, statuses):
 def main():
     words = argparse.ArgumentParser()
     words.add_argument("program")
-    words.add_argument("--year", action="store_true")
+    words.add_argument("--row")
     words.add_argument("--folder", default=".")
     words.add_argument("--jobs", type=int, default=4)
     words.add_argument("--from", dest="first", type=int, default=1)
@@ -293,7 +323,7 @@ def main():
     if not shutil.which("cc"):
         print("there is no C compiler here, so no allocation is refused")
         return 0
-    requests = year() if given.year else whole_batch()
+    requests, asked = row(given.row) if given.row else (whole_batch(), None)
     with tempfile.TemporaryDirectory(dir=given.folder) as folder:
         source, shim, count = (os.path.join(folder, name) for name in ("shim.c", "shim.so", "count"))
         pathlib.Path(source).write_text(SHIM)
@@ -303,8 +333,9 @@ def main():
         ran = run(program, journal, requests, {"LD_PRELOAD": shim, "ALLOCATIONS": count})
         due = replies(ran.stdout)
         allocations = int(pathlib.Path(count).read_text())
-        if ran.returncode != 0 or any(status != 200 for status, _ in due):
+        if ran.returncode != 0 or any(status != 200 for status, _ in due) or asked not in (None, due):
             raise SystemExit("with all the memory there is: status %d, %r" % (ran.returncode, due))
+        refused_body(program, shim, folder)
         table = {}
         with concurrent.futures.ThreadPoolExecutor(given.jobs) as pool:
             calls = [pool.submit(refused_run, program, shim, folder, requests, due, n) for n in range(given.first, allocations + 1)]

@@ -1,7 +1,7 @@
 #!/usr/bin/env python3
 """Tries the wrong bodies that stand outside the gate.
 
-    python3 tests/wrong_bodies.py [CRATE ..] [--keep FOLDER] [--named WORD] [--long]
+    python3 tests/wrong_bodies.py [CRATE ..] [--keep FOLDER] [--named WORD] [--long] [--together]
     python3 tests/wrong_bodies.py --look
 
 Each file `wrong_bodies/CRATE/NAME.edit` makes a body of the crate wrong, in the form of those in `crates/CRATE/must-fail`, and the
@@ -13,7 +13,10 @@ A line a crate, with each edit that was not refused, could not be applied or rea
 name away that a proof cites, which says little of the contract; the last line is `N of M refused`. The status is 1 where one was not.
 
 `--keep FOLDER` works in that folder and leaves it, so that libraries which had to be built are there the next time; `--named WORD` tries
-those alone in whose name the word stands; `--long` says what refused each. `--look` proves nothing: it says at once which of them, and of
+those alone in whose name the word stands; `--long` says what refused each. `--together` checks the edited functions and what they call,
+and nothing else of the crate, with edits of different functions in one check, which takes a small part of the time: the contracts are those
+of before, so one edit says nothing of another function. An edit counts there as refused only by what its own functions lack, not by a
+call of one that another edit makes wrong; one that lies in no function needs the other way. `--look` proves nothing: it says at once which of them, and of
 those in the gate, can no longer be applied, since a line that they name has changed.
 """
 import argparse
@@ -103,12 +106,114 @@ def tried(crate, edits, top, is_long):
     return refused
 
 
+FUNCTION = re.compile(r"(\s*)(?:pub(?:\([a-z]+\))? )?(?:const )?fn (\w+)")
+
+
+def function_at(text, end):
+    """The type, if any, and the name of the function whose text goes over this place, or None."""
+    name = None
+    for line in reversed(text[:end].split("\n")):
+        found = FUNCTION.match(line)
+        if name is None and found:
+            name = found[2]
+            if not found[1]:
+                return [name]
+        elif name is None and line.startswith("}"):
+            return None
+        elif name and line.startswith("impl"):
+            # an impl of a trait has a name of its own: its module stands for it
+            return None if " for " in line else [re.match(r"impl(?:<[^{]*?>)?\s+(\w+)", line)[1], name]
+    return None
+
+
+def functions(crate, edit):
+    """The paths of the functions that an edit changes, or of their modules; nothing where it changes more than functions."""
+    found, texts = set(), {}
+    for line in edit.read_text().splitlines():
+        if line.startswith("file: "):
+            file = line[len("file: ") :].strip()
+            if not file.startswith("src/"):
+                return None
+            texts.setdefault(file, (copies.TOP / "crates" / crate / file).read_text())
+            module = [it for it in file[len("src/") : -len(".rt")].split("/") if it not in ("lib", "mod")]
+        elif line.startswith("old: "):
+            old, text = line[len("old: ") :], texts[file]
+            found.add("::".join(module + (function_at(text, text.index(old) + len(old)) or [])))
+        elif line.startswith("new:"):
+            texts[file] = texts[file].replace(old, line[len("new:") :].removeprefix(" "))
+    return found if all(found) else None
+
+
+def rounds(crate, edits):
+    """The edits in groups, of which each is checked at once: no two of a group change one function."""
+    groups = []
+    for edit in edits:
+        its = functions(crate, edit)
+        if its is None:
+            print(f"{crate}: {edit.stem} changes more than functions, and is not tried together with others", flush=True)
+            continue
+        for group in groups:
+            if not any(one == other or one.startswith(f"{other}::") or other.startswith(f"{one}::") for _, of in group for one in of for other in its):
+                group.append((edit, its))
+                break
+        else:
+            groups.append([(edit, its)])
+    return groups
+
+
+def put(edit, folder):
+    """Makes a crate's bodies in a folder wrong."""
+    for line in edit.read_text().splitlines():
+        if line.startswith("file: "):
+            path = folder / line[len("file: ") :].strip()
+        elif line.startswith("old: "):
+            old = line[len("old: ") :]
+        elif line.startswith("new:"):
+            path.write_text(path.read_text().replace(old, line[len("new:") :].removeprefix(" ")))
+
+
+LOST = re.compile(r"has no field|is not in scope|has no `|was not admitted|that depends on")
+
+
+def lacks(path, said):
+    """What a function, or one of a module, lacks by itself, and whether that is more than names which are gone; nothing where it is proved."""
+    goals = [found[1] for found in re.finditer(rf"(?m)^fn \w+::{re.escape(path)}(?:::\S+)?: (?:no proof|not proved).*?(`search` did not prove [^;]*)", said)]
+    errors = re.findall(rf"(?m)^(?:\./)?(?:proofs/{re.escape(path.replace('::', '/'))}/\S+: error: .*)$", said)
+    return [*goals, *errors], bool(goals) or any(not LOST.search(it) for it in errors)
+
+
+def tried_together(crate, edits, top, is_long):
+    """Tries edits of a crate in the copy by checks of their functions alone, and returns how many were refused."""
+    begun, refused, lines = time.time(), 0, []
+    for group in rounds(crate, edits):
+        shutil.rmtree(top / "crates" / crate / "src")
+        shutil.copytree(copies.TOP / "crates" / crate / "src", top / "crates" / crate / "src")
+        for edit, _ in group:
+            put(edit, top / "crates" / crate)
+        only = [word for its in (its for _, its in group) for path in sorted(its) for word in ("--only", path)]
+        said = copies.ran(["rt", "check", "--jobs", "1", *only], top / "crates" / crate).stdout
+        if not re.search(r"(?m)^only=\d+ proved=\d+", said):
+            lines += [f"  {edit.stem}: NOT TRIED: the check of its group came to no end" for edit, _ in group] + [said[-2000:]]
+            continue
+        for edit, its in group:
+            told = [lacks(path, said) for path in sorted(its)]
+            why = next((reasons[0] for reasons, counts in told if counts), None) or next((reasons[0] for reasons, _ in told if reasons), None)
+            is_refused, is_named = any(counts for _, counts in told), why is not None
+            refused += is_named
+            if not is_refused or is_long:
+                word = "refused" if is_refused else "refused for a lost name alone" if is_named else "NOT REFUSED"
+                lines.append(f"  {edit.stem}: {word}{': ' + why[:300] if why else ''}")
+    print(f"{crate}: {refused} of {len(edits)} refused ({time.time() - begun:.0f} s)", *lines, sep="\n", flush=True)
+    return refused
+
+
 def main():
     words = argparse.ArgumentParser(description=__doc__.splitlines()[0])
     words.add_argument("crates", metavar="CRATE", nargs="*")
     words.add_argument("--keep", metavar="FOLDER", type=pathlib.Path, help="work in this folder, and leave it")
     words.add_argument("--named", metavar="WORD", default="", help="only the edits in whose name the word stands")
     words.add_argument("--long", action="store_true", help="say what refused each")
+    words.add_argument("--together", action="store_true", help="check the edited functions alone, several edits at once")
     words.add_argument("--look", action="store_true", help="prove nothing: say which can't be applied")
     given = words.parse_args()
     stand = {it.name: sorted(it.glob("*.edit")) for it in EDITS.iterdir() if it.is_dir()}
@@ -123,7 +228,7 @@ def main():
         top = given.keep.resolve() if given.keep else pathlib.Path(folder)
         copies.copied(top)
         for crate in copies.lowest_first(it for it in chosen if chosen[it]):
-            refused += tried(crate, chosen[crate], top, given.long)
+            refused += (tried_together if given.together else tried)(crate, chosen[crate], top, given.long)
     print(f"{refused} of {number} refused")
     return 0 if refused == number else 1
 

@@ -1,9 +1,10 @@
 -- What a stop in a course of steps leaves is opened by one step more.
-use Rattle.std.specs.Prelude.{◌≡◌, ◌⊎◌, ℕ, ◌≤◌, List, [], ◌∷◌, ◌++◌, length, map, All, Option, Some, None}
+use Rattle.std.specs.Prelude.{◌≡◌, ◌⊎◌, ℕ, ◌≤◌, List, [], ◌∷◌, ◌++◌, length, map, All, Option, Some}
 use Rattle.std.proofs.Common.{refl, ap, sym, subst, ◌∙◌, inl, inr, append-nil, append_assoc}
 use Rattle.std.proofs.lemmas.List.{append_cancel_left}
 use Rattle.std.proofs.lemmas.List.Elements.{All-head, All-tail}
 use Rattle.desk.proofs.CourseLemmas.{at_history}
+use Rattle.desk.specs.Courses.{cut_before}
 use Rattle.shared_office.proofs.PassageLemmas.{go_on_none}
 use Rattle.edits.specs.declared.content.Edit.{Edit}
 use Rattle.history.specs.Accepted.{accepted}
@@ -91,17 +92,28 @@ left_there h since behind image e left =
     subst (λ (x : History). IsLeft x image) (ap (go_on h) both.0 ∙ go_on_none h)
     (subst (λ (l : List Event). IsLeftBefore (go_on h since) l image) both.1 left)
 
--- a stop behind some of the steps, and the opening behind it
-record Stopped (old : Registered) (register : Registered) : Type 0 where
-  steps : List Step
-  over : GoesOver old steps register
+-- a stop behind some of the steps and before the others, inside the first of these where it has a call to cut off, and the opening behind it
+pub record Stopped (old : Registered) (steps : List Step) (register : Registered) : Type 0 where
+  pub before : List Step
+  pub behind : List Step
+  pub found : Option Record
+  pub parts : steps ≡ before ++ behind
+  pub over : GoesOver old (before ++ AStop (cut_before behind) found ∷ []) register
 
-stopped_behind : (old : Registered) (step : Step) (next register : Registered) → IsStep old step next → Stopped next register → Stopped old register
-stopped_behind old step next register is rest = record { steps = step ∷ rest.steps; over = (next, is, rest.over) }
+stopped_behind : (old : Registered) (step : Step) (steps : List Step) (next register : Registered) → IsStep old step next
+    → Stopped next steps register → Stopped old (step ∷ steps) register
+stopped_behind old step steps next register is rest = record {
+  before = step ∷ rest.before;
+  behind = rest.behind;
+  found = rest.found;
+  parts = ap (λ (l : List Step). step ∷ l) rest.parts;
+  over = (next, is, rest.over);
+}
 
-stopped_now : (old : Registered) (cut : Option Edit) (register : Registered) → (found : Option Record) × IsStep old (AStop cut found) register
-    → Stopped old register
-stopped_now old cut register is = record { steps = AStop cut is.0 ∷ []; over = (register, is.1, refl) }
+stopped_now : (old : Registered) (steps : List Step) (register : Registered)
+    → (found : Option Record) × IsStep old (AStop (cut_before steps) found) register → Stopped old steps register
+stopped_now old steps register is =
+    record { before = []; behind = steps; found = is.0; parts = refl; over = (register, is.1, refl) }
 
 went_on : (h : History) (since behind : List Event) → go_on h (since ++ behind) ≡ go_on (go_on h since) behind
 went_on h since behind =
@@ -109,13 +121,13 @@ went_on h since behind =
 
 module _ (register : Registered) (image : List ℕ) where
   stopped_first : (old new : Registered) → GoesOver old [] new → IsLeftBetween old.history new.history image
-      → IsOpened (Some image) old.history.limits register → Stopped old register
+      → IsOpened (Some image) old.history.limits register → Stopped old [] register
   stopped_first old new over left opened =
       let whole : old.history.events ++ [] ≡ old.history.events ++ (left.since ++ left.behind) =
       append-nil old.history.events ∙ sym (ap (λ (r : Registered). r.history.events) over) ∙ left.after_is
       ∙ append_assoc old.history.events left.since left.behind in
       let none : [] ≡ left.since ++ left.behind = append_cancel_left old.history.events [] (left.since ++ left.behind) whole in
-      stopped_now old None register (stopped_between old register image (left_there old.history left.since left.behind image none left.left) opened)
+      stopped_now old [] register (stopped_between old register image (left_there old.history left.since left.behind image none left.left) opened)
 
   -- the steps of a course, and how the history goes on by the first and by the others
   module _ (old next new : Registered) (step : Step) (own : GoesOn old.history next.history) (more : GoesOn next.history new.history)
@@ -151,7 +163,7 @@ module _ (register : Registered) (image : List ℕ) where
     }
 
   stopped : (old : Registered) (steps : List Step) (new : Registered) → All IsCall steps → GoesOver old steps new
-      → IsLeftBetween old.history new.history image → IsOpened (Some image) old.history.limits register → Stopped old register
+      → IsLeftBetween old.history new.history image → IsOpened (Some image) old.history.limits register → Stopped old steps register
   stopped old [] new calls over left opened = stopped_first old new over left opened
   stopped old (step ∷ steps) new calls over left opened =
       let next = over.0 in
@@ -160,10 +172,10 @@ module _ (register : Registered) (image : List ℕ) where
       let more = steps_go_on next steps new (All-tail IsCall step steps calls) over.2 in
       elim (two_parts own.events more.events left.since left.behind (all_events old next new step own more left)) [
         | inl before ↦
-            stopped_now old (cut_off step) register
+            stopped_now old (step ∷ steps) register
             (stopped_inside old step next register image call over.1 (within old next new step own more left before) opened)
         | inr later ↦
-            stopped_behind old step next register over.1
+            stopped_behind old step steps next register over.1
             (stopped next steps new (All-tail IsCall step steps calls) over.2 (further old next new step own more left later)
             (subst (λ (l : Limits). IsOpened (Some image) l register) (sym (ap (λ (h : History). h.limits) own.is)) opened))
       ]
@@ -178,20 +190,28 @@ left_opens h after image pieces legal same left journal =
     let are = one_list pieces (accepted (h.events ++ left.since) ++ o.more) image journal o.found in
     (subst (λ (l : List Record). IsLegal (reopen h.limits l)) (sym are) o.legal, (o.more, o.few, are))
 
--- the steps that lead to the office that is opened on it
-pub stop_in_course : (old : Registered) (steps : List Step) (new : Registered) (image : List ℕ) (pieces : List Record) → NoneOut old
-    → IsLegal old.history → All IsCall steps → GoesOver old steps new → IsLeftBetween old.history new.history image → IsJournalOf pieces image
-    → (all : List Step) × GoesOver old all (at_history old (reopen old.history.limits pieces)) × IsLegal (reopen old.history.limits pieces)
-stop_in_course old steps new image pieces none legal calls over left journal =
+-- Behind some of the steps a stop leads to the office that is opened on it, and the records that it is opened on are few more than those
+-- up to that point.
+pub record StopIn (old : Registered) (steps : List Step) (since : List Event) (pieces : List Record) : Type 0 where
+  pub at : Stopped old steps (at_history old (reopen old.history.limits pieces))
+  pub legal : IsLegal (reopen old.history.limits pieces)
+  pub few : (more : List Record) × (length more ≤ 1) × (pieces ≡ accepted (old.history.events ++ since) ++ more)
+
+pub stop_inside : (old : Registered) (steps : List Step) (new : Registered) (image : List ℕ) (pieces : List Record) → NoneOut old
+    → IsLegal old.history → All IsCall steps → GoesOver old steps new → (left : IsLeftBetween old.history new.history image)
+    → IsJournalOf pieces image → StopIn old steps left.since pieces
+stop_inside old steps new image pieces none legal calls over left journal =
     let limits = ap (λ (h : History). h.limits) (steps_go_on old steps new calls over).is in
     let opens = left_opens old.history new.history image pieces (legal_steps old steps new over legal) limits left journal in
     let register = at_history old (reopen old.history.limits pieces) in
     let opened : IsOpened (Some image) old.history.limits register =
     record { pieces = pieces; found = journal; reopened = refl; legal = opens.0; claims = none } in
-    let s = stopped register image old steps new calls over left opened in
-    (s.steps, s.over, opens.0)
+    record { at = stopped register image old steps new calls over left opened; legal = opens.0; few = opens.1 }
 
--- and the records that it is opened on
-pub few_more : (h after : History) (image : List ℕ) (pieces : List Record) → IsLegal after → after.limits ≡ h.limits → (left : IsLeftBetween h after image)
-    → IsJournalOf pieces image → (more : List Record) × (length more ≤ 1) × (pieces ≡ accepted (h.events ++ left.since) ++ more)
-few_more h after image pieces legal same left journal = (left_opens h after image pieces legal same left journal).1
+-- the steps that lead to it
+pub stop_in_course : (old : Registered) (steps : List Step) (new : Registered) (image : List ℕ) (pieces : List Record) → NoneOut old
+    → IsLegal old.history → All IsCall steps → GoesOver old steps new → IsLeftBetween old.history new.history image → IsJournalOf pieces image
+    → (all : List Step) × GoesOver old all (at_history old (reopen old.history.limits pieces)) × IsLegal (reopen old.history.limits pieces)
+stop_in_course old steps new image pieces none legal calls over left journal =
+    let s = stop_inside old steps new image pieces none legal calls over left journal in
+    (s.at.before ++ AStop (cut_before s.at.behind) s.at.found ∷ [], s.at.over, s.legal)

@@ -1,9 +1,10 @@
 -- What is told of a day in a course of steps is true.
-use Rattle.std.specs.Prelude.{◌≡◌, ◌⊎◌, ℕ, ◌+◌, List, [], ◌∷◌, ◌++◌, length, map, Result, ℤ}
-use Rattle.std.proofs.Common.{refl, ap, subst, ◌∙◌, inl, inr, arith, append-nil}
+use Rattle.std.specs.Prelude.{◌≡◌, ◌⊎◌, ℕ, ◌+◌, List, [], ◌∷◌, ◌++◌, length, Result, Ok, Err, ℤ}
+use Rattle.std.proofs.Common.{refl, ap, sym, subst, ◌∙◌, inl, inr, arith, append-nil, append_assoc}
 use Rattle.depend.specs.Compared.{days_within}
-use Rattle.desk.proofs.CourseLemmas.{Taken, coming, taken_by}
-use Rattle.desk.specs.Courses.{AnswersInSteps, AreTrueOf, Asks, Coming, IsCourse, IsTrueOf, TellsDay, TellsDays}
+use Rattle.desk.proofs.CourseLemmas.{coming, course_over}
+use Rattle.desk.specs.Courses.{AnswersInSteps, AreTrueOf, Asks, Coming, IsCourse, IsTrueOf, TellsDay, TellsDays, status_of, table_told}
+use Rattle.desk.specs.Replies.{IsAnswered, day_reply}
 use Rattle.desk.specs.Replying.{AreReplies, IsAnsweredBy, IsReplied, memory_reply}
 use Rattle.edits.specs.declared.content.Edit.{Edit}
 use Rattle.fixed_units.specs.Quantities.{SiteNumber}
@@ -11,7 +12,7 @@ use Rattle.history.specs.Accepted.{edits_of}
 use Rattle.history.specs.Awaited.{Computed, DayAnswer, NoStation, Pending, answer_at}
 use Rattle.history.specs.Events.{History}
 use Rattle.http_api.proofs.AskLemmas.{are_told}
-use Rattle.http_api.specs.Asks.{Question}
+use Rattle.http_api.specs.Asks.{Question, ask_of}
 use Rattle.http_api.specs.declared.asks.Ask.{Ask}
 use Rattle.http_api.specs.declared.asks.Ask.TheVariants as asks
 use Rattle.http_api.specs.declared.asks.Denied.{Denied}
@@ -34,14 +35,11 @@ answer_is_true office site day told edits are is =
     subst (λ (l : List Edit). IsTrueOf l site day told) (append-nil (edits_of office.history.events) ∙ are)
     (by_answer office site day told (office, (is, record { history = refl; claims = λ s d. refl }), refl))
 
-answers_are_true : (site : SiteNumber) (told : ℤ → DayAnswer) (edits : List Edit) (days : List ℤ) (office new : Registered)
-    → edits_of office.history.events ≡ edits → GoesOver office (map (λ day. AnAnswer site day (told day)) days) new
-    → AreTrueOf edits site days told
-answers_are_true site told edits [] office new are g = tt
-answers_are_true site told edits (d ∷ days) office new are g = (
-  answer_is_true office site d (told d) edits are g.1.0,
-  answers_are_true site told edits days g.0 new (ap (λ (h : History). edits_of h.events) g.1.1.history ∙ are) g.2,
-)
+answers_are_true : (office : Registered) (site : SiteNumber) (edits : List Edit) → edits_of office.history.events ≡ edits → (days : List ℤ)
+    → AreTrueOf edits site days (answer_at office.history.events site)
+answers_are_true office site edits are [] = tt
+answers_are_true office site edits are (d ∷ days) =
+    (answer_is_true office site d (answer_at office.history.events site d) edits are refl, answers_are_true office site edits are days)
 
 -- A message among others, and its reply among theirs.
 record Parted (x : Coming) (before : List Message) (told : List (List ℕ)) (message : Message) (reply : List ℕ) : Type 0 where
@@ -75,56 +73,142 @@ asked_by at next (messages.Malformed place) ask reply its is = absurd its
 asked_by at next messages.Long ask reply its is = absurd its
 asked_by at next messages.Failed ask reply its is = absurd its
 
-day_told : (at next : Coming) (site : SiteNumber) (day : ℤ) (reply : List ℕ) (edits : List Edit) → edits_of at.office.history.events ≡ edits
-    → AnswersInSteps at (asks.DayOf site day) reply next → TellsDay edits site day reply
-day_told at next site day reply edits are is = elim is.told [
-  | inl told ↦
-      let g = subst (λ (l : List Step). GoesOver at.office l next.office) told.2 is.over in
-      inl (told.0, told.1, told.3, answer_is_true at.office site day told.1 edits are g.1.0)
-  | inr none ↦ inr none.1
-]
+-- what is told of a day by whatever the office has answered for it
+day_told : (at : Registered) (site : SiteNumber) (day : ℤ) (reply : List ℕ) (edits : List Edit) (next : History) → edits_of at.history.events ≡ edits
+    → IsAnswered at.history (asks.DayOf site day) reply next → TellsDay edits site day reply
+day_told at site day reply edits next are (inl due) =
+    let told = answer_at at.history.events site day in
+    inl (
+      told,
+      subst (λ (l : List Edit). reply ≡ day_reply (status_of l site day) told) are due.0,
+      answer_is_true at site day told edits are refl,
+    )
+day_told at site day reply edits next are (inr (inl fails)) = absurd fails
+day_told at site day reply edits next are (inr (inr left)) = inr left.0
 
-days_told : (at next : Coming) (site : SiteNumber) (from to : ℤ) (reply : List ℕ) (edits : List Edit) → edits_of at.office.history.events ≡ edits
-    → AnswersInSteps at (asks.Daily site from to) reply next → TellsDays edits site from to reply
-days_told at next site from to reply edits are is = elim is.told [
-  | inl told ↦
-      let g = subst (λ (l : List Step). GoesOver at.office l next.office) told.3 is.over in
-      inl (told.0, told.1, told.2, told.4, answers_are_true site told.2 edits (days_within from to) at.office next.office are g)
-  | inr none ↦ inr none.1
-]
+days_told : (at : Registered) (site : SiteNumber) (from to : ℤ) (reply : List ℕ) (edits : List Edit) (next : History)
+    → edits_of at.history.events ≡ edits → IsAnswered at.history (asks.Daily site from to) reply next → TellsDays edits site from to reply
+days_told at site from to reply edits next are (inl due) =
+    let told = answer_at at.history.events site in
+    inl (
+      told,
+      subst (λ (l : List Edit). reply ≡ table_told l site from to told) are due.0,
+      answers_are_true at site edits are (days_within from to),
+    )
+days_told at site from to reply edits next are (inr (inl fails)) = absurd fails
+days_told at site from to reply edits next are (inr (inr left)) = inr left.0
 
--- the steps before a message of a course, and what its reply tells of the edits that were accepted so far
+-- A course up to a message: the messages before it are replied to in the steps that are taken before it, whatever comes behind them.
+record Begun (x y : Coming) (ms : List Message) (rs : List (List ℕ)) : Type 0 where
+  mine : List Step
+  splits : x.steps ≡ mine ++ y.steps
+  course : IsCourse x.office mine ms rs y.office
+
+record Replied (x y : Coming) (m : Message) (r : List ℕ) : Type 0 where
+  mine : List Step
+  splits : x.steps ≡ mine ++ y.steps
+  is : (rest : List Step) → IsReplied AnswersInSteps (coming x.office (mine ++ rest)) m r (coming y.office rest)
+
+-- nothing is taken where nothing was asked
+still : (x y : Coming) → y ≡ x → (rest : List Step) → coming y.office rest ≡ coming x.office rest
+still x y same rest = ap (λ (c : Coming). coming c.office rest) same
+
+none_taken : (x y : Coming) → y ≡ x → x.steps ≡ [] ++ y.steps
+none_taken x y same = ap (λ (c : Coming). c.steps) (sym same)
+
+answered_before : (x y : Coming) (a : Result Question Denied) (r : List ℕ) → IsAnsweredBy AnswersInSteps x a r y
+    → (mine : List Step) × (x.steps ≡ mine ++ y.steps)
+    × ((rest : List Step) → IsAnsweredBy AnswersInSteps (coming x.office (mine ++ rest)) a r (coming y.office rest))
+answered_before x y (Ok question) r is =
+    let own = is.2 in (
+      own.mine,
+      own.splits,
+      λ rest. (
+        is.0,
+        is.1,
+        record { mine = own.mine; splits = refl; over = own.over; calls = own.calls; answered = own.answered; told = own.told },
+      ),
+    )
+answered_before x y (Err denied) r is = ([], none_taken x y is.1, λ rest. (is.0, still x y is.1 rest))
+
+replied_before : (x y : Coming) (m : Message) (r : List ℕ) → IsReplied AnswersInSteps x m r y → Replied x y m r
+replied_before x y (messages.Request verb target body) r (inl is) =
+    let a = answered_before x y (ask_of verb target body) r is in record { mine = a.0; splits = a.1; is = λ rest. inl (a.2 rest) }
+replied_before x y (messages.Request verb target body) r (inr left) =
+    record { mine = []; splits = none_taken x y left.1; is = λ rest. inr (left.0, still x y left.1 rest) }
+replied_before x y messages.NoLength r is =
+    record { mine = []; splits = none_taken x y is.1; is = λ rest. (is.0, still x y is.1 rest) }
+replied_before x y messages.TooLarge r is =
+    record { mine = []; splits = none_taken x y is.1; is = λ rest. (is.0, still x y is.1 rest) }
+replied_before x y messages.NoMemory r is =
+    record { mine = []; splits = none_taken x y is.1; is = λ rest. (is.0, still x y is.1 rest) }
+replied_before x y messages.End r is = absurd is
+replied_before x y (messages.Malformed at) r is = absurd is
+replied_before x y messages.Long r is = absurd is
+replied_before x y messages.Failed r is = absurd is
+
+begun : (x y : Coming) (ms : List Message) (rs : List (List ℕ)) → AreReplies AnswersInSteps x ms rs y → Begun x y ms rs
+begun x y [] [] is = record { mine = []; splits = none_taken x y is; course = still x y is [] }
+begun x y [] (r ∷ rs) is = absurd is
+begun x y (m ∷ ms) [] is = absurd is
+begun x y (m ∷ ms) (r ∷ rs) is =
+    let first = replied_before x is.0 m r is.1 in
+    let more = begun is.0 y ms rs is.2 in
+    record {
+      mine = first.mine ++ more.mine;
+      splits =
+          first.splits ∙ ap (λ (l : List Step). first.mine ++ l) more.splits ∙ sym (append_assoc first.mine more.mine y.steps);
+      course = (coming is.0.office more.mine, first.is more.mine, more.course);
+    }
+
+-- the steps before a message of a course, in which the messages before it are replied to, and what its reply tells of the edits that were
+-- accepted so far
 module _ (old new : Registered) (steps : List Step) (before behind : List Message) (message : Message) (told more : List (List ℕ)) (reply : List ℕ)
     (same : length told ≡ length before) (course : IsCourse old steps (before ++ message ∷ behind) (told ++ reply ∷ more) new) where
-  taken : (p : Parted (coming old steps) before told message reply) → Taken (coming old steps) p.at
-  taken p = taken_by (coming old steps) p.at before told p.first
+  there : Parted (coming old steps) before told message reply
+  there = parted (coming old steps) (coming new []) before behind message told more reply same course
+
+  so_far : (p : Parted (coming old steps) before told message reply) → Begun (coming old steps) p.at before told
+  so_far p = begun (coming old steps) p.at before told p.first
+
+  edits_so_far : (p : Parted (coming old steps) before told message reply) (b : Begun (coming old steps) p.at before told)
+      → edits_of p.at.office.history.events ≡ edits_of old.history.events ++ added b.mine
+  edits_so_far p b = edits_after old b.mine p.at.office (course_over old b.mine before told p.at.office b.course).0
 
   pub day_is_true : (site : SiteNumber) (day : ℤ) → Asks message (asks.DayOf site day)
-      → (first rest : List Step) × (steps ≡ first ++ rest) × TellsDay (edits_of old.history.events ++ added first) site day reply
+      → (mid : Registered) × (first rest : List Step) × (steps ≡ first ++ rest) × IsCourse old first before told mid
+      × TellsDay (edits_of old.history.events ++ added first) site day reply
   day_is_true site day its =
-      let p = parted (coming old steps) (coming new []) before behind message told more reply same course in
-      let t = taken p in
-      let are = edits_after old t.mine p.at.office t.over in (
-        t.mine,
+      let p = there in
+      let b = so_far p in (
+        p.at.office,
+        b.mine,
         p.at.steps,
-        t.splits,
+        b.splits,
+        b.course,
         elim (asked_by p.at p.next message (asks.DayOf site day) reply its p.here) [
-          | inl is ↦ day_told p.at p.next site day reply (edits_of old.history.events ++ added t.mine) are is
+          | inl is ↦
+              day_told p.at.office site day reply (edits_of old.history.events ++ added b.mine) p.next.office.history (edits_so_far p b)
+              is.answered
           | inr none ↦ inr none
         ],
       )
 
   pub days_are_true : (site : SiteNumber) (from to : ℤ) → Asks message (asks.Daily site from to)
-      → (first rest : List Step) × (steps ≡ first ++ rest) × TellsDays (edits_of old.history.events ++ added first) site from to reply
+      → (mid : Registered) × (first rest : List Step) × (steps ≡ first ++ rest) × IsCourse old first before told mid
+      × TellsDays (edits_of old.history.events ++ added first) site from to reply
   days_are_true site from to its =
-      let p = parted (coming old steps) (coming new []) before behind message told more reply same course in
-      let t = taken p in
-      let are = edits_after old t.mine p.at.office t.over in (
-        t.mine,
+      let p = there in
+      let b = so_far p in (
+        p.at.office,
+        b.mine,
         p.at.steps,
-        t.splits,
+        b.splits,
+        b.course,
         elim (asked_by p.at p.next message (asks.Daily site from to) reply its p.here) [
-          | inl is ↦ days_told p.at p.next site from to reply (edits_of old.history.events ++ added t.mine) are is
+          | inl is ↦
+              days_told p.at.office site from to reply (edits_of old.history.events ++ added b.mine) p.next.office.history (edits_so_far p b)
+              is.answered
           | inr none ↦ inr none
         ],
       )

@@ -1,5 +1,5 @@
 -- The steps of an office in which messages are replied to.
-use Rattle.std.specs.Prelude.{◌≡◌, ◌⊎◌, ℕ, false, Bool, List, [], ◌∷◌, ◌++◌, map, All, Result, Ok, Err, is_some, ℤ, ⊤}
+use Rattle.std.specs.Prelude.{◌≡◌, ◌⊎◌, ℕ, false, Bool, List, [], ◌∷◌, ◌++◌, map, All, Option, None, Result, Ok, Err, is_some, ℤ, ⊤}
 use Rattle.std.specs.List.{AllByRecursion, flat_map}
 use Rattle.approval.specs.declared.status.Status.{Status}
 use Rattle.daily_values.specs.DayValue.{day_value}
@@ -11,12 +11,13 @@ use Rattle.fixed_units.specs.Quantities.{SiteNumber}
 use Rattle.fixed_units.specs.declared.texts.NoMemory.{NoMemory}
 use Rattle.history.specs.Awaited.{Computed, DayAnswer, NoStation, Pending}
 use Rattle.history.specs.LastChanges.{ChangedLast}
+use Rattle.history.specs.Statuses.{standing_of}
 use Rattle.http_api.specs.Asks.{ask_of, question}
 use Rattle.http_api.specs.Replies.{bytes_of}
 use Rattle.http_api.specs.declared.asks.Ask.{Ask}
 use Rattle.http_api.specs.declared.asks.Ask.TheVariants as asks
 use Rattle.http_api.specs.declared.replies.Reply.TheVariants as replies
-use Rattle.office.specs.Steps.{Step, AnEdit, ATurn, ASettlement, AnAnswer, GoesOver, IsCall}
+use Rattle.office.specs.Steps.{Step, AnEdit, ATurn, ASettlement, AnAnswer, GoesOver, IsCall, cut_off}
 use Rattle.office.specs.declared.offices.Accepted.{Accepted}
 use Rattle.office_inputs.specs.Stations.{inputs_of_day, station_of, stations_of}
 use Rattle.office_inputs.specs.declared.refusals.Refusal.{Refusal}
@@ -46,8 +47,10 @@ abbrev pub IsForgone : List ℕ → List Step → Type 0
 IsForgone reply steps = (steps ≡ []) × (reply ≡ memory_reply)
 
 -- The steps in which an ask is answered, and what the reply tells of them: that to an edit what was answered to it, that for a day what was
--- answered for it, and a daily table what was for each of its days. Turns are turns, a settlement is one, and what else is asked for is read
--- without a step.
+-- answered for it, and a daily table what was for each of its days. Turns are turns and a settlement is one, of which nothing more is told
+-- here: neither how many turns there are nor what was answered to them is tied to the reply, which `IsAnswered` ties to the histories. What
+-- else is asked for, a sheet too, is read without a step. Here the status and whether the station is kept are any: what they are is told by
+-- `IsAnswered`.
 abbrev pub AreStepsOf : Ask → List ℕ → List Step → Type 0
 AreStepsOf (asks.Edit edit) reply steps =
     (told : Result Accepted Refusal) × (steps ≡ AnEdit edit told ∷ []) × (reply ≡ edit_told told)
@@ -99,21 +102,36 @@ IsTrueOf edits site day NoStation = is_some (station_of (stations_of edits) site
 abbrev pub AreTrueOf : List Edit → SiteNumber → List ℤ → (ℤ → DayAnswer) → Type 0
 AreTrueOf edits site days answers = AllByRecursion (λ day. IsTrueOf edits site day (answers day)) days
 
--- what a reply tells of a day, where these edits were accepted so far: an answer that is true, or that there was no memory for it
+-- how far a day is approved by these edits
+abbrev pub status_of : List Edit → SiteNumber → ℤ → Status
+status_of edits site day = (standing_of edits site day).status
+
+-- the reply that is a daily table of these answers, where these edits were accepted so far: that the station is not kept where none of them
+-- added it, and otherwise a row of each day with its status
+abbrev pub table_told : List Edit → SiteNumber → ℤ → ℤ → (ℤ → DayAnswer) → List ℕ
+table_told edits site from to told =
+    table_reply (is_some (station_of (stations_of edits) site))
+    (flat_map (λ day. day_row day (status_of edits site day) (told day)) (days_within from to))
+
+-- what a reply tells of a day, where these edits were accepted so far: an answer that is true, with the day's status by them, or that there
+-- was no memory for it
 abbrev pub TellsDay : List Edit → SiteNumber → ℤ → List ℕ → Type 0
 TellsDay edits site day reply =
-    ((status : Status) × (told : DayAnswer) × (reply ≡ day_reply status told) × IsTrueOf edits site day told) ⊎ (reply ≡ memory_reply)
+    ((told : DayAnswer) × (reply ≡ day_reply (status_of edits site day) told) × IsTrueOf edits site day told) ⊎ (reply ≡ memory_reply)
 
--- and what a daily table tells: that the station is not kept, or such an answer for each of its days
+-- and what a daily table tells: such an answer for each of its days, or that the station is not kept, where it is not
 abbrev pub TellsDays : List Edit → SiteNumber → ℤ → ℤ → List ℕ → Type 0
 TellsDays edits site from to reply =
-    ((kept : Bool) × (status : ℤ → Status) × (told : ℤ → DayAnswer)
-    × (reply ≡ table_reply kept (flat_map (λ day. day_row day (status day) (told day)) (days_within from to)))
-    × AreTrueOf edits site (days_within from to) told)
+    ((told : ℤ → DayAnswer) × (reply ≡ table_told edits site from to told) × AreTrueOf edits site (days_within from to) told)
     ⊎ (reply ≡ memory_reply)
 
+-- the edit whose call a stop cuts off before these steps: that of the first of them, where it is the call of one
+abbrev pub cut_before : List Step → Option Edit
+cut_before [] = None
+cut_before (step ∷ steps) = cut_off step
+
 -- A holding is of steps: an office with no claim out that is at what had happened when the lock's value was taken goes over by calls to one
--- that is at what had happened when it was given back.
+-- that is at what had happened when it was given back. Nothing is said of what was asked and replied then, nor of an office with a claim out.
 abbrev pub IsHeldInSteps : Fixed → Holding (List Entry) → Type 0
 IsHeldInSteps fixed x = (old : Registered) → NoneOut old → old.history ≡ history_of fixed x.from
     → (steps : List Step) × (new : Registered) × GoesOver old steps new × All IsCall steps × (new.history ≡ history_of fixed x.to) × NoneOut new

@@ -1,11 +1,11 @@
 //! What holds of the replies of a session, over an office that nobody else asks and over one behind a lock.
 
-ghost use Rattle.std.specs.Prelude.{◌≡◌, ◌+◌, ◌-◌, ◌^◌, ◌≤◌, ◌++◌, ℕ, ℤ, List, [], ◌∷◌, length, All, count_by, min};
+ghost use Rattle.std.specs.Prelude.{◌≡◌, ◌+◌, ◌-◌, ◌^◌, ◌≤◌, ◌++◌, ℕ, ℤ, List, [], ◌∷◌, length, All, count_by, min, Option};
 ghost use Rattle.std.specs.List.{AllByRecursion};
 ghost use mathlib.Core.List.{IsPrefix};
 ghost use Rattle.desk.specs.Behind as behind;
 ghost use Rattle.desk.specs.Behind.{Touch, Uses, faults_added};
-ghost use Rattle.desk.specs.Courses.{Asks, IsCourse, IsHeldInSteps, TellsDay, TellsDays};
+ghost use Rattle.desk.specs.Courses.{Asks, IsCourse, IsHeldInSteps, TellsDay, TellsDays, cut_before};
 ghost use Rattle.shared_office.specs.Passages.{Passes, RoseBy};
 ghost use Rattle.desk.specs.Replies.{AreReplies, IsAnswered, IsOwn, tells_fault};
 ghost use Rattle.desk.specs.Replying as replying;
@@ -23,7 +23,7 @@ ghost use Rattle.history.specs.Legal.{IsLegal};
 ghost use Rattle.http_api.specs.declared.asks.Ask.TheVariants as asks;
 ghost use Rattle.journal.specs.JournalBytes.{IsJournalOf};
 ghost use Rattle.office.specs.Counting.{fault_count};
-ghost use Rattle.office.specs.Steps.{GoesOver, IsCall, Step, added};
+ghost use Rattle.office.specs.Steps.{AStop, GoesOver, IsCall, Step, added};
 ghost use Rattle.office.specs.Stops.{IsLeftBetween};
 ghost use Rattle.office_inputs.specs.declared.limits.Limits.{Limits};
 ghost use Rattle.records.specs.Sheets.{Record};
@@ -101,8 +101,10 @@ pub fn no_more_503s_than_faults<D: Disk>()
 {}
 
 /// What an office that nobody else asks replies to messages it replies in its steps: where no claim is out it goes over by calls, from the
-/// history before the messages to the one behind them, and each message has its own of these, whose answers its reply tells. So what holds
-/// over steps holds of what is replied. Each holding of a session behind a lock is of steps likewise.
+/// history before the messages to the one behind them, and each message has its own of these. The replies to edits, for days and of daily
+/// tables tell the answers of these steps; those to turns and settlements are told by the histories beside them. So what holds over steps holds
+/// of what is replied. Of a session behind a lock it is said of each holding alone, and only of an office with no claim out, that it is of
+/// calls: which of them answered what is not said there, and where a worker holds a claim nothing is.
 pub fn replies_are_a_course()
     ensures steps { (old : Registered) (messages : List Message) (replies : List (List ℕ)) (after : History) → NoneOut old
         → AreReplies old.history messages replies after
@@ -113,29 +115,31 @@ pub fn replies_are_a_course()
         → replying.AreReplies (Uses fixed) holdings messages replies [] → AllByRecursion (IsHeldInSteps fixed) holdings }
 {}
 
-/// What is replied for a day is true of the edits that were accepted so far, those that were acknowledged in the steps before among them: a
-/// value is that of computing from scratch, and any other answer names the last edit that changed the day, or says that none of them added
-/// the station. So is each row of a daily table. In place of both may stand the reply of want of memory.
+/// What is replied for a day is true of the edits that were accepted so far: those of the history that the course began with, and those that
+/// were acknowledged in its first steps, which are the ones in which just the messages before were replied to. A value is that of computing
+/// from scratch, any other answer names the last edit that changed the day, or says that none of them added the station, and the status beside
+/// it is that by these edits. So is each row of a daily table, which says that the station is not kept where none of these edits added it, and
+/// nowhere else. In place of both may stand the reply of want of memory.
 pub fn days_are_told_truly()
     ensures day { (old new : Registered) (steps : List Step) (before behind : List Message) (message : Message) (told more : List (List ℕ)) (reply : List ℕ)
         (site : SiteNumber) (day : ℤ) → length told ≡ length before
         → IsCourse old steps (before ++ message ∷ behind) (told ++ reply ∷ more) new → Asks message (asks.DayOf site day)
-        → (first rest : List Step) × (steps ≡ first ++ rest) × TellsDay (edits_of old.history.events ++ added first) site day reply }
+        → (mid : Registered) × (first rest : List Step) × (steps ≡ first ++ rest) × IsCourse old first before told mid
+        × TellsDay (edits_of old.history.events ++ added first) site day reply }
     ensures table { (old new : Registered) (steps : List Step) (before behind : List Message) (message : Message) (told more : List (List ℕ)) (reply : List ℕ)
         (site : SiteNumber) (from to : ℤ) → length told ≡ length before
         → IsCourse old steps (before ++ message ∷ behind) (told ++ reply ∷ more) new → Asks message (asks.Daily site from to)
-        → (first rest : List Step) × (steps ≡ first ++ rest) × TellsDays (edits_of old.history.events ++ added first) site from to reply }
+        → (mid : Registered) × (first rest : List Step) × (steps ≡ first ++ rest) × IsCourse old first before told mid
+        × TellsDays (edits_of old.history.events ++ added first) site from to reply }
 {}
 
-/// Whatever a stop leaves at any point of a course of calls is opened in a course of steps: some of these calls and a stop, from the same
-/// office to one that goes on from the records that were found, which are those of the edits that were accepted up to that point and at most
-/// one more.
+/// Whatever a stop leaves at any point of a course of calls is opened in a course of steps: the first of these calls and a stop, which cuts
+/// off the call of an edit where the next of them is one, lead from the same office to one that goes on from the records that were found.
+/// These are those of the edits that were accepted up to that point, and at most one more.
 pub fn a_stop_in_a_course_is_a_step()
-    ensures opened { (old new : Registered) (steps : List Step) (image : List ℕ) (pieces : List Record) → NoneOut old → IsLegal old.history
-        → All IsCall steps → GoesOver old steps new → IsLeftBetween old.history new.history image → IsJournalOf pieces image
-        → (opened : Registered) × (all : List Step) × GoesOver old all opened × (opened.history ≡ reopen old.history.limits pieces)
-        × NoneOut opened × IsLegal opened.history }
-    ensures few { (h after : History) (image : List ℕ) (pieces : List Record) → IsLegal after → after.limits ≡ h.limits
-        → (left : IsLeftBetween h after image) → IsJournalOf pieces image
-        → (more : List Record) × (length more ≤ 1) × (pieces ≡ accepted (h.events ++ left.since) ++ more) }
+    ensures { (old new : Registered) (steps : List Step) (image : List ℕ) (pieces : List Record) → NoneOut old → IsLegal old.history
+        → All IsCall steps → GoesOver old steps new → (left : IsLeftBetween old.history new.history image) → IsJournalOf pieces image
+        → (opened : Registered) × (before behind : List Step) × (found : Option Record) × (more : List Record) × (steps ≡ before ++ behind)
+        × GoesOver old (before ++ AStop (cut_before behind) found ∷ []) opened × (opened.history ≡ reopen old.history.limits pieces)
+        × NoneOut opened × IsLegal opened.history × (length more ≤ 1) × (pieces ≡ accepted (old.history.events ++ left.since) ++ more) }
 {}

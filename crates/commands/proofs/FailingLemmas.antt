@@ -1,14 +1,19 @@
--- No more replies of a run tell that the journal failed than faults have joined its history.
-use Rattle.std.proofs.Common.{◌≡◌, ℕ, ◌+◌, ◌-◌, ◌^◌, ◌≤◌, min, List, [], ◌∷◌, ◌++◌, length, sym, ◌∙◌, ap, subst, arith}
+-- No more replies of a run tell that the journal failed than the disk has counted faults.
+use Rattle.std.proofs.Common.{◌≡◌, ℕ, ◌+◌, ◌-◌, ◌≤◌, List, [], ◌∷◌, ◌++◌, length, sym, ◌∙◌, ap, subst, arith}
 use Rattle.std.specs.List.{concat}
+use Rattle.std.specs.Prelude.{count_by}
 use Rattle.std.proofs.lemmas.List.{length-map}
 use mathlib.Core.List.{IsPrefix}
+use Rattle.desk.proofs.FaultLemmas.{all_opened}
 use Rattle.desk.proofs.SharedFaultLemmas.{few_replies}
+use Rattle.desk.specs.Replies.{AreReplies, tells_fault}
 use Rattle.desk.specs.declared.sessions.SessionEnd.{SessionEnd}
 use Rattle.devices.specs.Doors.{Connections, Ends}
 use Rattle.devices.specs.declared.disks.Disk.{Ghosts}
+use Rattle.history.specs.After.{reopen}
 use Rattle.history.specs.Events.{History}
 use Rattle.office.specs.Counting.{fault_count}
+use Rattle.office_inputs.specs.Usual.{usual}
 use Rattle.records.specs.Sheets.{Record}
 use Rattle.serving.proofs.BesideLemmas.{connections_at}
 use Rattle.serving.proofs.CrewLemmas.{follow_out}
@@ -16,17 +21,18 @@ use Rattle.serving.proofs.DrainLemmas.{none_behind_all}
 use Rattle.serving.proofs.EventLemmas.{open_before}
 use Rattle.serving.proofs.FailingLemmas.{few_fail, front_begins}
 use Rattle.serving.proofs.WorkedLemmas.{IsAny}
-use Rattle.serving.specs.Failing.{failed_in, failed_replies}
+use Rattle.serving.specs.Failing.{failed_in}
 use Rattle.shared_office.specs.Entries.{before_ending, events_in}
-use Rattle.shared_office.specs.Holdings.{Follow}
+use Rattle.shared_office.specs.Passages.{RoseBy}
 use Rattle.shared_office.specs.Passing.{fixed_in}
 use Rattle.shared_office.specs.declared.entries.Entry.{Entry}
 use Rattle.shared_office.specs.declared.entries.Entry.TheVariants.{Happened}
 use Rattle.turnstile.proofs.ListLemmas.{times-append}
 use Rattle.turnstile.specs.Places.{places, times}
+use Rattle.wire.specs.declared.messages.Message.{Message}
 use Rattle.commands.proofs.SharingLemmas.{not_ended, same_history}
 use Rattle.commands.specs.Beside.{WorksBeside}
-use Rattle.commands.specs.Opening.{LeadsTo}
+use Rattle.commands.specs.Opening.{Carries, LeadsTo}
 use Rattle.commands.specs.Serving.{AreServedBeside, failed_beside}
 use Rattle.commands.specs.Sharing.{begun}
 
@@ -35,7 +41,7 @@ faults_begun : (h : History) → fault_count (events_in (begun h)) ≡ fault_cou
 faults_begun h = ap (λ (k : History). fault_count k.events) (same_history h)
 
 -- of `serve`
-pub serve_fails : {D : Type 0} (g : Ghosts D) (workers : ℕ) (told : Connections) (h last : History) (served : AreServedBeside g workers told h last)
+serve_fails : {D : Type 0} (g : Ghosts D) (workers : ℕ) (told : Connections) (h last : History) (served : AreServedBeside g workers told h last)
     → fault_count h.events + failed_beside served ≤ fault_count last.events
 serve_fails g workers told h last a =
     let b = a.beside in
@@ -57,7 +63,7 @@ serve_fails g workers told h last a =
     omega (arith, few, first, is)
 
 -- of `batch`
-pub batch_fails : {D : Type 0} (g : Ghosts D) (workers : ℕ) (came went : Ends) (end : SessionEnd) (h last : History)
+batch_fails : {D : Type 0} (g : Ghosts D) (workers : ℕ) (came went : Ends) (end : SessionEnd) (h last : History)
     (worked : WorksBeside g workers came went end h last) → fault_count h.events + failed_in worked.beside.ends_in ≤ fault_count last.events
 batch_fails g workers came went end h last a =
     let b = a.beside in
@@ -69,7 +75,28 @@ batch_fails g workers came went end h last a =
     let is = ap (λ (k : History). fault_count k.events) a.last_is in
     omega (arith, few, first, is)
 
--- of which a disk that a run leaves has counted each
-pub disk_counts : {D : Type 0} (g : Ghosts D) (pieces : List Record) (last : History) (found left : D) (failed : ℕ) → LeadsTo g pieces last found left
-    → failed ≤ fault_count last.events → min failed (2 ^ 64 - 1) ≤ g.faults left
-disk_counts g pieces last found left failed leads few = let all = leads.causes in omega (arith, few, all)
+-- a disk that has counted some faults has counted fewer
+fewer : (n m faults : ℕ) → n ≤ m → RoseBy m 0 faults → RoseBy n 0 faults
+fewer n m faults few rose = omega (arith, few, rose)
+
+-- and each of them the disk that is left has counted
+module _ {D : Type 0} (g : Ghosts D) (pieces : List Record) (last : History) (found left : D) where
+  pub alone_counted : (messages : List Message) (replies : List (List ℕ)) → AreReplies (reopen usual pieces) messages replies last
+      → Carries g pieces last found left → RoseBy (count_by tells_fault replies) 0 (g.faults left)
+  alone_counted messages replies answers carries =
+      subst (λ (n : ℕ). RoseBy n 0 (g.faults left)) (all_opened usual pieces messages replies last answers) carries.causes
+
+  counted : (failed : ℕ) → fault_count (reopen usual pieces).events + failed ≤ fault_count last.events → LeadsTo g pieces last found left
+      → RoseBy failed 0 (g.faults left)
+  counted failed few leads = fewer failed (fault_count last.events) (g.faults left) (omega (arith, few)) leads.causes
+
+  pub beside_counted : (workers : ℕ) (came went : Ends) (end : SessionEnd)
+      (worked : WorksBeside g workers came went end (reopen usual pieces) last) → LeadsTo g pieces last found left
+      → RoseBy (failed_in worked.beside.ends_in) 0 (g.faults left)
+  beside_counted workers came went end worked leads =
+      counted (failed_in worked.beside.ends_in) (batch_fails g workers came went end (reopen usual pieces) last worked) leads
+
+  pub serve_counted : (workers : ℕ) (told : Connections) (served : AreServedBeside g workers told (reopen usual pieces) last)
+      → LeadsTo g pieces last found left → RoseBy (failed_beside served) 0 (g.faults left)
+  serve_counted workers told served leads =
+      counted (failed_beside served) (serve_fails g workers told (reopen usual pieces) last served) leads

@@ -1,24 +1,137 @@
--- What a run of `batch` leaves is what the next one finds.
-use Rattle.std.proofs.Common.{◌≡◌, ◌⊎◌, ℕ, ◌≤◌, List, ◌++◌, length, Option, Some, None, IfSome, IsSome, IsSomeAnd, Result, Ok, Err, subst, inl, inr, ⊎_elim}
+-- What is left of runs of `batch`, one behind another.
+use Rattle.std.proofs.Common.{◌≡◌, ◌⊎◌, ℕ, ◌≤◌, List, [], ◌∷◌, ◌++◌, length, Option, Some, None, IfSome, IsSome, IsSomeAnd, Result, Ok, Err, refl, sym, ◌∙◌, ap, subst, inl, inr, ⊎_elim, append-nil, append_assoc, arith}
+use Rattle.std.specs.Prelude.{⊤}
+use mathlib.Core.List.{IsPrefix}
 use Rattle.command_words.specs.Words.{Batch}
+use Rattle.desk.proofs.CourseLemmas.{at_history, course_of, course_over}
 use Rattle.desk.specs.declared.sessions.SessionEnd.{SessionEnd}
 use Rattle.devices.specs.Cabinets.{Place, Free, Kept, Out}
 use Rattle.devices.specs.declared.disks.Disk.{Ghosts}
+use Rattle.history.proofs.EventLemmas.{accepted-append, accepted_all}
 use Rattle.history.specs.Accepted.{accepted}
-use Rattle.history.specs.Events.{History}
-use Rattle.history.specs.Legal.{IsLegal}
-use Rattle.journal.specs.JournalBytes.{IsJournalOf}
-use Rattle.journal.specs.declared.opening.OpenFault.{OpenFault}
+use Rattle.history.specs.After.{doubt, go_on, reopen}
+use Rattle.history.specs.Events.{Event, History}
+use Rattle.journal.proofs.Moments.{widened}
 use Rattle.journal.proofs.Walks.{one_list}
-use Rattle.office.proofs.LeftLemmas.{may_open}
-use Rattle.office.specs.Stops.{IsLeft}
+use Rattle.journal.specs.JournalBytes.{IsJournalOf, StandsFor}
+use Rattle.journal.specs.Moments.{SyncsFirst}
+use Rattle.journal.specs.declared.opening.OpenFault.{OpenFault}
+use Rattle.office.proofs.CourseLemmas.{adds_steps}
+use Rattle.office.specs.Stops.{IsLeft, IsLeftBefore, IsLeftBetween, in_flight}
+use Rattle.office_inputs.specs.Usual.{usual}
+use Rattle.office_inputs.specs.declared.staged.StagedEdit.TheVariants.{Part}
 use Rattle.records.specs.Sheets.{Record}
+use Rattle.register.specs.Registered.{NoneOut, Registered}
+use Rattle.station_inputs.specs.declared.staged.Staged.TheVariants.{Nothing}
 use Rattle.commands.specs.Batch.{ServesInput}
-use Rattle.commands.specs.Joined.{Has, HasOrLeaves, IsTold, LeavesFor, Plays, Run}
-use Rattle.commands.specs.Opening.{Carries, GoesOnAt, GoesOnUnder, IsLeftOn}
-use Rattle.commands.specs.Places.{HasKept}
+use Rattle.commands.specs.Joined.{AreOneBehindAnother, BehindTheEnd, Has, HasOrLeaves, IsFrontOf, IsTold, IsUnplayed, LeavesFor, Plays, Run, Stop, StopsWithin, Stretch, Within}
+use Rattle.commands.specs.Opening.{Carries, GoesOnAt, GoesOnUnder, IsLeftOn, StoodUnopened}
+use Rattle.commands.specs.Places.{HasKept, StaysWith}
 use Rattle.commands.specs.Runs.{Runs}
-use Rattle.commands.specs.Worlds.{StreamsStay, Told, World}
+use Rattle.commands.specs.Worlds.{Told, World}
+
+-- the front of a front
+begins_further : {A : Type 0} (xs ys zs : List A) → IsPrefix xs ys → IsPrefix ys zs → IsPrefix xs zs
+begins_further {A} xs ys zs first second = (
+  first.0 ++ second.0,
+  sym (append_assoc xs first.0 second.0) ∙ ap (λ (l : List A). l ++ second.0) first.1 ∙ second.1,
+)
+
+-- a list, and at most one more
+record AndMore (records next : List Record) : Type 0 where
+  more : List Record
+  few : length more ≤ 1
+  is : next ≡ records ++ more
+
+-- what stands for some records, or for these and one more, is the journal of these or of these and one more
+stands_more : (records : List Record) (o : Option Record) (image : List ℕ) (next : List Record) → IsJournalOf next image → StandsFor records o image
+    → AndMore records next
+stands_more records None image next journal stands =
+    record { more = []; few = omega arith; is = one_list next records image journal stands ∙ sym (append-nil records) }
+stands_more records (Some last) image next journal stands = elim stands [
+  | inl without ↦
+      record { more = []; few = omega arith; is = one_list next records image journal without ∙ sym (append-nil records) }
+  | inr with_last ↦
+      record { more = last ∷ []; few = omega arith; is = one_list next (records ++ last ∷ []) image journal with_last }
+]
+
+before_more : (h : History) (behind : List Event) (image : List ℕ) (next : List Record) → IsJournalOf next image → IsLeftBefore h behind image
+    → AndMore (accepted h.events) next
+before_more h [] image next journal left = stands_more (accepted h.events) (doubt h) image next journal left
+before_more h (event ∷ behind) image next journal left = elim left [
+  | inl here ↦ stands_more (accepted h.events) (doubt h) image next journal here
+  | inr flight ↦ stands_more (accepted h.events) (in_flight event) image next journal flight
+]
+
+-- of a run that is stopped within
+pub front_of : (run : Run) (next : List Record) → LeavesFor Within run next → IsFrontOf run next
+front_of run next leaves =
+    let left = leaves.1 in
+    let h = reopen usual run.found in
+    let all = before_more (go_on h left.since) left.behind leaves.0 next leaves.2 left.left in
+    record {
+      front = accepted (h.events ++ left.since);
+      more = all.more;
+      begins = (
+        accepted left.since,
+        ap (λ (l : List Record). l ++ accepted left.since) (sym (accepted_all run.found)) ∙ sym (accepted-append h.events left.since),
+      );
+      within = (
+        accepted left.behind,
+        sym (accepted-append (h.events ++ left.since) left.behind) ∙ ap accepted (sym left.after_is),
+      );
+      few = all.few;
+      next_is = all.is;
+    }
+
+-- the edits that were accepted, and at most one more
+ended_more : (run : Run) (next : List Record) → LeavesFor BehindTheEnd run next → AndMore (accepted run.last.events) next
+ended_more run next leaves = stands_more (accepted run.last.events) (doubt run.last) leaves.0 next leaves.2 leaves.1
+
+-- some office with no claim out
+abbrev blank : Registered
+blank = record {
+  history = reopen usual [];
+  inputs = record { limits = usual; kept = []; spare = 0; staged = Part Nothing };
+  cells = [];
+  references = [];
+  statuses = [];
+  spare = 0;
+}
+
+none_out : NoneOut blank
+none_out site day = refl
+
+-- a run begins with the records found
+run_begins : (run : Run) → IsPrefix run.found (accepted run.last.events)
+run_begins run =
+    let old = at_history blank (reopen usual run.found) in
+    let course = course_of old none_out run.messages run.replies run.last run.answers in
+    let goes = course_over old course.0 run.messages run.replies (at_history old run.last) course.1 in
+    let adds = adds_steps old course.0 (at_history old run.last) goes.0 in
+    (adds.records, sym (adds.accepted_are ∙ ap (λ (l : List Record). l ++ adds.records) (accepted_all run.found)))
+
+stays_for : (stop : Stop) (run : Run) (next : List Record) → LeavesFor stop run next → IsPrefix run.found next
+stays_for BehindTheEnd run next leaves =
+    let all = ended_more run next leaves in
+    begins_further run.found (accepted run.last.events) next (run_begins run) (all.more, sym all.is)
+stays_for Within run next leaves =
+    let all = front_of run next leaves in
+    begins_further run.found all.front next all.begins (all.more, sym all.next_is)
+
+-- over all runs
+pub found_stays : (found next : List Record) (runs : List Stretch) → AreOneBehindAnother found runs next → IsPrefix found next
+found_stays found next [] is = ([], append-nil found ∙ sym is)
+found_stays found next (one ∷ others) is =
+    let own = subst (λ (l : List Record). IsPrefix l is.1) is.0 (stays_for one.stop one.run is.1 is.2) in
+    begins_further found is.1 next own (found_stays is.1 next others is.3)
+
+pub ended_stays : (found next : List Record) (first others : List Stretch) (run : Run)
+    → AreOneBehindAnother found (first ++ record { run = run; stop = BehindTheEnd } ∷ others) next → IsPrefix (accepted run.last.events) next
+ended_stays found next [] others run is =
+    let all = ended_more run is.1 is.2 in
+    begins_further (accepted run.last.events) is.1 next (all.more, sym all.is) (found_stays is.1 next others is.3)
+ended_stays found next (one ∷ first) others run is = ended_stays is.1 next first others run is.3
 
 -- what is known of a disk's bytes
 known : (P : List ℕ → Type 0) (o : Option (List ℕ)) → IfSome o P → IsSome o → (bytes : List ℕ) × P bytes
@@ -45,12 +158,12 @@ module _ {D : Type 0} (g : Ghosts D) (pieces : List Record) (last : History) whe
 
   -- places of a cabinet
   left_at : (was now : Place D) (image : List ℕ) → GoesOnAt g (Carries g pieces last) was now → HasKept (λ disk. IsSome (g.content disk)) was
-      → HasKept (λ disk. (g.content disk ≡ Some image) ⊎ g.may_leave disk image) now → IsLeft last image × IsLegal last
+      → HasKept (λ disk. (g.content disk ≡ Some image) ⊎ g.may_leave disk image) now → IsLeft last image
   left_at Free now image goes told has = absurd goes
   left_at Out now image goes told has = absurd goes
   left_at (Kept found) Free image goes told has = absurd goes
   left_at (Kept found) Out image goes told has = absurd goes
-  left_at (Kept found) (Kept left) image goes told has = (left_of left image (carried found left goes told) has, goes.legal)
+  left_at (Kept found) (Kept left) image goes told has = left_of left image (carried found left goes told) has
 
   found_at : (was now : Place D) (image : List ℕ) → GoesOnAt g (Carries g pieces last) was now → HasKept (λ disk. g.content disk ≡ Some image) was
       → IsJournalOf pieces image
@@ -60,12 +173,28 @@ module _ {D : Type 0} (g : Ghosts D) (pieces : List Record) (last : History) whe
   found_at (Kept found) Out image goes has = absurd goes
   found_at (Kept found) (Kept left) image goes has = found_on found left image goes has
 
+  carried_at : (was now : Place D) (found left : D) → GoesOnAt g (Carries g pieces last) was now → HasKept (λ disk. disk ≡ found) was
+      → HasKept (λ disk. disk ≡ left) now → Carries g pieces last found left
+  carried_at Free now found left goes was_found is_left = absurd goes
+  carried_at Out now found left goes was_found is_left = absurd goes
+  carried_at (Kept f) Free found left goes was_found is_left = absurd goes
+  carried_at (Kept f) Out found left goes was_found is_left = absurd goes
+  carried_at (Kept f) (Kept l) found left goes was_found is_left =
+      subst (λ (d : D). Carries g pieces last d left) was_found (subst (Carries g pieces last f) is_left goes)
+
   -- cabinets
   module _ (name : List ℕ) where
+    carried_under : (b a : Option (List ℕ → Place D)) (found left : D) → GoesOnUnder g name (Carries g pieces last) b a
+        → IsSomeAnd b (λ places. HasKept (λ disk. disk ≡ found) (places name)) → IsSomeAnd a (λ places. HasKept (λ disk. disk ≡ left) (places name))
+        → Carries g pieces last found left
+    carried_under None a found left goes was_found is_left = absurd was_found
+    carried_under (Some b) None found left goes was_found is_left = absurd is_left
+    carried_under (Some b) (Some a) found left goes was_found is_left = carried_at (b name) (a name) found left goes.0 was_found is_left
+
     left_under : (b a : Option (List ℕ → Place D)) (image : List ℕ) → GoesOnUnder g name (Carries g pieces last) b a
         → IsSomeAnd b (λ places. HasKept (λ disk. IsSome (g.content disk)) (places name))
         → IsSomeAnd a (λ places. HasKept (λ disk. (g.content disk ≡ Some image) ⊎ g.may_leave disk image) (places name))
-        → IsLeft last image × IsLegal last
+        → IsLeft last image
     left_under None a image goes told has = absurd told
     left_under (Some b) None image goes told has = absurd has
     left_under (Some b) (Some a) image goes told has = left_at (b name) (a name) image goes.0 told has
@@ -76,47 +205,79 @@ module _ {D : Type 0} (g : Ghosts D) (pieces : List Record) (last : History) whe
     found_under (Some b) None image goes has = absurd goes
     found_under (Some b) (Some a) image goes has = found_at (b name) (a name) image goes.0 has
 
--- the edits that were accepted, and at most one more
-pub found_more : (last : History) (image : List ℕ) (next : List Record) → IsLegal last → IsLeft last image → IsJournalOf next image
-    → (more : List Record) × (length more ≤ 1) × (next ≡ accepted last.events ++ more)
-found_more last image next legal left journal =
-    let o = may_open last image legal left in
-    (o.more, o.few, one_list next (accepted last.events ++ o.more) image journal o.found)
+-- what stays with something stays
+stays_anyhow : {D : Type 0} (g : Ghosts D) (name : List ℕ) (P : Place D → Type 0) (before after : Option (List ℕ → Place D))
+    → StaysWith g name P before after → StaysWith g name (λ place. ⊤) before after
+stays_anyhow g name P None after stays = tt
+stays_anyhow g name P (Some before) None stays = absurd stays
+stays_anyhow g name P (Some before) (Some after) stays = (tt, stays.1)
 
 module _ {S K E C L P D : Type 0} (g : Ghosts D) (tell : World S K E C L P → Told D) (name : List ℕ) where
   -- a run of `batch` is such a run, or read and wrote nothing
   played : (end : Result SessionEnd OpenFault) (before after : World S K E C L P) → ServesInput g tell name 0 end before after
-      → ((run : Run) × Plays g name tell run before after) ⊎ StreamsStay before after
+      → ((run : Run) × Plays g name tell run before after) ⊎ IsUnplayed g name tell before after
   played (Ok end) before after did =
       let w = did.over in inl (
         record { found = w.pieces; messages = w.worked.messages; replies = w.worked.replies; last = w.last; answers = w.worked.answers },
         record { end = end; heard = w.worked.heard; goes_on = w.goes_on },
       )
-  played (Err why) before after did = inr (did.unserved tt)
+  played (Err why) before after did =
+      let stays = stays_anyhow g name (StoodUnopened g why) (tell before).cabinet.places (tell after).cabinet.places did.over.stays in
+      inr (record { streams = did.unserved tt; journal = inr stays })
 
   pub batch_is_a_run : (status : ℕ) (before after : World S K E C L P) → Runs g tell (Batch name 0) status before after
-      → ((run : Run) × Plays g name tell run before after) ⊎ StreamsStay before after
+      → ((run : Run) × Plays g name tell run before after) ⊎ IsUnplayed g name tell before after
   batch_is_a_run status before after run =
       ⊎_elim
-      (λ idle. inr idle.1.streams)
+      (λ idle. inr (record { streams = idle.1.streams; journal = inl idle.1.cabinet }))
       (λ did. played did.0 before after did.2)
       run.did
 
   -- what the next one finds is what was left
   pub next_finds : (first second : Run) (before after again done : World S K E C L P) (image : List ℕ) → Plays g name tell first before after
       → Plays g name tell second again done → IsTold g name (tell before).cabinet → HasOrLeaves g name image (tell after).cabinet
-      → Has g name image (tell again).cabinet → LeavesFor first second.found
-  next_finds first second before after again done image plays next told leaves has =
-      let left =
-      left_under g first.found first.last name (tell before).cabinet.places (tell after).cabinet.places image plays.goes_on told leaves in
-      (image, inl left.0, found_under g second.found second.last name (tell again).cabinet.places (tell done).cabinet.places image next.goes_on has)
+      → Has g name image (tell again).cabinet → LeavesFor BehindTheEnd first second.found
+  next_finds first second before after again done image plays next told leaves has = (
+    image,
+    left_under g first.found first.last name (tell before).cabinet.places (tell after).cabinet.places image plays.goes_on told leaves,
+    found_under g second.found second.last name (tell again).cabinet.places (tell done).cabinet.places image next.goes_on has,
+  )
 
   pub next_finds_more : (first second : Run) (before after again done : World S K E C L P) (image : List ℕ) → Plays g name tell first before after
       → Plays g name tell second again done → IsTold g name (tell before).cabinet → HasOrLeaves g name image (tell after).cabinet
       → Has g name image (tell again).cabinet
       → (more : List Record) × (length more ≤ 1) × (second.found ≡ accepted first.last.events ++ more)
   next_finds_more first second before after again done image plays next told leaves has =
-      let left =
-      left_under g first.found first.last name (tell before).cabinet.places (tell after).cabinet.places image plays.goes_on told leaves in
-      found_more first.last image second.found left.1 left.0
-      (found_under g second.found second.last name (tell again).cabinet.places (tell done).cabinet.places image next.goes_on has)
+      let all = ended_more first second.found (next_finds first second before after again done image plays next told leaves has) in
+      (all.more, all.few, all.is)
+
+  -- and at any moment of the first one
+  next_finds_within : (first second : Run) (before after again done : World S K E C L P) (image : List ℕ) → Plays g name tell first before after
+      → Plays g name tell second again done → IsLeftBetween (reopen usual first.found) first.last image → Has g name image (tell again).cabinet
+      → LeavesFor Within first second.found × IsFrontOf first second.found
+  next_finds_within first second before after again done image plays next left has =
+      let leaves : LeavesFor Within first second.found = (
+        image,
+        left,
+        found_under g second.found second.last name (tell again).cabinet.places (tell done).cabinet.places image next.goes_on has,
+      ) in
+      (leaves, front_of first second.found leaves)
+
+  pub next_finds_stopped : (first second : Run) (before after again done : World S K E C L P) → Plays g name tell first before after
+      → Plays g name tell second again done
+      → StopsWithin g name first second.found (tell before).cabinet (tell after).cabinet (tell again).cabinet
+  next_finds_stopped first second before after again done plays next = λ found left was told is.
+      let carries =
+      carried_under g first.found first.last name (tell before).cabinet.places (tell after).cabinet.places found left plays.goes_on was is in
+      let moments =
+      (known (λ bytes. SyncsFirst g found left (IsLeftBetween (reopen usual first.found) first.last)) (g.content found) carries.any_moment told).1 in
+      record {
+        synced = moments.synced;
+        first = moments.first;
+        before = moments.before;
+        since =
+            widened g moments.synced left (IsLeftBetween (reopen usual first.found) first.last)
+            (λ image. Has g name image (tell again).cabinet → LeavesFor Within first second.found × IsFrontOf first second.found)
+            moments.since
+            (λ image between has. next_finds_within first second before after again done image plays next between has);
+      }

@@ -1,6 +1,7 @@
 pub mod AskedLemmas
 pub mod BatchLemmas
 pub mod BesideLemmas
+pub mod CourseLemmas
 pub mod JoinedLemmas
 pub mod Lawful
 pub mod DrainLemmas

@@ -35,32 +35,36 @@ module _ (run : Run) (old : Registered) (before behind : List Message) (message 
       (subst (λ (rs : List (List ℕ)). IsCourse old steps run.messages rs (at_history old run.last)) replies course)
 
   pub run_tells_day : (site : SiteNumber) (day : ℤ) → Asks message (asks.DayOf site day)
-      → (after : Registered) × (first rest : List Step) × IsCourse old (first ++ rest) run.messages run.replies after
-      × (after.history ≡ run.last) × TellsDay (map edit_of run.found ++ added first) site day reply
+      → (mid after : Registered) × (first rest : List Step) × IsCourse old (first ++ rest) run.messages run.replies after
+      × (after.history ≡ run.last) × IsCourse old first before told mid × TellsDay (map edit_of run.found ++ added first) site day reply
   run_tells_day site day asked =
       let course = course_of old none run.messages run.replies run.last own_replies in
       let tells =
       day_is_true old (at_history old run.last) course.0 before behind message told more reply long (parted_course course.0 course.1) site day asked in (
-        at_history old run.last,
         tells.0,
+        at_history old run.last,
         tells.1,
-        subst (λ (l : List Step). IsCourse old l run.messages run.replies (at_history old run.last)) tells.2 course.1,
+        tells.2,
+        subst (λ (l : List Step). IsCourse old l run.messages run.replies (at_history old run.last)) tells.3 course.1,
         refl,
-        subst (λ (l : List Edit). TellsDay (l ++ added tells.0) site day reply) found_edits tells.3,
+        tells.4,
+        subst (λ (l : List Edit). TellsDay (l ++ added tells.1) site day reply) found_edits tells.5,
       )
 
   pub run_tells_days : (site : SiteNumber) (from to : ℤ) → Asks message (asks.Daily site from to)
-      → (after : Registered) × (first rest : List Step) × IsCourse old (first ++ rest) run.messages run.replies after
-      × (after.history ≡ run.last) × TellsDays (map edit_of run.found ++ added first) site from to reply
+      → (mid after : Registered) × (first rest : List Step) × IsCourse old (first ++ rest) run.messages run.replies after
+      × (after.history ≡ run.last) × IsCourse old first before told mid × TellsDays (map edit_of run.found ++ added first) site from to reply
   run_tells_days site from to asked =
       let course = course_of old none run.messages run.replies run.last own_replies in
       let tells =
       days_are_true old (at_history old run.last) course.0 before behind message told more reply long (parted_course course.0 course.1) site from to
       asked in (
-        at_history old run.last,
         tells.0,
+        at_history old run.last,
         tells.1,
-        subst (λ (l : List Step). IsCourse old l run.messages run.replies (at_history old run.last)) tells.2 course.1,
+        tells.2,
+        subst (λ (l : List Step). IsCourse old l run.messages run.replies (at_history old run.last)) tells.3 course.1,
         refl,
-        subst (λ (l : List Edit). TellsDays (l ++ added tells.0) site from to reply) found_edits tells.3,
+        tells.4,
+        subst (λ (l : List Edit). TellsDays (l ++ added tells.1) site from to reply) found_edits tells.5,
       )

@@ -1,15 +1,17 @@
 //! What holds of the runs of all commands, and of those of one.
 
-ghost use Rattle.std.specs.Prelude.{◌≡◌, ◌⊎◌, ℕ, ◌+◌, ◌-◌, ◌^◌, ◌≤◌, min, List, [], ◌++◌, ◌∷◌, ℤ, length, map};
+ghost use Rattle.std.specs.Prelude.{◌≡◌, ◌⊎◌, ℕ, ◌≤◌, List, [], ◌++◌, ◌∷◌, ℤ, count_by, length, map};
+ghost use mathlib.Core.List.{IsPrefix};
 ghost use Rattle.command_words.specs.Words.{Asked, Batch, Daily, DailyAsked, Import, ImportAsked, Init, Notes, NotesAsked, Stations, Trial, Water, WaterAsked};
 ghost use Rattle.commands.specs.Beside.{WorksBeside};
-ghost use Rattle.commands.specs.Joined.{Has, HasOrLeaves, IsTold, LeavesFor, Plays, Run};
-ghost use Rattle.commands.specs.Opening.{LeadsTo};
+ghost use Rattle.commands.specs.Joined.{AreOneBehindAnother, AreOneCourse, BehindTheEnd, Has, HasOrLeaves, IsTold, IsUnplayed, LeavesFor, Plays, Run, StopsWithin, Stretch};
+ghost use Rattle.commands.specs.Opening.{Carries, LeadsTo};
 ghost use Rattle.commands.specs.Runs.{Runs};
 ghost use Rattle.commands.specs.Serving.{AreServedBeside, failed_beside};
 ghost use Rattle.commands.specs.Sharing.{begun};
 ghost use Rattle.commands.specs.Worlds.{DoorsStay, StreamsStay, World, shelf, told_by};
 ghost use Rattle.desk.specs.Courses.{Asks, IsCourse, TellsDay, TellsDays};
+ghost use Rattle.desk.specs.Replies.{AreReplies, tells_fault};
 ghost use Rattle.desk.specs.declared.sessions.SessionEnd.{SessionEnd};
 ghost use Rattle.devices.specs.Doors.{Connections, Ends};
 ghost use Rattle.fixed_units.specs.Quantities.{SiteNumber};
@@ -17,14 +19,15 @@ ghost use Rattle.history.specs.Accepted.{accepted, edit_of};
 ghost use Rattle.history.specs.After.{reopen};
 ghost use Rattle.history.specs.Awaited.{pending_days};
 ghost use Rattle.history.specs.Events.{History};
+ghost use Rattle.history.specs.Legal.{IsLegal};
 ghost use Rattle.http_api.specs.declared.asks.Ask.TheVariants as asks;
-ghost use Rattle.office.specs.Counting.{fault_count};
-ghost use Rattle.office.specs.Steps.{Step, added};
+ghost use Rattle.office.specs.Steps.{GoesOver, Step, added};
 ghost use Rattle.office_inputs.specs.Usual.{usual};
 ghost use Rattle.records.specs.Sheets.{Record};
 ghost use Rattle.register.specs.Registered.{NoneOut, Registered};
 ghost use Rattle.serving.specs.Crews.{IsWorkIn};
 ghost use Rattle.serving.specs.Failing.{failed_in};
+ghost use Rattle.shared_office.specs.Passages.{RoseBy};
 ghost use Rattle.wire.specs.declared.messages.Message.{Message};
 ghost use Rattle.workers.specs.declared.workers.WorkerEnd.TheVariants as worker;
 
@@ -100,16 +103,18 @@ pub fn what_a_command_leaves_alone<S: Source, K: Sink, E: Sink, C: Cabinet, L: D
         → (after.input ≡ before.input) × DoorsStay before after }
 {}
 
-/// No more replies of a run over a shared office are 503 than faults of the journal have joined its history, those of all its connections
-/// together, or those of its session beside workers, and each of these the disk that is left has counted, unless its count stands at the end
-/// of its type.
-pub fn each_503_of_a_run_has_its_fault<D: Disk>()
-    ensures serve { (workers : ℕ) (told : Connections) (h last : History) (served : AreServedBeside D.Disk workers told h last)
-        → fault_count h.events + failed_beside served ≤ fault_count last.events }
-    ensures batch { (workers : ℕ) (came went : Ends) (end : SessionEnd) (h last : History) (worked : WorksBeside D.Disk workers came went end h last)
-        → fault_count h.events + failed_in worked.beside.ends_in ≤ fault_count last.events }
-    ensures disk { (pieces : List Record) (last : History) (found left : D) (failed : ℕ) → LeadsTo D.Disk pieces last found left
-        → failed ≤ fault_count last.events → min failed (2 ^ 64 - 1) ≤ D.faults left }
+/// No more replies of a run are 503 than the disk that is left has counted faults, unless its count stands at the end of its type: those of a
+/// session that nobody works beside, those of one beside workers, and those of all connections of `serve` together.
+pub fn no_more_503s_than_faults<D: Disk>()
+    ensures alone { (pieces : List Record) (last : History) (found left : D) (messages : List Message) (replies : List (List ℕ))
+        → AreReplies (reopen usual pieces) messages replies last → Carries D.Disk pieces last found left
+        → RoseBy (count_by tells_fault replies) 0 (D.faults left) }
+    ensures beside { (pieces : List Record) (last : History) (found left : D) (workers : ℕ) (came went : Ends) (end : SessionEnd)
+        (worked : WorksBeside D.Disk workers came went end (reopen usual pieces) last) → LeadsTo D.Disk pieces last found left
+        → RoseBy (failed_in worked.beside.ends_in) 0 (D.faults left) }
+    ensures serve { (pieces : List Record) (last : History) (found left : D) (workers : ℕ) (told : Connections)
+        (served : AreServedBeside D.Disk workers told (reopen usual pieces) last) → LeadsTo D.Disk pieces last found left
+        → RoseBy (failed_beside served) 0 (D.faults left) }
 {}
 
 /// Where a worker ended drained, whoever worked beside it, no day is pending at the end of the run: behind what it found then stand the
@@ -123,33 +128,36 @@ pub fn a_drained_worker_leaves_no_day_pending<D: Disk>()
 {}
 
 /// A run of `batch` without workers replied to what it read, from the records that were found to some history, whose journal it left; or it
-/// read and wrote nothing.
+/// read and wrote nothing, and left alone what was under the name.
 pub fn a_batch_is_a_run<S: Source, K: Sink, E: Sink, C: Cabinet, L: Doors, P: Spawner>()
     ensures { (name : List ℕ) (status : ℕ) (before after : World S K E C L P)
         → Runs C.Disk.Disk (told_by S.Source K.Sink E.Sink C.Cabinet L.Doors P.Spawner) (Batch name 0) status before after
-        → ((run : Run) × Plays C.Disk.Disk name (told_by S.Source K.Sink E.Sink C.Cabinet L.Doors P.Spawner) run before after) ⊎ StreamsStay before after }
+        → ((run : Run) × Plays C.Disk.Disk name (told_by S.Source K.Sink E.Sink C.Cabinet L.Doors P.Spawner) run before after)
+        ⊎ IsUnplayed C.Disk.Disk name (told_by S.Source K.Sink E.Sink C.Cabinet L.Doors P.Spawner) before after }
 {}
 
-/// What a run of `batch` replies for a day is true of the edits that were accepted up to some point of the run: those of the records that it
-/// found, and those that it acknowledged in some first steps of its course. A value is that of computing from scratch, and any other answer
-/// names the last of these edits that changed the day, or says that none of them added the station. So is each row of a daily table that has
-/// rows. In place of both may stand the reply of want of memory. Which point it is, the replies at their places tell, which the office's
-/// clauses fix; this law does not.
+/// What a run of `batch` replies for a day is true of the edits that were accepted so far: those of the records that it found, and those that
+/// it acknowledged in its first steps, which are the ones in which just the messages before were replied to. A value is that of computing from
+/// scratch, any other answer names the last of these edits that changed the day, or says that none of them added the station, and the status
+/// beside it is that by these edits. So is each row of a daily table, which says that the station is not kept where none of these edits added
+/// it, and nowhere else. In place of both may stand the reply of want of memory.
 pub fn a_run_tells_days_truly()
     ensures day { (run : Run) (old : Registered) (before behind : List Message) (message : Message) (told more : List (List ℕ)) (reply : List ℕ)
         (site : SiteNumber) (day : ℤ) → old.history ≡ reopen usual run.found → NoneOut old → run.messages ≡ before ++ message ∷ behind
         → run.replies ≡ told ++ reply ∷ more → length told ≡ length before → Asks message (asks.DayOf site day)
-        → (new : Registered) × (first rest : List Step) × IsCourse old (first ++ rest) run.messages run.replies new × (new.history ≡ run.last)
-        × TellsDay (map edit_of run.found ++ added first) site day reply }
+        → (mid new : Registered) × (first rest : List Step) × IsCourse old (first ++ rest) run.messages run.replies new
+        × (new.history ≡ run.last) × IsCourse old first before told mid × TellsDay (map edit_of run.found ++ added first) site day reply }
     ensures table { (run : Run) (old : Registered) (before behind : List Message) (message : Message) (told more : List (List ℕ)) (reply : List ℕ)
         (site : SiteNumber) (from to : ℤ) → old.history ≡ reopen usual run.found → NoneOut old → run.messages ≡ before ++ message ∷ behind
         → run.replies ≡ told ++ reply ∷ more → length told ≡ length before → Asks message (asks.Daily site from to)
-        → (new : Registered) × (first rest : List Step) × IsCourse old (first ++ rest) run.messages run.replies new × (new.history ≡ run.last)
-        × TellsDays (map edit_of run.found ++ added first) site from to reply }
+        → (mid new : Registered) × (first rest : List Step) × IsCourse old (first ++ rest) run.messages run.replies new
+        × (new.history ≡ run.last) × IsCourse old first before told mid × TellsDays (map edit_of run.found ++ added first) site from to reply }
 {}
 
 /// What is left of a run is what the next one finds: where the journal that the next run opens has what the first one left, or what a stop
-/// left of it then, its records are those of the edits that the first one accepted, and of at most one more.
+/// left of it then, its records are those of the edits that the first one accepted, and of at most one more. Where it has what a stop left at
+/// some moment of the first run since its opening sync, they are those that the first one found, with those of a front of the edits that it
+/// accepted, and of at most one more; a stop before that sync left what it might have left before the run.
 pub fn the_next_run_finds_what_was_left<
     S: Source,
     K: Sink,
@@ -162,11 +170,33 @@ pub fn the_next_run_finds_what_was_left<
         → Plays C.Disk.Disk name (told_by S.Source K.Sink E.Sink C.Cabinet L.Doors P.Spawner) first before after
         → Plays C.Disk.Disk name (told_by S.Source K.Sink E.Sink C.Cabinet L.Doors P.Spawner) second again done
         → IsTold C.Disk.Disk name (shelf C.Cabinet before.cabinet) → HasOrLeaves C.Disk.Disk name image (shelf C.Cabinet after.cabinet)
-        → Has C.Disk.Disk name image (shelf C.Cabinet again.cabinet) → LeavesFor first second.found }
+        → Has C.Disk.Disk name image (shelf C.Cabinet again.cabinet) → LeavesFor BehindTheEnd first second.found }
     ensures edits { (name : List ℕ) (first second : Run) (before after again done : World S K E C L P) (image : List ℕ)
         → Plays C.Disk.Disk name (told_by S.Source K.Sink E.Sink C.Cabinet L.Doors P.Spawner) first before after
         → Plays C.Disk.Disk name (told_by S.Source K.Sink E.Sink C.Cabinet L.Doors P.Spawner) second again done
         → IsTold C.Disk.Disk name (shelf C.Cabinet before.cabinet) → HasOrLeaves C.Disk.Disk name image (shelf C.Cabinet after.cabinet)
         → Has C.Disk.Disk name image (shelf C.Cabinet again.cabinet)
         → (more : List Record) × (length more ≤ 1) × (second.found ≡ accepted first.last.events ++ more) }
+    ensures stopped { (name : List ℕ) (first second : Run) (before after again done : World S K E C L P)
+        → Plays C.Disk.Disk name (told_by S.Source K.Sink E.Sink C.Cabinet L.Doors P.Spawner) first before after
+        → Plays C.Disk.Disk name (told_by S.Source K.Sink E.Sink C.Cabinet L.Doors P.Spawner) second again done
+        → StopsWithin C.Disk.Disk name first second.found (shelf C.Cabinet before.cabinet) (shelf C.Cabinet after.cabinet) (shelf C.Cabinet again.cabinet) }
+{}
+
+/// Over runs one behind another, each of which finds what a stop left of the one before, behind its end or within, the records that the first
+/// one found stay at the front, and so do those of all edits that a run had accepted which was stopped behind its end.
+pub fn accepted_edits_stay_over_runs()
+    ensures found { (found next : List Record) (runs : List Stretch) → AreOneBehindAnother found runs next → IsPrefix found next }
+    ensures ended { (found next : List Record) (first others : List Stretch) (run : Run)
+        → AreOneBehindAnother found (first ++ record { run = run; stop = BehindTheEnd } ∷ others) next → IsPrefix (accepted run.last.events) next }
+{}
+
+/// Runs one behind another are of one course of steps: each is of an office's calls, in each of which its message was replied to, and of which
+/// the first were done before the stop, all of them where it came behind the end. Behind the stop an office is opened on the records that the
+/// next run finds. So what holds over lists of steps holds over runs.
+pub fn runs_are_one_course()
+    ensures course { (found next : List Record) (runs : List Stretch) (old : Registered) → AreOneBehindAnother found runs next
+        → old.history ≡ reopen usual found → NoneOut old → IsLegal old.history → AreOneCourse old runs next }
+    ensures over { (next : List Record) (runs : List Stretch) (old : Registered) → AreOneCourse old runs next
+        → (new : Registered) × (steps : List Step) × GoesOver old steps new × (new.history ≡ reopen usual next) }
 {}

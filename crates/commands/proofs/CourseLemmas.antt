@@ -19,7 +19,7 @@ use Rattle.office_inputs.specs.Usual.{usual}
 use Rattle.office_inputs.specs.declared.limits.Limits.{Limits}
 use Rattle.records.specs.Sheets.{Record}
 use Rattle.register.specs.Registered.{NoneOut, Registered}
-use Rattle.commands.specs.Joined.{AreOneBehindAnother, AreOneCourse, BehindTheEnd, IsStretchOf, LeavesFor, Run, Stop, Stretch, Within}
+use Rattle.commands.specs.Joined.{AreOneBehindAnother, AreOneCourse, BehindTheEnd, IsStretchOf, LeavesFor, Run, Stop, Stretch, Within, steps_of}
 
 -- one run, its stop, and the opening behind it
 module _ (run : Run) (next : List Record) (old : Registered) (same : old.history ≡ reopen usual run.found) (none : NoneOut old)
@@ -43,6 +43,7 @@ module _ (run : Run) (next : List Record) (old : Registered) (same : old.history
         before = s.at.before;
         behind = s.at.behind;
         found = s.at.found;
+        begins = same;
         course = course;
         last = refl;
         parts = s.at.parts;
@@ -79,6 +80,7 @@ module _ (run : Run) (next : List Record) (old : Registered) (same : old.history
         before = steps;
         behind = [];
         found = stop.0;
+        begins = same;
         course = course;
         last = refl;
         parts = sym (append-nil steps);
@@ -104,11 +106,11 @@ one_course found next (one ∷ others) old is same none legal =
     let opened = at_history old (reopen old.history.limits is.1) in
     (opened, is.1, first, one_course is.1 next others opened is.3 first.history first.claims first.legal)
 
--- so one list of steps leads over all of them
-pub over_all : (next : List Record) (runs : List Stretch) (old : Registered) → AreOneCourse old runs next
-    → (new : Registered) × (steps : List Step) × GoesOver old steps new × (new.history ≡ reopen usual next)
-over_all next [] old is = (old, [], refl, is)
-over_all next (one ∷ others) old is =
-    let rest = over_all next others is.0 is.3 in
-    let own = is.2.before ++ AStop (cut_before is.2.behind) is.2.found ∷ [] in
-    (rest.0, own ++ rest.1, joined old own rest.1 is.0 rest.0 is.2.over rest.2, rest.3)
+-- and these steps lead over all of them
+pub over_all : (next : List Record) (runs : List Stretch) (old : Registered) (are : AreOneCourse old runs next)
+    → (new : Registered) × GoesOver old (steps_of old runs next are) new × (new.history ≡ reopen usual next)
+over_all next [] old are = (old, refl, are)
+over_all next (one ∷ others) old are =
+    let rest = over_all next others are.0 are.3 in
+    let own = are.2.before ++ AStop (cut_before are.2.behind) are.2.found ∷ [] in
+    (rest.0, joined old own (steps_of are.0 others next are.3) are.0 rest.0 are.2.over rest.1, rest.2)

@@ -41,7 +41,7 @@ faults_begun : (h : History) → fault_count (events_in (begun h)) ≡ fault_cou
 faults_begun h = ap (λ (k : History). fault_count k.events) (same_history h)
 
 -- of `serve`
-serve_fails : {D : Type 0} (g : Ghosts D) (workers : ℕ) (told : Connections) (h last : History) (served : AreServedBeside g workers told h last)
+pub serve_fails : {D : Type 0} (g : Ghosts D) (workers : ℕ) (told : Connections) (h last : History) (served : AreServedBeside g workers told h last)
     → fault_count h.events + failed_beside served ≤ fault_count last.events
 serve_fails g workers told h last a =
     let b = a.beside in
@@ -63,7 +63,7 @@ serve_fails g workers told h last a =
     omega (arith, few, first, is)
 
 -- of `batch`
-batch_fails : {D : Type 0} (g : Ghosts D) (workers : ℕ) (came went : Ends) (end : SessionEnd) (h last : History)
+pub batch_fails : {D : Type 0} (g : Ghosts D) (workers : ℕ) (came went : Ends) (end : SessionEnd) (h last : History)
     (worked : WorksBeside g workers came went end h last) → fault_count h.events + failed_in worked.beside.ends_in ≤ fault_count last.events
 batch_fails g workers came went end h last a =
     let b = a.beside in

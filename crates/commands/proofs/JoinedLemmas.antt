@@ -133,6 +133,12 @@ ended_stays found next [] others run is =
     begins_further (accepted run.last.events) is.1 next (all.more, sym all.is) (found_stays is.1 next others is.3)
 ended_stays found next (one ∷ first) others run is = ended_stays is.1 next first others run is.3
 
+pub within_stays : (found next : List Record) (first others : List Stretch) (run : Run)
+    → AreOneBehindAnother found (first ++ record { run = run; stop = Within } ∷ others) next
+    → (mid : List Record) × IsFrontOf run mid × IsPrefix mid next
+within_stays found next [] others run is = (is.1, front_of run is.1 is.2, found_stays is.1 next others is.3)
+within_stays found next (one ∷ first) others run is = within_stays is.1 next first others run is.3
+
 -- what is known of a disk's bytes
 known : (P : List ℕ → Type 0) (o : Option (List ℕ)) → IfSome o P → IsSome o → (bytes : List ℕ) × P bytes
 known P None is some = absurd (cc some)

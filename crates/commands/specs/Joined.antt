@@ -30,7 +30,7 @@ pub record Run : Type 0 where
   pub last : History
   pub answers : AreReplies (reopen usual found) messages replies last
 
--- where a run is stopped: behind its end, or at any moment since its opening
+-- where a run is stopped: behind its end, or at any moment since the sync that began its opening
 pub data Stop : Type 0 where
   BehindTheEnd : Stop
   Within : Stop
@@ -69,6 +69,7 @@ pub record IsStretchOf (old : Registered) (stop : Stop) (run : Run) (next : List
   pub before : List Step
   pub behind : List Step
   pub found : Option Record
+  pub begins : old.history ≡ reopen usual run.found
   pub course : IsCourse old steps run.messages run.replies new
   pub last : new.history ≡ run.last
   pub parts : steps ≡ before ++ behind
@@ -83,6 +84,11 @@ abbrev pub AreOneCourse : Registered → List Stretch → List Record → Type 0
 AreOneCourse old [] next = old.history ≡ reopen usual next
 AreOneCourse old (one ∷ others) next =
     (opened : Registered) × (mid : List Record) × IsStretchOf old one.stop one.run mid opened × AreOneCourse opened others next
+
+-- the calls that were done in them, the stops and the openings, one behind another
+abbrev pub steps_of : (old : Registered) (runs : List Stretch) (next : List Record) → AreOneCourse old runs next → List Step
+steps_of old [] next is = []
+steps_of old (one ∷ others) next is = (is.2.before ++ AStop (cut_before is.2.behind) is.2.found ∷ []) ++ steps_of is.0 others next is.3
 
 -- These records are those that the run found, with those of a front of the edits that it accepted behind them, and at most one more.
 pub record IsFrontOf (run : Run) (next : List Record) : Type 0 where

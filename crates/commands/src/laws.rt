@@ -1,10 +1,10 @@
 //! What holds of the runs of all commands, and of those of one.
 
-ghost use Rattle.std.specs.Prelude.{◌≡◌, ◌⊎◌, ℕ, ◌≤◌, List, [], ◌++◌, ◌∷◌, ℤ, count_by, length, map};
+ghost use Rattle.std.specs.Prelude.{◌≡◌, ◌⊎◌, ℕ, ◌+◌, ◌≤◌, List, [], ◌++◌, ◌∷◌, ℤ, count_by, length, map};
 ghost use mathlib.Core.List.{IsPrefix};
 ghost use Rattle.command_words.specs.Words.{Asked, Batch, Daily, DailyAsked, Import, ImportAsked, Init, Notes, NotesAsked, Stations, Trial, Water, WaterAsked};
 ghost use Rattle.commands.specs.Beside.{WorksBeside};
-ghost use Rattle.commands.specs.Joined.{AreOneBehindAnother, AreOneCourse, BehindTheEnd, Has, HasOrLeaves, IsTold, IsUnplayed, LeavesFor, Plays, Run, StopsWithin, Stretch};
+ghost use Rattle.commands.specs.Joined.{AreOneBehindAnother, AreOneCourse, BehindTheEnd, Has, HasOrLeaves, IsFrontOf, IsTold, IsUnplayed, LeavesFor, Plays, Run, StopsWithin, Stretch, Within, steps_of};
 ghost use Rattle.commands.specs.Opening.{Carries, LeadsTo};
 ghost use Rattle.commands.specs.Runs.{Runs};
 ghost use Rattle.commands.specs.Serving.{AreServedBeside, failed_beside};
@@ -21,6 +21,7 @@ ghost use Rattle.history.specs.Awaited.{pending_days};
 ghost use Rattle.history.specs.Events.{History};
 ghost use Rattle.history.specs.Legal.{IsLegal};
 ghost use Rattle.http_api.specs.declared.asks.Ask.TheVariants as asks;
+ghost use Rattle.office.specs.Counting.{fault_count};
 ghost use Rattle.office.specs.Steps.{GoesOver, Step, added};
 ghost use Rattle.office_inputs.specs.Usual.{usual};
 ghost use Rattle.records.specs.Sheets.{Record};
@@ -101,6 +102,15 @@ pub fn what_a_command_leaves_alone<S: Source, K: Sink, E: Sink, C: Cabinet, L: D
     ensures water { (asked : WaterAsked) (status : ℕ) (before after : World S K E C L P)
         → Runs C.Disk.Disk (told_by S.Source K.Sink E.Sink C.Cabinet L.Doors P.Spawner) (Water asked) status before after
         → (after.input ≡ before.input) × DoorsStay before after }
+{}
+
+/// No more replies of a run over a shared office are 503 than faults of the journal have joined its history, over any cabinet: those of all
+/// its connections together, or those of its session beside workers.
+pub fn each_503_of_a_run_has_its_fault<D: Disk>()
+    ensures serve { (workers : ℕ) (told : Connections) (h last : History) (served : AreServedBeside D.Disk workers told h last)
+        → fault_count h.events + failed_beside served ≤ fault_count last.events }
+    ensures batch { (workers : ℕ) (came went : Ends) (end : SessionEnd) (h last : History) (worked : WorksBeside D.Disk workers came went end h last)
+        → fault_count h.events + failed_in worked.beside.ends_in ≤ fault_count last.events }
 {}
 
 /// No more replies of a run are 503 than the disk that is left has counted faults, unless its count stands at the end of its type: those of a
@@ -184,19 +194,23 @@ pub fn the_next_run_finds_what_was_left<
 {}
 
 /// Over runs one behind another, each of which finds what a stop left of the one before, behind its end or within, the records that the first
-/// one found stay at the front, and so do those of all edits that a run had accepted which was stopped behind its end.
+/// one found stay at the front, and so do those of all edits that a run had accepted which was stopped behind its end, and of one that was
+/// stopped within those that it found, with those of a front of the edits that it would have accepted, and of at most one more.
 pub fn accepted_edits_stay_over_runs()
     ensures found { (found next : List Record) (runs : List Stretch) → AreOneBehindAnother found runs next → IsPrefix found next }
     ensures ended { (found next : List Record) (first others : List Stretch) (run : Run)
         → AreOneBehindAnother found (first ++ record { run = run; stop = BehindTheEnd } ∷ others) next → IsPrefix (accepted run.last.events) next }
+    ensures within { (found next : List Record) (first others : List Stretch) (run : Run)
+        → AreOneBehindAnother found (first ++ record { run = run; stop = Within } ∷ others) next
+        → (mid : List Record) × IsFrontOf run mid × IsPrefix mid next }
 {}
 
-/// Runs one behind another are of one course of steps: each is of an office's calls, in each of which its message was replied to, and of which
-/// the first were done before the stop, all of them where it came behind the end. Behind the stop an office is opened on the records that the
-/// next run finds. So what holds over lists of steps holds over runs.
+/// Runs one behind another are of one course of steps, of a first office that is legal and has no claim out: each is of the calls of an office
+/// that was opened on the records that it found, in each of which its message was replied to, and of which the first were done before the stop,
+/// all of them where it came behind the end. These calls, the stops and the openings lead over all of the runs.
 pub fn runs_are_one_course()
     ensures course { (found next : List Record) (runs : List Stretch) (old : Registered) → AreOneBehindAnother found runs next
         → old.history ≡ reopen usual found → NoneOut old → IsLegal old.history → AreOneCourse old runs next }
-    ensures over { (next : List Record) (runs : List Stretch) (old : Registered) → AreOneCourse old runs next
-        → (new : Registered) × (steps : List Step) × GoesOver old steps new × (new.history ≡ reopen usual next) }
+    ensures over { (next : List Record) (runs : List Stretch) (old : Registered) (are : AreOneCourse old runs next)
+        → (new : Registered) × GoesOver old (steps_of old runs next are) new × (new.history ≡ reopen usual next) }
 {}

@@ -138,7 +138,9 @@ def functions(crate, edit):
             module = [it for it in file[len("src/") : -len(".rt")].split("/") if it not in ("lib", "mod")]
         elif line.startswith("old: "):
             old, text = line[len("old: ") :], texts[file]
-            found.add("::".join(module + (function_at(text, text.index(old) + len(old)) or [])))
+            its = function_at(text, text.index(old) + len(old)) or []
+            # (a method's path has the module of its type, which may be another, so the end of the path is named)
+            found.add("::".join(its if len(its) == 2 else module + its))
         elif line.startswith("new:"):
             texts[file] = texts[file].replace(old, line[len("new:") :].removeprefix(" "))
     return found if all(found) else None
@@ -177,8 +179,8 @@ LOST = re.compile(r"has no field|is not in scope|has no `|was not admitted|that 
 
 def lacks(path, said):
     """What a function, or one of a module, lacks by itself, and whether that is more than names which are gone; nothing where it is proved."""
-    goals = [found[1] for found in re.finditer(rf"(?m)^fn \w+::{re.escape(path)}(?:::\S+)?: (?:no proof|not proved).*?(`search` did not prove [^;]*)", said)]
-    errors = re.findall(rf"(?m)^(?:\./)?(?:proofs/{re.escape(path.replace('::', '/'))}/\S+: error: .*)$", said)
+    goals = [found[1] for found in re.finditer(rf"(?m)^fn \w+::(?:\w+::)*{re.escape(path)}(?:::\S+)?: (?:no proof|not proved).*?(`search` did not prove [^;]*)", said)]
+    errors = re.findall(rf"(?m)^(?:\./)?(?:proofs/(?:\w+/)*{re.escape(path.replace('::', '/'))}/\S+: error: .*)$", said)
     return [*goals, *errors], bool(goals) or any(not LOST.search(it) for it in errors)
 
 

@@ -186,8 +186,8 @@ def lacks(path, said):
 
 def tried_together(crate, edits, top, is_long):
     """Tries edits of a crate in the copy by checks of their functions alone, and returns how many were refused."""
-    begun, refused, lines = time.time(), 0, []
-    for group in rounds(crate, edits):
+    begun, refused, lines, groups = time.time(), 0, [], rounds(crate, edits)
+    for group in groups:
         shutil.rmtree(top / "crates" / crate / "src")
         shutil.copytree(copies.TOP / "crates" / crate / "src", top / "crates" / crate / "src")
         for edit, _ in group:
@@ -201,6 +201,10 @@ def tried_together(crate, edits, top, is_long):
             told = [lacks(path, said) for path in sorted(its)]
             why = next((reasons[0] for reasons, counts in told if counts), None) or next((reasons[0] for reasons, _ in told if reasons), None)
             is_refused, is_named = any(counts for _, counts in told), why is not None
+            if not is_named and len(group) > 1:
+                # (a function that calls another one which is wrong too is not judged: once more, alone)
+                groups.append([(edit, its)])
+                continue
             refused += is_named
             if not is_refused or is_long:
                 word = "refused" if is_refused else "refused for a lost name alone" if is_named else "NOT REFUSED"

@@ -209,6 +209,9 @@ def tried_together(crate, edits, top, is_long):
             if not is_refused or is_long:
                 word = "refused" if is_refused else "refused for a lost name alone" if is_named else "NOT REFUSED"
                 lines.append(f"  {edit.stem}: {word}{': ' + why[:300] if why else ''}")
+    # (the crates above are checked over this one)
+    shutil.rmtree(top / "crates" / crate / "src")
+    shutil.copytree(copies.TOP / "crates" / crate / "src", top / "crates" / crate / "src")
     print(f"{crate}: {refused} of {len(edits)} refused ({time.time() - begun:.0f} s)", *lines, sep="\n", flush=True)
     return refused
 

@@ -12,4 +12,5 @@ pub mod MemoryDoors
 pub mod Sinks
 pub mod Sources
 pub mod Started
+pub mod Stops
 pub mod Writes

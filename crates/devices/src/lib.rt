@@ -19,6 +19,7 @@ pub mod sinks;
 pub mod sources;
 pub mod spawners;
 pub mod standard;
+pub mod stops;
 
 pub use cabinets::{Cabinet, Opened};
 pub use disks::{Disk, DiskFailed};
@@ -38,3 +39,4 @@ pub use spawners::{HandsBack, Spawner, Started, Task, ThreadSpawner, start};
 pub use standard::{
     ReaderSource, StderrSink, StdinSource, StdoutSink, WriterSink, take_up_missing_streams,
 };
+pub use stops::Unsynced;

@@ -1,12 +1,13 @@
 //! A disk in memory, which tells its content, what a stop may leave and its calls, and fails on command.
-ghost use Rattle.std.specs.Prelude.{◌≡◌, ◌+◌, ◌^◌, ◌<◌, ◌≤◌, nat_lt, true, length, [], Some, slice_range, IfOk, OnOk, OnErr};
+ghost use Rattle.std.specs.Prelude.{◌≡◌, ◌+◌, ◌^◌, ◌<◌, ◌≤◌, nat_lt, true, length, take, [], Some, slice_range, IfOk, OnOk, OnErr};
 ghost use Rattle.devices.specs.Disks.{Torn, NothingNew, Only, Follows, HasCause, IsListed, overwritten};
 ghost use Rattle.devices.specs.Failures.{untouched};
-ghost use Rattle.devices.specs.MemoryDisks.{content_of, images_of, moment_of, since_of, calls_of, stands, counts_now, only_now, blank, done, half, with_step, IsQuiet, DidNothing, WroteInPart, GoesOn, LeavesContent, AnswersOnCommand, with_no_faults};
+ghost use Rattle.devices.specs.MemoryDisks.{MayLeave, content_of, images_of, moment_of, since_of, calls_of, stands, counts_now, only_now, blank, done, half, with_step, IsQuiet, DidNothing, WroteInPart, GoesOn, LeavesContent, AnswersOnCommand, with_no_faults};
+ghost use Rattle.devices.specs.Stops.{stopped};
 ghost use Rattle.devices.specs.declared.recordings.Change.TheVariants.{Nothing, Synced, Wrote};
 
 use crate::recordings::{Change, Recording};
-use crate::{Disk, DiskFailed, Failures};
+use crate::{Disk, DiskFailed, Failures, Unsynced};
 use std::alloc::{AllocError, Global};
 use std::marker::Model;
 
@@ -58,6 +59,20 @@ impl MemoryDisk {
         ensures { result.now ≡ content_of self.now.recorded }
     {
         self.recording.bytes()
+    }
+
+    /// What a stop behind the first so many of the listed calls leaves, or behind all of them where there are fewer, by what becomes of the
+    /// bytes that were written behind the last sync that was done: one of the images that the disk tells for that moment.
+    pub fn stopped(
+        &self,
+        alloc: Global,
+        calls: usize,
+        unsynced: Unsynced,
+    ) -> Result<Vec<u8>, AllocError>
+        ensures left { IfOk result (λ image. image.items ≡ stopped unsynced self.now.recorded calls) }
+        ensures is_image { IfOk result (λ image. MayLeave self.now.recorded.first (take calls self.now.recorded.steps) image.items) }
+    {
+        self.recording.stopped(alloc, calls, unsynced)
     }
 
     /// How many calls there were.

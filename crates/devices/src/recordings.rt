@@ -1,10 +1,12 @@
 //! The recording of a disk in memory: what it had at first, what each call did, and what it has now.
-ghost use Rattle.std.specs.Prelude.{◌≡◌, ◌+◌, ◌^◌, ◌<◌, ◌≤◌, nat_lt, true, false, if◌then◌else◌, length, [], IfOk, OnOk, OnErr};
+ghost use Rattle.std.specs.Prelude.{◌≡◌, ◌+◌, ◌^◌, ◌<◌, ◌≤◌, nat_lt, true, false, if◌then◌else◌, length, take, [], IfOk, OnOk, OnErr};
 ghost use Rattle.devices.specs.Disks.{Torn, Follows, NothingNew, overwritten};
 ghost use Rattle.devices.specs.Failures.{one_more};
-ghost use Rattle.devices.specs.MemoryDisks.{blank, content_of, images_of, with_step, IsQuiet, IsNoted, DidNothing, Lists, GoesOn};
+ghost use Rattle.devices.specs.MemoryDisks.{MayLeave, blank, changed, content_of, images_of, with_step, IsQuiet, IsNoted, DidNothing, Lists, GoesOn};
+ghost use Rattle.devices.specs.Stops.{ChangesWithin, Suits, left_by, stopped};
 ghost use Rattle.devices.specs.declared.recordings.Change.TheVariants.{Wrote};
 
+use crate::stops::Unsynced;
 use std::alloc::{AllocError, Global};
 use std::marker::Model;
 
@@ -52,14 +54,14 @@ pub struct Recording {
 }
 
 impl Model for Recording {
-    ghost use Rattle.std.specs.Prelude.{◌≡◌};
-    ghost use Rattle.devices.specs.MemoryDisks.{Recorded, replayed};
+    ghost use Rattle.devices.specs.MemoryDisks.{Recorded};
+    ghost use Rattle.devices.specs.Stops.{IsRecording};
 
     ghost Value = { Recorded };
 
     ghost view = { λ r. record { first = r.first.items; steps = r.steps.items; unlisted = r.unlisted } };
 
-    ghost invariant = { λ r. r.bytes.items ≡ replayed r.first.items r.steps.items };
+    ghost invariant = { λ r. IsRecording r.first.items r.steps.items r.bytes.items };
 }
 
 impl Recording {
@@ -148,7 +150,8 @@ impl Recording {
         left: &[u8],
     ) -> Result<(), AllocError>
         requires begins { at ≤ length (content_of self.old) }
-        requires ends { at + length left.now < 2 ^ 64 }
+        requires ends { at + count < 2 ^ 64 }
+        requires front { length left.now ≤ count }
         ensures ok { OnOk result (self.new ≡ with_step (record { failed = failed; change = Wrote (record { at = at; count = count; left = left.now }) }) self.old) }
         ensures err { OnErr result (self.new ≡ self.old) }
     {
@@ -165,6 +168,64 @@ impl Recording {
         });
         Ok(())
     }
+
+    /// What a stop behind the first so many of the listed calls leaves, or behind all of them where there are fewer, by what becomes of the
+    /// bytes that were written behind the last sync that was done.
+    pub fn stopped(
+        &self,
+        alloc: Global,
+        calls: usize,
+        unsynced: Unsynced,
+    ) -> Result<Vec<u8>, AllocError>
+        ensures left { IfOk result (λ image. image.items ≡ stopped unsynced self.now calls) }
+        ensures is_image { IfOk result (λ image. MayLeave self.now.first (take calls self.now.steps) image.items) }
+    {
+        let mut content = self.first.to_vec(alloc)?;
+        let mut image = self.first.to_vec(alloc)?;
+        for step in &self.steps[..calls.min(self.steps.len())] {
+            leave(unsynced, &mut image, &content, &step.change)?;
+            follow(&mut content, &step.change)?;
+        }
+        Ok(image)
+    }
+}
+
+// Goes on with the content, over a call.
+fn follow(content: &mut Vec<u8>, change: &Change) -> Result<(), AllocError>
+    requires { ChangesWithin content.old.items change.now }
+    ensures { OnOk result (content.new.items ≡ changed content.old.items change.now) }
+{
+    match change {
+        Change::Wrote(write) => overwrite(content, write.at as usize, &write.left),
+        _ => Ok(()),
+    }
+}
+
+// What a stop leaves after a call, of what one before it had left and of the content before that call.
+fn leave(
+    unsynced: Unsynced,
+    image: &mut Vec<u8>,
+    content: &[u8],
+    change: &Change,
+) -> Result<(), AllocError>
+    requires within { ChangesWithin content.now change.now }
+    requires suits { Suits unsynced image.old.items content.now }
+    ensures { OnOk result (image.new.items ≡ left_by unsynced image.old.items content.now change.now) }
+{
+    match change {
+        Change::Nothing => {}
+        Change::Synced => *image = content.to_vec(*image.allocator())?,
+        Change::Wrote(write) => match unsynced {
+            Unsynced::Kept => overwrite(image, write.at as usize, &write.left)?,
+            Unsynced::Lost => {}
+            Unsynced::Ones => {
+                let mut ones = Vec::new(*image.allocator());
+                ones.resize(write.left.len(), 1)?;
+                overwrite(image, write.at as usize, &ones)?;
+            }
+        },
+    }
+    Ok(())
 }
 
 // Puts bytes at an offset, over what is there and past the end.

@@ -3,6 +3,7 @@ use Rattle.devices.specs.Disks.{NothingNew}
 use Rattle.devices.specs.MemoryDisks.{Recorded, content_of, images_of, with_step, with_unlisted, GoesOn}
 use Rattle.devices.specs.declared.recordings.Step.{Step}
 use Rattle.devices.proofs.Replays.{step_same, step_images, step_time, time_stays}
+use Rattle.devices.proofs.StopLemmas.{within-push, quiet_within}
 use Rattle.devices.proofs.recordings.Recording.list.Goals as goal
 
 pub invariant_of-self : goal.invariant_of-self
@@ -10,7 +11,10 @@ invariant_of-self c =
     let step : Step = record { failed = c.args.failed; change = c.args.change } in
     let inside : Recorded = record { first = c.self.inside.first.items; steps = c.self.inside.steps.items; unlisted = 0 } in
     let steps : c.push.new.self.items ≡ c.self.inside.steps.items ++ step ∷ [] = search rules in
-    rw steps (c.self.invariant ∙ sym (step_same inside step c.requires))
+    rw steps (record {
+      content = c.self.invariant.content ∙ sym (step_same inside step c.requires);
+      within = within-push inside.first inside.steps step c.self.invariant.within (quiet_within (content_of inside) step.change c.requires);
+    })
 
 pub returns-then-is_ok-clause-same : goal.returns-then-is_ok-clause-same
 returns-then-is_ok-clause-same c =

@@ -75,18 +75,25 @@ not_long ms rs (Some input) (Some left) (Some before) w heard formed told =
     let short : length input < STREAM_BYTES = formed.short in
     omega arith
 
--- so it ends well, or for want of memory
-session_completes : (end : SessionEnd) (ms : List Message) (rs : List (List ℕ)) (l0 l w0 w : Option (List ℕ)) (a b c d : ℕ)
+-- so it ends at its end, unless there was no memory to begin
+pub ends_well : (end : SessionEnd) (ms : List Message) (rs : List (List ℕ)) (l0 l w0 w : Option (List ℕ)) (a b c d : ℕ)
     → IsHeardBetween ms rs end l0 l w0 w → SessionHasCause end a b c d → IsSomeAnd l0 IsWellFormed → IsSome w0
-    → ¬ (Rose a b) → ¬ (Rose c d) → IsDone (status_of (session_ending end))
-session_completes sessions.End ms rs l0 l w0 w a b c d heard cause formed told calm still = inl refl
-session_completes (sessions.Malformed at) ms rs l0 l w0 w a b c d heard cause formed told calm still =
+    → ¬ (Rose a b) → ¬ (Rose c d) → (end ≡ sessions.End) ⊎ (end ≡ sessions.NoMemory)
+ends_well sessions.End ms rs l0 l w0 w a b c d heard cause formed told calm still = inl refl
+ends_well (sessions.Malformed at) ms rs l0 l w0 w a b c d heard cause formed told calm still =
     absurd (not_malformed ms rs at l0 l w0 w heard formed told)
-session_completes sessions.Long ms rs l0 l w0 w a b c d heard cause formed told calm still =
+ends_well sessions.Long ms rs l0 l w0 w a b c d heard cause formed told calm still =
     absurd (not_long ms rs l0 l w0 w heard formed told)
-session_completes sessions.InputFault ms rs l0 l w0 w a b c d heard cause formed told calm still = absurd (calm cause)
-session_completes sessions.OutputFault ms rs l0 l w0 w a b c d heard cause formed told calm still = absurd (still cause)
-session_completes sessions.NoMemory ms rs l0 l w0 w a b c d heard cause formed told calm still = inr refl
+ends_well sessions.InputFault ms rs l0 l w0 w a b c d heard cause formed told calm still = absurd (calm cause)
+ends_well sessions.OutputFault ms rs l0 l w0 w a b c d heard cause formed told calm still = absurd (still cause)
+ends_well sessions.NoMemory ms rs l0 l w0 w a b c d heard cause formed told calm still = inr refl
+
+session_completes : (end : SessionEnd) → (end ≡ sessions.End) ⊎ (end ≡ sessions.NoMemory) → IsDone (status_of (session_ending end))
+session_completes end is =
+    ⊎_elim
+    (λ done. inl (ap (λ (e : SessionEnd). status_of (session_ending e)) done))
+    (λ none. inr (ap (λ (e : SessionEnd). status_of (session_ending e)) none))
+    is
 
 -- with some workers
 pub over_some : {D : Type 0} (g : Ghosts D) (name : List ℕ) (workers : ℕ) (end : Result SessionEnd OpenFault) (before after : Told D)
@@ -143,10 +150,11 @@ module _ {S K E C L P D : Type 0} (g : Ghosts D) (tell : World S K E C L P → T
       → IsReady (tell before) → IsWell (tell before) (tell after) → IsDone (status_of (ending_over session_ending end))
   complete (Ok end) before after did ready well =
       ⊎_elim
-      (λ h. session_completes end h.0 h.1
+      (λ h. session_completes end
+      (ends_well end h.0 h.1
       (tell before).input.bytes (tell after).input.bytes (tell before).output.bytes (tell after).output.bytes
       (tell before).input.faults (tell after).input.faults (tell before).output.faults (tell after).output.faults
-      h.2 did.cause ready.1.0 ready.1.1 well.0.0 well.0.1)
+      h.2 did.cause ready.1.0 ready.1.1 well.0.0 well.0.1))
       (λ is. inr (ap (λ (e : SessionEnd). status_of (session_ending e)) is))
       (heard g name workers end (tell before) (tell after) did.over)
   complete (Err why) before after did ready well =

@@ -1,11 +1,12 @@
+pub mod AnsweredLemmas
 pub mod AskedLemmas
 pub mod BatchLemmas
 pub mod BesideLemmas
 pub mod CourseLemmas
-pub mod JoinedLemmas
-pub mod Lawful
 pub mod DrainLemmas
 pub mod FailingLemmas
+pub mod JoinedLemmas
+pub mod Lawful
 pub mod LoadingLemmas
 pub mod MakingLemmas
 pub mod NotesLemmas

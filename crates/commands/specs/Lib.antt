@@ -1,3 +1,4 @@
+pub mod Answered
 pub mod Batch
 pub mod Beside
 pub mod Joined

@@ -1,19 +1,24 @@
 //! What holds of the runs of all commands, and of those of one.
 
-ghost use Rattle.std.specs.Prelude.{◌≡◌, ◌⊎◌, ℕ, ◌+◌, ◌≤◌, List, [], ◌++◌, ◌∷◌, ℤ, count_by, length, map};
+ghost use Rattle.std.specs.Prelude.{◌≡◌, ◌⊎◌, ℕ, ◌+◌, ◌≤◌, List, [], ◌++◌, ◌∷◌, ℤ, IsSome, IsSomeAnd, count_by, length, map};
 ghost use mathlib.Core.List.{IsPrefix};
-ghost use Rattle.command_words.specs.Words.{Asked, Batch, Daily, DailyAsked, Import, ImportAsked, Init, Notes, NotesAsked, Stations, Trial, Water, WaterAsked};
-ghost use Rattle.commands.specs.Beside.{WorksBeside};
+ghost use Rattle.command_words.specs.Words.{Asked, Batch, Daily, DailyAsked, Import, ImportAsked, Init, Notes, NotesAsked, Serve, Stations, Trial, Water, WaterAsked};
+ghost use Rattle.commands.specs.Answered.{AreAnswered, AreServedWell};
+ghost use Rattle.commands.specs.Beside.{WorksBeside, ends_told};
 ghost use Rattle.commands.specs.Joined.{AreOneBehindAnother, AreOneCourse, BehindTheEnd, Has, HasOrLeaves, IsFrontOf, IsTold, IsUnplayed, LeavesFor, Plays, Run, StopsWithin, Stretch, Within, steps_of};
 ghost use Rattle.commands.specs.Opening.{Carries, LeadsTo};
+ghost use Rattle.commands.specs.Ready.{IsWellFormed};
 ghost use Rattle.commands.specs.Runs.{Runs};
 ghost use Rattle.commands.specs.Serving.{AreServedBeside, failed_beside};
 ghost use Rattle.commands.specs.Sharing.{begun};
-ghost use Rattle.commands.specs.Worlds.{DoorsStay, StreamsStay, World, shelf, told_by};
+ghost use Rattle.commands.specs.Worlds.{DoorsStay, StreamsStay, World, shelf, sink_told, source_told, told_by};
 ghost use Rattle.desk.specs.Courses.{Asks, IsCourse, TellsDay, TellsDays};
 ghost use Rattle.desk.specs.Replies.{AreReplies, tells_fault};
+ghost use Rattle.desk.specs.Serving.{Served};
 ghost use Rattle.desk.specs.declared.sessions.SessionEnd.{SessionEnd};
+ghost use Rattle.desk.specs.declared.sessions.SessionEnd.TheVariants as sessions;
 ghost use Rattle.devices.specs.Doors.{Connections, Ends};
+ghost use Rattle.devices.specs.Faults.{Rose};
 ghost use Rattle.fixed_units.specs.Quantities.{SiteNumber};
 ghost use Rattle.history.specs.Accepted.{accepted, edit_of};
 ghost use Rattle.history.specs.After.{reopen};
@@ -29,6 +34,8 @@ ghost use Rattle.register.specs.Registered.{NoneOut, Registered};
 ghost use Rattle.serving.specs.Crews.{IsWorkIn};
 ghost use Rattle.serving.specs.Failing.{failed_in};
 ghost use Rattle.shared_office.specs.Passages.{RoseBy};
+ghost use Rattle.shared_office.specs.declared.entries.Entry.{Entry};
+ghost use Rattle.shared_office.specs.declared.entries.Fixed.{Fixed};
 ghost use Rattle.wire.specs.declared.messages.Message.{Message};
 ghost use Rattle.workers.specs.declared.workers.WorkerEnd.TheVariants as worker;
 
@@ -213,4 +220,31 @@ pub fn runs_are_one_course()
         → old.history ≡ reopen usual found → NoneOut old → IsLegal old.history → AreOneCourse old runs next }
     ensures over { (next : List Record) (runs : List Stretch) (old : Registered) (are : AreOneCourse old runs next)
         → (new : Registered) × GoesOver old (steps_of old runs next are) new × (new.history ≡ reopen usual next) }
+{}
+
+/// Where a run of `batch` or of `serve` is done and no fault of the cabinet was counted, no reply tells that the journal failed. An input of
+/// `batch` was read to its end then, and each of its messages has its reply, that of the office, or beside workers that which its holdings
+/// tell; and so was that of each connection which is well formed and met no fault of its own, unless there was no memory to begin with it.
+pub fn where_no_fault_is_counted_each_request_is_answered<
+    S: Source,
+    K: Sink,
+    E: Sink,
+    C: Cabinet,
+    L: Doors,
+    P: Spawner,
+>()
+    ensures batch { (name : List ℕ) (workers : ℕ) (before after : World S K E C L P)
+        → Runs C.Disk.Disk (told_by S.Source K.Sink E.Sink C.Cabinet L.Doors P.Spawner) (Batch name workers) 0 before after
+        → ¬ (Rose (C.faults before.cabinet) (C.faults after.cabinet))
+        → (pieces : List Record) × (last : History)
+        × AreAnswered C.Disk.Disk workers (ends_told (source_told S.Source before.input) (sink_told K.Sink before.output))
+        (ends_told (source_told S.Source after.input) (sink_told K.Sink after.output)) (reopen usual pieces) last }
+    ensures serve { (name : List ℕ) (port workers connections : ℕ) (before after : World S K E C L P)
+        → Runs C.Disk.Disk (told_by S.Source K.Sink E.Sink C.Cabinet L.Doors P.Spawner) (Serve name port workers connections) 0 before after
+        → ¬ (Rose (C.faults before.cabinet) (C.faults after.cabinet))
+        → (pieces : List Record) × (last : History) × AreServedWell C.Disk.Disk workers (L.told after.doors) (reopen usual pieces) last }
+    ensures connection { (fixed : Fixed) (came went : Ends) (start : ℕ) (list : List Entry) (places : List ℕ)
+        (served : Served fixed came went start list places) → IsSomeAnd came.left IsWellFormed → IsSome came.written
+        → ¬ (Rose came.input_faults went.input_faults) → ¬ (Rose came.output_faults went.output_faults)
+        → (served.end ≡ sessions.End) ⊎ (served.end ≡ sessions.NoMemory) }
 {}

@@ -1,0 +1,131 @@
+-- Where no fault is counted each request of a run that is done was answered.
+use Rattle.std.proofs.Common.{◌≡◌, ◌⊎◌, ℕ, zero, suc, ◌+◌, ◌≤◌, List, Option, Result, Ok, Err, IsSome, IsSomeAnd, sym, ◌∙◌, ap, subst, inl, inr, ⊎_elim, refl, arith}
+use Rattle.std.specs.Prelude.{count_by}
+use Rattle.command_words.specs.Words.{Batch, Serve}
+use Rattle.desk.proofs.FaultLemmas.{all_opened}
+use Rattle.desk.specs.Replies.{tells_fault}
+use Rattle.desk.specs.Serving.{Served}
+use Rattle.desk.specs.declared.sessions.SessionEnd.{SessionEnd}
+use Rattle.desk.specs.declared.sessions.SessionEnd.TheVariants as sessions
+use Rattle.devices.specs.Doors.{Ends}
+use Rattle.devices.specs.Faults.{Rose}
+use Rattle.devices.specs.declared.disks.Disk.{Ghosts}
+use Rattle.history.specs.After.{reopen}
+use Rattle.history.specs.Events.{History}
+use Rattle.journal.specs.declared.opening.OpenFault.{OpenFault}
+use Rattle.journal.specs.declared.opening.OpenFault.TheVariants as opening
+use Rattle.office.specs.Counting.{fault_count}
+use Rattle.office_inputs.specs.Usual.{usual}
+use Rattle.records.specs.Sheets.{Record}
+use Rattle.serving.specs.declared.whole.ServeEnd.{ServeEnd}
+use Rattle.serving.specs.declared.whole.ServeEnd.TheVariants as ends
+use Rattle.shared_office.specs.declared.entries.Entry.{Entry}
+use Rattle.shared_office.specs.declared.entries.Fixed.{Fixed}
+use Rattle.commands.proofs.BatchLemmas.{ends_well}
+use Rattle.commands.proofs.FailingLemmas.{batch_fails, serve_fails}
+use Rattle.commands.specs.Answered.{AreAnswered, AreServedWell}
+use Rattle.commands.specs.Batch.{RepliesOver, ServedBetween, session_ending}
+use Rattle.commands.specs.Beside.{ServedBesideWorkers, WorksBeside, ends_told}
+use Rattle.commands.specs.Opening.{Carries, LeadsTo, RunsOver, WorksUnder, ending_over}
+use Rattle.commands.specs.Ready.{CabinetIsWell, IsWellFormed}
+use Rattle.commands.specs.Runs.{Runs}
+use Rattle.commands.specs.Serving.{AreServedBeside, ServesBetween, failed_beside, serving_ending}
+use Rattle.commands.specs.Statuses.{status_of}
+use Rattle.commands.specs.Worlds.{Shelf, Told, World}
+
+-- a run that is done ended by itself
+batch_done : (end : Result SessionEnd OpenFault) → status_of (ending_over session_ending end) ≡ 0 → end ≡ Ok sessions.End
+batch_done (Ok sessions.End) is = refl
+batch_done (Ok sessions.InputFault) is = absurd (cc is)
+batch_done (Ok sessions.OutputFault) is = absurd (cc is)
+batch_done (Ok (sessions.Malformed at)) is = absurd (cc is)
+batch_done (Ok sessions.Long) is = absurd (cc is)
+batch_done (Ok sessions.NoMemory) is = absurd (cc is)
+batch_done (Err opening.Fault) is = absurd (cc is)
+batch_done (Err opening.NotAJournal) is = absurd (cc is)
+batch_done (Err (opening.Damaged at)) is = absurd (cc is)
+batch_done (Err opening.NoMemory) is = absurd (cc is)
+
+serve_done : (end : Result ServeEnd OpenFault) → status_of (ending_over serving_ending end) ≡ 0 → end ≡ Ok ends.End
+serve_done (Ok ends.End) is = refl
+serve_done (Ok ends.DoorFault) is = absurd (cc is)
+serve_done (Ok ends.NoMemory) is = absurd (cc is)
+serve_done (Err opening.Fault) is = absurd (cc is)
+serve_done (Err opening.NotAJournal) is = absurd (cc is)
+serve_done (Err (opening.Damaged at)) is = absurd (cc is)
+serve_done (Err opening.NoMemory) is = absurd (cc is)
+
+module _ {S K E C L P D : Type 0} (g : Ghosts D) (tell : World S K E C L P → Told D) where
+  -- what came of a run, from some records to some history
+  abbrev IsOver : (History → History → Type 0) → Type 0
+  IsOver Worked = (pieces : List Record) × (last : History) × Worked (reopen usual pieces) last
+
+  -- no fault joined the history
+  no_fault : (name : List ℕ) (GoesOn : List Record → History → D → D → Type 0) (Worked : History → History → Type 0) (before after : Shelf D)
+      → ¬ (Rose before.faults after.faults) → (w : WorksUnder g name GoesOn Worked before after) → fault_count w.last.events ≡ 0
+  no_fault name GoesOn Worked before after well w = ⊎_elim (λ none. none) (λ rose. absurd (well rose)) w.causes
+
+  all_answered : (name : List ℕ) (workers : ℕ) (before after : Told D) → CabinetIsWell before after
+      → RepliesOver g name workers (Ok sessions.End) before after
+      → IsOver (AreAnswered g workers (ends_told before.input before.output) (ends_told after.input after.output))
+  all_answered name zero before after well w =
+      let none = no_fault name (Carries g) (ServedBetween before.input after.input before.output after.output sessions.End)
+      before.cabinet after.cabinet well w in
+      let told = all_opened usual w.pieces w.worked.messages w.worked.replies w.last w.worked.answers in
+      (w.pieces, w.last, (w.worked, sym told ∙ none))
+  all_answered name (suc n) before after well w =
+      let came = ends_told before.input before.output in
+      let went = ends_told after.input after.output in
+      let none = no_fault name (LeadsTo g) (ServedBesideWorkers g (suc n) came went sessions.End) before.cabinet after.cabinet well w in
+      ⊎_elim
+      (λ (b : WorksBeside g (suc n) came went sessions.End (reopen usual w.pieces) w.last).
+      let few = batch_fails g (suc n) came went sessions.End (reopen usual w.pieces) w.last b in
+      (w.pieces, w.last, (b, omega (arith, few, none))))
+      (λ unbegun. absurd (cc (unbegun.0)))
+      w.worked.worked
+
+  pub batch_answers : (name : List ℕ) (workers : ℕ) (before after : World S K E C L P) → Runs g tell (Batch name workers) 0 before after
+      → CabinetIsWell (tell before) (tell after)
+      → IsOver (AreAnswered g workers (ends_told (tell before).input (tell before).output) (ends_told (tell after).input (tell after).output))
+  batch_answers name workers before after run well =
+      ⊎_elim
+      (λ none. absurd (cc (run.told.status_is ∙ ap status_of none.0)))
+      (λ did.
+      let is = batch_done did.0 (sym (run.told.status_is ∙ ap status_of did.1)) in
+      all_answered name workers (tell before) (tell after) well
+      (subst (λ (e : Result SessionEnd OpenFault). RepliesOver g name workers e (tell before) (tell after)) is did.2.over))
+      run.did
+
+  all_served : (name : List ℕ) (workers connections : ℕ) (before after : Told D) → CabinetIsWell before after
+      → RunsOver g name (LeadsTo g) (ServesBetween g workers connections before.doors after.doors) (Ok ends.End) before.cabinet after.cabinet
+      → IsOver (AreServedWell g workers after.doors.told)
+  all_served name workers connections before after well w =
+      let none = no_fault name (LeadsTo g) (ServesBetween g workers connections before.doors after.doors ends.End) before.cabinet after.cabinet well w in
+      ⊎_elim
+      (λ (s : AreServedBeside g workers after.doors.told (reopen usual w.pieces) w.last).
+      let few = serve_fails g workers after.doors.told (reopen usual w.pieces) w.last s in
+      (w.pieces, w.last, inl (s, omega (arith, few, none))))
+      (λ nobody. (w.pieces, w.last, inr nobody))
+      w.worked.served
+
+  pub serve_answers : (name : List ℕ) (port workers connections : ℕ) (before after : World S K E C L P)
+      → Runs g tell (Serve name port workers connections) 0 before after → CabinetIsWell (tell before) (tell after)
+      → IsOver (AreServedWell g workers (tell after).doors.told)
+  serve_answers name port workers connections before after run well =
+      ⊎_elim
+      (λ none. absurd (cc (run.told.status_is ∙ ap status_of none.0)))
+      (λ did.
+      let is = serve_done did.0 (sym (run.told.status_is ∙ ap status_of did.1)) in
+      all_served name workers connections (tell before) (tell after) well
+      (subst (λ (e : Result ServeEnd OpenFault). RunsOver g name (LeadsTo g) (ServesBetween g workers connections (tell before).doors (tell after).doors) e
+      (tell before).cabinet (tell after).cabinet) is did.2.over))
+      run.did
+
+-- a connection that fails nowhere, of an input that is well formed, is served to its end, unless there was no memory to begin
+pub connection_ends : (fixed : Fixed) (came went : Ends) (start : ℕ) (list : List Entry) (places : List ℕ) (served : Served fixed came went start list places)
+    → IsSomeAnd came.left IsWellFormed → IsSome came.written → ¬ (Rose came.input_faults went.input_faults)
+    → ¬ (Rose came.output_faults went.output_faults) → (served.end ≡ sessions.End) ⊎ (served.end ≡ sessions.NoMemory)
+connection_ends fixed came went start list places served formed told calm still =
+    let e = served.ends_in in
+    ends_well served.end e.messages e.replies came.left went.left came.written went.written came.input_faults went.input_faults
+    came.output_faults went.output_faults e.heard e.cause formed told calm still

@@ -4,7 +4,7 @@ use Rattle.std.proofs.Common.{refl, sym, ◌∙◌}
 use Rattle.std.proofs.lemmas.List.Folds.{list_any_none}
 use Rattle.edits.specs.declared.content.Edit.{Edit}
 use Rattle.edits.specs.declared.content.What.{What}
-use Rattle.edits.specs.declared.content.What.TheVariants.{AddStation, SetStation, PutReadings, DropReadings, FlagReadings, PutCorrection, DropCorrection, PutShift, DropShift, AddRating, PutPeriod, DropPeriod, PutEstimate, DropEstimate, PutMeasurement, DropMeasurement, Review, Decide}
+use Rattle.edits.specs.declared.content.What.TheVariants.{Review, Decide}
 use Rattle.edits.specs.declared.decisions.Decision.TheVariants.{Approve, Rescind}
 use Rattle.fixed_units.specs.Calendar.{calendar}
 use Rattle.fixed_units.specs.Quantities.{IsDay, SiteNumber, same_site}
@@ -75,22 +75,6 @@ outside b s t e = rw e refl
 
 stays_after : (at : ℤ → Standing) (number : ℕ) (by : List ℕ) (what : What) (changed : Bool) (day : ℤ) → IsDay day → is_approved (at day).status ≡ true
     → objection_of (λ d. (at d).status) by what ≡ None → rescinds what day ≡ false → after_what number by what changed day (at day) ≡ at day
-stays_after at number by (AddStation name zone gap stages discharges) changed day h a e r = unchanged changed (is_in_review (at day).status) (at day) (one_or_other (at day).status a)
-stays_after at number by (SetStation name gap stages discharges) changed day h a e r = unchanged changed (is_in_review (at day).status) (at day) (one_or_other (at day).status a)
-stays_after at number by (PutReadings readings) changed day h a e r = unchanged changed (is_in_review (at day).status) (at day) (one_or_other (at day).status a)
-stays_after at number by (DropReadings from to) changed day h a e r = unchanged changed (is_in_review (at day).status) (at day) (one_or_other (at day).status a)
-stays_after at number by (FlagReadings from to flag) changed day h a e r = unchanged changed (is_in_review (at day).status) (at day) (one_or_other (at day).status a)
-stays_after at number by (PutCorrection n instant curve prorate) changed day h a e r = unchanged changed (is_in_review (at day).status) (at day) (one_or_other (at day).status a)
-stays_after at number by (DropCorrection n instant) changed day h a e r = unchanged changed (is_in_review (at day).status) (at day) (one_or_other (at day).status a)
-stays_after at number by (PutShift instant curve prorate) changed day h a e r = unchanged changed (is_in_review (at day).status) (at day) (one_or_other (at day).status a)
-stays_after at number by (DropShift instant) changed day h a e r = unchanged changed (is_in_review (at day).status) (at day) (one_or_other (at day).status a)
-stays_after at number by (AddRating rating table) changed day h a e r = unchanged changed (is_in_review (at day).status) (at day) (one_or_other (at day).status a)
-stays_after at number by (PutPeriod period) changed day h a e r = unchanged changed (is_in_review (at day).status) (at day) (one_or_other (at day).status a)
-stays_after at number by (DropPeriod from) changed day h a e r = unchanged changed (is_in_review (at day).status) (at day) (one_or_other (at day).status a)
-stays_after at number by (PutEstimate estimate) changed day h a e r = unchanged changed (is_in_review (at day).status) (at day) (one_or_other (at day).status a)
-stays_after at number by (DropEstimate d) changed day h a e r = unchanged changed (is_in_review (at day).status) (at day) (one_or_other (at day).status a)
-stays_after at number by (PutMeasurement measurement) changed day h a e r = unchanged changed (is_in_review (at day).status) (at day) (one_or_other (at day).status a)
-stays_after at number by (DropMeasurement n) changed day h a e r = unchanged changed (is_in_review (at day).status) (at day) (one_or_other (at day).status a)
 stays_after at number by (Review from to) changed day h a e r =
     outside (spans from to day) (record { status = InReview by; edit = number }) (at day)
     (fails (spans from to day)
@@ -100,6 +84,7 @@ stays_after at number by (Decide from to Approve) changed day h a e r =
     (fails (spans from to day)
     (λ s. sym (was_reviewed (λ d. (at d).status) by from to day e h s) ∙ one_or_other (at day).status a))
 stays_after at number by (Decide from to Rescind) changed day h a e r = outside (spans from to day) worked (at day) r
+stays_after at number by _ changed day h a e r = unchanged changed (is_in_review (at day).status) (at day) (one_or_other (at day).status a)
 
 same_either : (b : Bool) (s t : Standing) → s ≡ t → (if b then s else t) ≡ t
 same_either true s t e = e

@@ -6,7 +6,7 @@ use Rattle.std.proofs.lemmas.Bool.Decides.{Decides-int_eq}
 use Rattle.std.proofs.lemmas.Option.{slice_get-get_or}
 use Rattle.edits.specs.declared.content.Edit.{Edit}
 use Rattle.edits.specs.declared.content.What.{What}
-use Rattle.edits.specs.declared.content.What.TheVariants.{AddStation, SetStation, PutReadings, DropReadings, FlagReadings, PutCorrection, DropCorrection, PutShift, DropShift, AddRating, PutPeriod, DropPeriod, PutEstimate, DropEstimate, PutMeasurement, DropMeasurement, Review, Decide}
+use Rattle.edits.specs.declared.content.What.TheVariants.{Review, Decide}
 use Rattle.edits.specs.declared.decisions.Decision.TheVariants.{Approve, Rescind}
 use Rattle.fixed_units.specs.Quantities.{SiteNumber, same_site, site_place}
 use Rattle.rising.specs.Lists.{at, put}
@@ -122,25 +122,10 @@ not_changed true = refl
 not_changed false = refl
 
 unkept_after : (number : ℕ) (by : List ℕ) (what : What) (changed : Bool) (day : ℤ) → HasRoomFor None what → worked ≡ after_what number by what changed day worked
-unkept_after number by (AddStation name zone gap stages discharges) changed day h = not_changed changed
-unkept_after number by (SetStation name gap stages discharges) changed day h = not_changed changed
-unkept_after number by (PutReadings readings) changed day h = not_changed changed
-unkept_after number by (DropReadings from to) changed day h = not_changed changed
-unkept_after number by (FlagReadings from to flag) changed day h = not_changed changed
-unkept_after number by (PutCorrection n at curve prorate) changed day h = not_changed changed
-unkept_after number by (DropCorrection n at) changed day h = not_changed changed
-unkept_after number by (PutShift at curve prorate) changed day h = not_changed changed
-unkept_after number by (DropShift at) changed day h = not_changed changed
-unkept_after number by (AddRating rating table) changed day h = not_changed changed
-unkept_after number by (PutPeriod period) changed day h = not_changed changed
-unkept_after number by (DropPeriod from) changed day h = not_changed changed
-unkept_after number by (PutEstimate estimate) changed day h = not_changed changed
-unkept_after number by (DropEstimate d) changed day h = not_changed changed
-unkept_after number by (PutMeasurement measurement) changed day h = not_changed changed
-unkept_after number by (DropMeasurement n) changed day h = not_changed changed
 unkept_after number by (Review from to) changed day h = absurd h
 unkept_after number by (Decide from to Approve) changed day h = absurd h
 unkept_after number by (Decide from to Rescind) changed day h = not_given (spans from to day)
+unkept_after number by _ changed day h = not_changed changed
 
 pub unkept : (sites : List KeptSite) (number : ℕ) (edit : Edit) (changed : Bool) (site : SiteNumber) (day : ℤ) → kept_of sites edit.site ≡ None
     → HasRoomFor (kept_of sites edit.site) edit.what → standing_in sites site day ≡ standing_after number edit changed site day (standing_in sites site day)

@@ -184,6 +184,7 @@ figures_of day = record {
   estimate = day.estimate;
   stage_array = day.stage_array;
   discharge_array = day.discharge_array;
+  least = day.least;
 }
 
 -- the value of a day is a function of its inputs alone

@@ -1,6 +1,7 @@
--- The figures of a day: its length, its counts, the sums for its stage and its discharge, its extremes, its estimate, and what is
--- published of them.
-use Rattle.std.specs.Prelude.{ℕ, ℤ, List, ◌+◌, ◌*◌, ◌≤◌, ◌==◌, if◌then◌else◌, Option, Some, None, IfSome, pos, neg_ℤ}
+-- The figures of a day: its length, its counts, the sums for its stage and its discharge, its extremes, its estimate, its least cover,
+-- and what is published of them.
+use Rattle.std.specs.Prelude.{ℕ, ℤ, List, ◌+◌, ◌*◌, ◌≤◌, nat_le, if◌then◌else◌, Option, Some, None, IfSome, pos, neg_ℤ}
+use Rattle.editions.specs.Covers.{IsLeastCover, need}
 use Rattle.unit_discharge.specs.Unit.{most_corrected}
 use Rattle.fixed_units.specs.Published.{published}
 use Rattle.fixed_units.specs.Quantities.{IsDischarge, IsWithin, most_discharge}
@@ -20,6 +21,7 @@ pub record DayFigures : Type 0 where
   pub estimate : Option ℤ
   pub stage_array : List ℕ
   pub discharge_array : List ℕ
+  pub least : Option ℕ
 
 -- a value, where there is one, is at most so far below 0 and at most so far above it
 abbrev pub IsValueWithin : ℕ → ℕ → Option ℤ → Type 0
@@ -38,7 +40,7 @@ pub record AreCounts (seconds : ℕ) (counts : Counts) : Type 0 where
   pub missing : counts.affected + counts.no_rating + counts.below + counts.above ≤ counts.readings
 
 -- what every day's figures keep to: a day of 20 to 28 hours, no more readings than it has seconds, no more covered than it is long,
--- a sum of corrected stages, and one of discharges, and an estimate that is a discharge
+-- a sum of corrected stages, and one of discharges, an estimate that is a discharge, and a least cover of 1 to 1,440 minutes
 pub record AreFigures (figures : DayFigures) : Type 0 where
   pub shortest : shortest_day ≤ figures.length
   pub longest : figures.length ≤ longest_day
@@ -48,16 +50,21 @@ pub record AreFigures (figures : DayFigures) : Type 0 where
   pub stage : IsSumWithin most_corrected most_corrected figures.stage
   pub discharge : IsSumWithin 0 most_discharge figures.discharge
   pub estimate : IfSome figures.estimate IsDischarge
+  pub least : IfSome figures.least IsLeastCover
 
--- a mean, published by a rounding array, which is there exactly where the whole day is covered: the area over the length
+-- a mean, published by a rounding array, which is there exactly where its cover is at least the need: the area over the cover
 abbrev pub mean : List ℕ → Sum → ℕ → Option Published
-mean array sum length = if sum.covered == length then Some (published array sum.twice (pos (2 * length))) else None
+mean array sum needed = if nat_le needed sum.covered then Some (published array sum.twice (pos (2 * sum.covered))) else None
+
+-- how many seconds each mean of a day needs
+abbrev pub needed : DayFigures → ℕ
+needed figures = need figures.length figures.least
 
 abbrev pub mean_stage : DayFigures → Option Published
-mean_stage figures = mean figures.stage_array figures.stage figures.length
+mean_stage figures = mean figures.stage_array figures.stage (needed figures)
 
 abbrev pub mean_discharge : DayFigures → Option Published
-mean_discharge figures = mean figures.discharge_array figures.discharge figures.length
+mean_discharge figures = mean figures.discharge_array figures.discharge (needed figures)
 
 -- the published discharge: the estimate where one stands, else the mean
 abbrev pub discharge_by : List ℕ → Option ℤ → Option Published → Option Published

@@ -1,9 +1,12 @@
 //! The value of a day.
 
 ghost use Rattle.std.specs.Prelude.{◌≡◌, ◌+◌, ◌≤◌};
+ghost use Rattle.fixed_units.specs.Calendar.{longest_day};
+ghost use Rattle.fixed_units.specs.Quantities.{most_millionths};
 ghost use Rattle.day_inputs.specs.DayInputs.{AreInputs, AreParts};
 ghost use Rattle.daily_values.specs.DayValue.{day_value, discharge_point, stage_point, sum_of};
 ghost use Rattle.daily_values.specs.DayValue as values;
+ghost use Rattle.daily_values.specs.Figures.{IsSumWithin, mean};
 ghost use Rattle.day_inputs.specs.declared.day_inputs.DayParts.{DayParts};
 
 use crate::counts::Counts;
@@ -12,6 +15,7 @@ use crate::sums::{Sum, day_length};
 use crate::totals::totals_of;
 use chronicle::Steps;
 use day_inputs::{DayInputs, DayParts};
+use editions::need;
 use fixed_units::{Micro, Published, RoundingArray, publish};
 use std::marker::Model;
 use std::sync::ledger::Ledger;
@@ -35,6 +39,8 @@ pub struct Figures {
     stage_array: RoundingArray,
     /// The rounding array for discharges.
     discharge_array: RoundingArray,
+    /// The least cover in minutes from which on a mean is published, 1 to 1,440; without one the whole day is needed.
+    least: Option<u32>,
 }
 
 impl Model for Figures {
@@ -42,11 +48,11 @@ impl Model for Figures {
 
     ghost Value = { DayFigures };
 
-    ghost view = { λ f. record { length = f.length; counts = f.counts; stage = f.stage; discharge = f.discharge; extremes = f.extremes; estimate = f.estimate; stage_array = f.stage_array; discharge_array = f.discharge_array } };
+    ghost view = { λ f. record { length = f.length; counts = f.counts; stage = f.stage; discharge = f.discharge; extremes = f.extremes; estimate = f.estimate; stage_array = f.stage_array; discharge_array = f.discharge_array; least = f.least } };
 
-    ghost invariant = { λ f. AreFigures (record { length = f.length; counts = f.counts; stage = f.stage; discharge = f.discharge; extremes = f.extremes; estimate = f.estimate; stage_array = f.stage_array; discharge_array = f.discharge_array }) };
+    ghost invariant = { λ f. AreFigures (record { length = f.length; counts = f.counts; stage = f.stage; discharge = f.discharge; extremes = f.extremes; estimate = f.estimate; stage_array = f.stage_array; discharge_array = f.discharge_array; least = f.least }) };
 
-    ghost inverse = { λ f. record { length = f.length; counts = f.counts; stage = f.stage; discharge = f.discharge; extremes = f.extremes; estimate = f.estimate; stage_array = f.stage_array; discharge_array = f.discharge_array } };
+    ghost inverse = { λ f. record { length = f.length; counts = f.counts; stage = f.stage; discharge = f.discharge; extremes = f.extremes; estimate = f.estimate; stage_array = f.stage_array; discharge_array = f.discharge_array; least = f.least } };
 }
 
 /// The value of a day.
@@ -86,6 +92,7 @@ fn figures_of(parts: &DayParts) -> Figures
         estimate: parts.estimate,
         stage_array: parts.stage_array,
         discharge_array: parts.discharge_array,
+        least: parts.least,
     }
 }
 
@@ -102,10 +109,10 @@ pub fn covers_at_most_the_day()
 {}
 
 impl Figures {
-    ghost use Rattle.std.specs.Prelude.{◌≡◌};
-    ghost use Rattle.daily_values.specs.Figures.{mean_stage, mean_discharge, published_discharge, AreFigures};
+    ghost use Rattle.std.specs.Prelude.{◌≡◌, ◌≤◌};
+    ghost use Rattle.daily_values.specs.Figures.{mean_stage, mean_discharge, needed, published_discharge, AreFigures};
 
-    /// The figures of a day of so many seconds with these counts, sums and extremes, and this estimate.
+    /// The figures of a day of so many seconds with these counts, sums and extremes, this estimate and this least cover.
     pub(crate) fn new(
         length: u32,
         counts: Counts,
@@ -115,9 +122,10 @@ impl Figures {
         estimate: Option<Micro>,
         stage_array: RoundingArray,
         discharge_array: RoundingArray,
+        least: Option<u32>,
     ) -> Figures
-        requires { AreFigures (record { length = length; counts = counts; stage = stage; discharge = discharge; extremes = extremes; estimate = estimate; stage_array = stage_array; discharge_array = discharge_array }) }
-        ensures { result ≡ record { length = length; counts = counts; stage = stage; discharge = discharge; extremes = extremes; estimate = estimate; stage_array = stage_array; discharge_array = discharge_array } }
+        requires { AreFigures (record { length = length; counts = counts; stage = stage; discharge = discharge; extremes = extremes; estimate = estimate; stage_array = stage_array; discharge_array = discharge_array; least = least }) }
+        ensures { result ≡ record { length = length; counts = counts; stage = stage; discharge = discharge; extremes = extremes; estimate = estimate; stage_array = stage_array; discharge_array = discharge_array; least = least } }
     {
         Figures {
             length,
@@ -128,6 +136,7 @@ impl Figures {
             estimate,
             stage_array,
             discharge_array,
+            least,
         }
     }
 
@@ -178,18 +187,27 @@ impl Figures {
         self.estimate
     }
 
-    /// The published mean stage, exactly where the stages cover the whole day.
+    /// The least cover in minutes that is in force, 1 to 1,440, or `None` where the whole day is needed or the day has no window.
+    pub fn least(&self) -> Option<u32>
+        ensures least { result ≡ self.now.least }
+        ensures figures { AreFigures self.now }
+    {
+        self.least
+    }
+
+    /// How many seconds of the day each mean needs to cover.
+    pub fn need(&self) -> u32
+        ensures need { result ≡ needed self.now }
+        ensures some { 1 ≤ result }
+    {
+        need(self.length, self.least)
+    }
+
+    /// The published mean stage, exactly where the stages cover what a mean needs.
     pub fn stage_text(&self) -> Option<Published>
         ensures { result ≡ mean_stage self.now }
     {
-        if self.stage.covered != self.length {
-            return None;
-        }
-        Some(publish(
-            self.stage.twice,
-            2 * i128::from(self.length),
-            &self.stage_array,
-        ))
+        mean(&self.stage, self.need(), &self.stage_array)
     }
 
     /// The published discharge: the estimate where one stands, else the mean.
@@ -202,17 +220,23 @@ impl Figures {
         }
     }
 
-    /// The published mean of the discharges, exactly where they cover the whole day.
+    /// The published mean of the discharges, exactly where they cover what a mean needs.
     pub fn mean_discharge(&self) -> Option<Published>
         ensures { result ≡ mean_discharge self.now }
     {
-        if self.discharge.covered != self.length {
-            return None;
-        }
-        Some(publish(
-            self.discharge.twice,
-            2 * i128::from(self.length),
-            &self.discharge_array,
-        ))
+        mean(&self.discharge, self.need(), &self.discharge_array)
     }
+}
+
+/// The published mean of a sum, exactly where it covers at least the seconds that are needed.
+fn mean(sum: &Sum, needed: u32, array: &RoundingArray) -> Option<Published>
+    requires some { 1 ≤ needed }
+    requires few { sum.now.covered ≤ longest_day }
+    requires within { IsSumWithin most_millionths most_millionths sum.now }
+    ensures { result ≡ mean array.now sum.now needed }
+{
+    if sum.covered < needed {
+        return None;
+    }
+    Some(publish(sum.twice, 2 * i128::from(sum.covered), array))
 }

@@ -3,6 +3,7 @@
 
 ghost use Rattle.std.specs.List.{list_any};
 ghost use Rattle.std.specs.Prelude.{◌≡◌, ◌*◌, ◌≤◌, ◌++◌, ◌&&◌, ℕ, pos, ◌-ℤ◌, ◌≤ℤ◌, ◌<ℤ◌, int_lt, map, sum_by, int_le, not, is_some, All, find, reverse, option_to_list, IfOk, IfSome, OnOk};
+ghost use Rattle.editions.specs.Covers.{IsLeastCover};
 ghost use Rattle.fixed_units.specs.Quantities.{IsDischarge, IsStage, IsStamp, most_discharge, most_gap};
 ghost use Rattle.unit_discharge.specs.Unit.{most_corrected};
 ghost use Rattle.curves.specs.Entries.{IsSeries};
@@ -34,8 +35,8 @@ use std::alloc::Global;
 use unit_discharge::Unit;
 
 /// The value of the day from `from` until `until`, 20 to 28 hours later, of a station with a gap tolerance of 1 to 720
-/// minutes, these rounding arrays, correction sets, shifts, ratings and readings at stamps, rising by instant, and with this
-/// estimate of its mean discharge, if one stands.
+/// minutes, these rounding arrays, correction sets, shifts, ratings and readings at stamps, rising by instant, with this
+/// estimate of its mean discharge, if one stands, and this least cover, if one is in force.
 pub fn day_value(
     alloc: Global,
     settings: Settings,
@@ -46,6 +47,7 @@ pub fn day_value(
     ratings: &Ratings,
     readings: &[Reading],
     estimate: Option<Micro>,
+    least: Option<u32>,
 ) -> Result<DayValue, NoMemory>
     requires gap_low { 1 ≤ settings.gap }
     requires gap_high { settings.gap ≤ most_gap }
@@ -58,7 +60,8 @@ pub fn day_value(
     requires stamps { All (λ r. IsStamp r.at) readings.now }
     requires stages { All (λ r. IsStage r.raw) readings.now }
     requires estimate { IfSome estimate IsDischarge }
-    ensures { IfOk result (λ v. v ≡ values.day_value (inputs.day_inputs settings.gap settings.stage_array settings.discharge_array from until (entries_of corrections.now) shifts.now.series.entries ratings.now.ratings readings.now estimate)) }
+    requires least { IfSome least IsLeastCover }
+    ensures { IfOk result (λ v. v ≡ values.day_value (inputs.day_inputs settings.gap settings.stage_array settings.discharge_array from until (entries_of corrections.now) shifts.now.series.entries ratings.now.ratings readings.now estimate least)) }
 {
     let window = window(alloc, settings.gap, from, until, readings)?;
     let inputs = with_window(
@@ -71,6 +74,7 @@ pub fn day_value(
         ratings,
         window,
         estimate,
+        least,
     )?;
     match &inputs {
         DayInputs::Empty => Ok(DayValue::Empty),
@@ -92,6 +96,7 @@ fn value_of_parts(alloc: Global, parts: &DayParts) -> Result<DayValue, NoMemory>
         parts.estimate,
         parts.stage_array,
         parts.discharge_array,
+        parts.least,
     )))
 }
 

@@ -5,6 +5,7 @@ use Rattle.std.specs.Bool.{Decides}
 use Rattle.std.proofs.Common.{refl, ap, sym, subst}
 use Rattle.std.proofs.lemmas.Slice.Eq.{bytes_eq-Decides}
 use Rattle.std.proofs.lemmas.Bool.Decides.{Decides-eqb, Decides-int_eq, Decides-and, Decides-like}
+use Rattle.editions.proofs.CoverLemmas.{leasts_decide}
 use Rattle.readings.proofs.EqualityLemmas.{lists_decide}
 use Rattle.curves.proofs.EqualityLemmas.{lists_decide as entries_decide}
 use Rattle.ratings.proofs.PartEqualityLemmas.{lists_decide as periods_decide}
@@ -23,19 +24,19 @@ estimates_decide (Some a) (Some b) = Decides-like _ (λ e. ap Some e) (λ e. cc)
 -- the parts in their order
 abbrev pub AreSame : DayParts → DayParts → Type 0
 AreSame p q =
-    (p.gap ≡ q.gap) × ((p.stage_array ≡ q.stage_array) × ((p.discharge_array ≡ q.discharge_array) × ((p.from ≡ q.from) × ((p.until ≡ q.until) × ((p.window ≡ q.window) × ((p.first ≡ q.first) × ((p.second ≡ q.second) × ((p.third ≡ q.third) × ((p.shifts ≡ q.shifts) × ((p.periods ≡ q.periods) × (p.estimate ≡ q.estimate)))))))))))
+    (p.gap ≡ q.gap) × ((p.stage_array ≡ q.stage_array) × ((p.discharge_array ≡ q.discharge_array) × ((p.from ≡ q.from) × ((p.until ≡ q.until) × ((p.window ≡ q.window) × ((p.first ≡ q.first) × ((p.second ≡ q.second) × ((p.third ≡ q.third) × ((p.shifts ≡ q.shifts) × ((p.periods ≡ q.periods) × ((p.estimate ≡ q.estimate) × (p.least ≡ q.least))))))))))))
 
 abbrev remade : DayParts → DayParts
-remade p = record { gap = p.gap; stage_array = p.stage_array; discharge_array = p.discharge_array; from = p.from; until = p.until; window = p.window; first = p.first; second = p.second; third = p.third; shifts = p.shifts; periods = p.periods; estimate = p.estimate }
+remade p = record { gap = p.gap; stage_array = p.stage_array; discharge_array = p.discharge_array; from = p.from; until = p.until; window = p.window; first = p.first; second = p.second; third = p.third; shifts = p.shifts; periods = p.periods; estimate = p.estimate; least = p.least }
 
 pub from_parts : (p q : DayParts) → AreSame p q → p ≡ q
 from_parts p q h =
     let e : remade p ≡ remade q =
-    rw (h.0, h.1.0, h.1.1.0, h.1.1.1.0, h.1.1.1.1.0, h.1.1.1.1.1.0, h.1.1.1.1.1.1.0, h.1.1.1.1.1.1.1.0, h.1.1.1.1.1.1.1.1.0, h.1.1.1.1.1.1.1.1.1.0, h.1.1.1.1.1.1.1.1.1.1.0, h.1.1.1.1.1.1.1.1.1.1.1) refl in
+    rw (h.0, h.1.0, h.1.1.0, h.1.1.1.0, h.1.1.1.1.0, h.1.1.1.1.1.0, h.1.1.1.1.1.1.0, h.1.1.1.1.1.1.1.0, h.1.1.1.1.1.1.1.1.0, h.1.1.1.1.1.1.1.1.1.0, h.1.1.1.1.1.1.1.1.1.1.0, h.1.1.1.1.1.1.1.1.1.1.1.0, h.1.1.1.1.1.1.1.1.1.1.1.1) refl in
     e
 
 pub to_parts : (p q : DayParts) → p ≡ q → AreSame p q
-to_parts p q e = (ap (λ (x : DayParts). x.gap) e, (ap (λ (x : DayParts). x.stage_array) e, (ap (λ (x : DayParts). x.discharge_array) e, (ap (λ (x : DayParts). x.from) e, (ap (λ (x : DayParts). x.until) e, (ap (λ (x : DayParts). x.window) e, (ap (λ (x : DayParts). x.first) e, (ap (λ (x : DayParts). x.second) e, (ap (λ (x : DayParts). x.third) e, (ap (λ (x : DayParts). x.shifts) e, (ap (λ (x : DayParts). x.periods) e, ap (λ (x : DayParts). x.estimate) e)))))))))))
+to_parts p q e = (ap (λ (x : DayParts). x.gap) e, (ap (λ (x : DayParts). x.stage_array) e, (ap (λ (x : DayParts). x.discharge_array) e, (ap (λ (x : DayParts). x.from) e, (ap (λ (x : DayParts). x.until) e, (ap (λ (x : DayParts). x.window) e, (ap (λ (x : DayParts). x.first) e, (ap (λ (x : DayParts). x.second) e, (ap (λ (x : DayParts). x.third) e, (ap (λ (x : DayParts). x.shifts) e, (ap (λ (x : DayParts). x.periods) e, (ap (λ (x : DayParts). x.estimate) e, ap (λ (x : DayParts). x.least) e))))))))))))
 
 pub Decides-same_members : (p q : DayParts) → Decides (same_members p q) (p ≡ q)
 Decides-same_members p q =
@@ -51,7 +52,8 @@ Decides-same_members p q =
     (Decides-and _ _ (entries_decide p.third q.third)
     (Decides-and _ _ (entries_decide p.shifts q.shifts)
     (Decides-and _ _ (periods_decide p.periods q.periods)
-    (estimates_decide p.estimate q.estimate))))))))))))
+    (Decides-and _ _ (estimates_decide p.estimate q.estimate)
+    (leasts_decide p.least q.least)))))))))))))
 
 day_from : (p q : DayParts) → p ≡ q → Day p ≡ Day q
 day_from p q e = ap Day e

@@ -8,6 +8,7 @@ use Rattle.rising.specs.Ends.{first, last}
 use Rattle.rising.proofs.Ends.{last-cons}
 use Rattle.curves.specs.declared.entries.Entry.{Entry}
 use Rattle.curves.specs.Corrections.{Corrections, AreCorrections}
+use Rattle.editions.specs.Covers.{IsLeastCover}
 use Rattle.curves.specs.Entries.{IsSeries}
 use Rattle.curves.proofs.SeriesLemmas.{bearing_series}
 use Rattle.fixed_units.specs.Quantities.{IsDischarge, IsStage, IsStamp, most_gap}
@@ -61,34 +62,34 @@ pub and_false : (b : Bool) → (b && false) ≡ false
 and_false true = refl
 and_false false = refl
 
-module _ (gap : ℕ) (stages discharges : List ℕ) (from until : ℤ) (c : Corrections) (shifts : List Entry) (ratings : StationRatings) (estimate : Option ℤ) where
+module _ (gap : ℕ) (stages discharges : List ℕ) (from until : ℤ) (c : Corrections) (shifts : List Entry) (ratings : StationRatings) (estimate : Option ℤ) (least : Option ℕ) where
   -- the inputs of a day of this window, with what counts for this time
   abbrev pub parts_with : List Reading → Option (ℤ × ℤ) → DayParts
-  parts_with w span = parts_of gap stages discharges from until c shifts ratings estimate w span
+  parts_with w span = parts_of gap stages discharges from until c shifts ratings estimate least w span
 
-  pub no_inputs : (w : List Reading) → window_ends w ≡ None → estimate ≡ None → Empty ≡ with_window gap stages discharges from until c shifts ratings w estimate
+  pub no_inputs : (w : List Reading) → window_ends w ≡ None → estimate ≡ None → Empty ≡ with_window gap stages discharges from until c shifts ratings w estimate least
   no_inputs [] e f = rw f refl
   no_inputs (r ∷ rs) e f = absurd (cc)
 
-  pub by_ends : (w : List Reading) → (is_none (window_ends w) && is_none estimate) ≡ false → Day (parts_with w (window_ends w)) ≡ with_window gap stages discharges from until c shifts ratings w estimate
+  pub by_ends : (w : List Reading) → (is_none (window_ends w) && is_none estimate) ≡ false → Day (parts_with w (window_ends w)) ≡ with_window gap stages discharges from until c shifts ratings w estimate least
   by_ends (r ∷ rs) h = refl
   by_ends [] h = without estimate refl h
     where
-      without : (q : Option ℤ) → estimate ≡ q → is_none q ≡ false → Day (parts_with [] None) ≡ with_window gap stages discharges from until c shifts ratings [] estimate
+      without : (q : Option ℤ) → estimate ≡ q → is_none q ≡ false → Day (parts_with [] None) ≡ with_window gap stages discharges from until c shifts ratings [] estimate least
       without None e h = absurd (cc)
       without (Some q) e h = rw e refl
 
   -- the same with the lists that were copied from the series
   pub made : (w : List Reading) (p : DayParts) → (is_none (window_ends w) && is_none estimate) ≡ false → AreSame p (parts_with w (window_ends w))
-      → Day p ≡ with_window gap stages discharges from until c shifts ratings w estimate
+      → Day p ≡ with_window gap stages discharges from until c shifts ratings w estimate least
   made w p h same = ap Day (from_parts p (parts_with w (window_ends w)) same) ∙ by_ends w h
 
   -- the inputs of a day keep to what they must, where the window, the series and the estimate do
-  pub inputs_kept : 1 ≤ gap → gap ≤ most_gap → pos shortest_day ≤ℤ (until -ℤ from) → (until -ℤ from) ≤ℤ pos longest_day → AreCorrections c → IsSeries shifts → AreRatings ratings → IfSome estimate IsDischarge
-      → (w : List Reading) → IsRising w → All (λ r. IsStage r.raw) w → AreInputs (with_window gap stages discharges from until c shifts ratings w estimate)
-  inputs_kept low high short long corrections series rated estimated [] rising stage = kept estimate refl
+  pub inputs_kept : 1 ≤ gap → gap ≤ most_gap → pos shortest_day ≤ℤ (until -ℤ from) → (until -ℤ from) ≤ℤ pos longest_day → AreCorrections c → IsSeries shifts → AreRatings ratings → IfSome estimate IsDischarge → IfSome least IsLeastCover
+      → (w : List Reading) → IsRising w → All (λ r. IsStage r.raw) w → AreInputs (with_window gap stages discharges from until c shifts ratings w estimate least)
+  inputs_kept low high short long corrections series rated estimated needed [] rising stage = kept estimate refl
     where
-      kept : (q : Option ℤ) → estimate ≡ q → AreInputs (with_window gap stages discharges from until c shifts ratings [] estimate)
+      kept : (q : Option ℤ) → estimate ≡ q → AreInputs (with_window gap stages discharges from until c shifts ratings [] estimate least)
       kept None e = rw e tt
       kept (Some q) e = rw e (record {
         gap_low = low;
@@ -103,8 +104,9 @@ module _ (gap : ℕ) (stages discharges : List ℕ) (from until : ℤ) (c : Corr
         shifts = no_entries;
         periods = no_parts;
         estimate = subst (λ (x : Option ℤ). IfSome x IsDischarge) e estimated;
+        least = tt;
       })
-  inputs_kept low high short long corrections series rated estimated (r ∷ rs) rising stage = record {
+  inputs_kept low high short long corrections series rated estimated needed (r ∷ rs) rising stage = record {
     gap_low = low;
     gap_high = high;
     shortest = short;
@@ -117,4 +119,5 @@ module _ (gap : ℕ) (stages discharges : List ℕ) (from until : ℤ) (c : Corr
     shifts = bearing_series r.at (last_at r rs) shifts series;
     periods = parts_are r.at (last_at r rs) ratings rated (first_to_last r rs rising);
     estimate = estimated;
+    least = needed;
   }

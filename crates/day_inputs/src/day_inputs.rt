@@ -35,6 +35,9 @@ pub struct DayParts {
     pub periods: PartList,
     /// The mean discharge as a person estimates it, in millionths of a cubic foot per second: 0 to 10,000,000 cubic feet per second.
     pub estimate: Option<Micro>,
+    /// The least cover in minutes from which on a mean is published, 1 to 1,440; without one, and where the window is empty, the whole
+    /// day is needed.
+    pub least: Option<u32>,
 }
 
 /// The inputs of a day.

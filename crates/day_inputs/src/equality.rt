@@ -36,7 +36,7 @@ fn are_same_parts(parts: &DayParts, others: &DayParts) -> bool
         && are_same_contents(parts, others)
 }
 
-/// Whether the windows, the entries, the rating periods and the estimates of two days are equal.
+/// Whether the windows, the entries, the rating periods, the estimates and the least covers of two days are equal.
 fn are_same_contents(parts: &DayParts, others: &DayParts) -> bool
     ensures { result ≡ same_contents parts.now others.now }
 {
@@ -47,4 +47,5 @@ fn are_same_contents(parts: &DayParts, others: &DayParts) -> bool
         && curves::are_same(parts.shifts.as_slice(), others.shifts.as_slice())
         && ratings::are_same(parts.periods.as_slice(), others.periods.as_slice())
         && parts.estimate == others.estimate
+        && parts.least == others.least
 }

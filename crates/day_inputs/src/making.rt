@@ -1,13 +1,13 @@
 //! The inputs of a day, made of its window and of its station's series and ratings.
 
-ghost use Rattle.std.specs.Prelude.{◌≡◌, All, IfOk, IfSome, List, None};
+ghost use Rattle.std.specs.Prelude.{◌≡◌, All, IfOk, IfSome, List, None, Option, ℕ};
 ghost use Rattle.fixed_units.specs.Quantities.{IsStamp};
 ghost use Rattle.rising.specs.Ends.{first, last};
 ghost use Rattle.curves.specs.declared.entries.Entry.{Entry};
 ghost use Rattle.curves.specs.Bearing.{bearing};
 ghost use Rattle.curves.specs.Corrections.{Corrections, entries_of};
 ghost use Rattle.curves.specs.Equality.{same_entries};
-ghost use Rattle.day_inputs.specs.DayInputs.{bearing_on, ends_of, parts_on, window_ends, with_window};
+ghost use Rattle.day_inputs.specs.DayInputs.{bearing_on, ends_of, least_on, parts_on, window_ends, with_window};
 ghost use Rattle.day_inputs.specs.Equality.{has_rules, has_rules_on};
 ghost use Rattle.ratings.specs.Numbered.{StationRatings};
 
@@ -30,7 +30,8 @@ pub struct Settings {
 }
 
 /// The inputs of the day from `from` until `until`, of a station with these settings, correction sets, shifts and ratings, which has
-/// this window of stamps and this estimate, if there is one: `Empty` exactly where the window is empty and no estimate stands.
+/// this window of stamps and this estimate, if there is one, and for which this least cover is in force, if there is one: `Empty`
+/// exactly where the window is empty and no estimate stands. The least cover counts only where there is a window.
 pub fn with_window(
     alloc: Global,
     settings: Settings,
@@ -41,9 +42,10 @@ pub fn with_window(
     ratings: &Ratings,
     window: Vec<Reading>,
     estimate: Option<Micro>,
+    least: Option<u32>,
 ) -> Result<DayInputs, NoMemory>
     requires { All (λ r. IsStamp r.at) window.items }
-    ensures { IfOk result (λ inputs. inputs ≡ with_window settings.gap settings.stage_array settings.discharge_array from until (entries_of corrections.now) shifts.now.series.entries ratings.now.ratings window.items estimate) }
+    ensures { IfOk result (λ inputs. inputs ≡ with_window settings.gap settings.stage_array settings.discharge_array from until (entries_of corrections.now) shifts.now.series.entries ratings.now.ratings window.items estimate least) }
 {
     let span = ends(window.as_slice());
     if span.is_none() && estimate.is_none() {
@@ -62,7 +64,18 @@ pub fn with_window(
         periods: cut_parts(alloc, ratings, span)?,
         window: ReadingList::from_vec(window),
         estimate,
+        least: least_of(least, span),
     }))
+}
+
+/// The least cover that counts for the time between two instants: none without that time.
+fn least_of(least: Option<u32>, span: Option<(Second, Second)>) -> Option<u32>
+    ensures { result ≡ least_on span least }
+{
+    match span {
+        Some(_) => least,
+        None => None,
+    }
 }
 
 /// The entries of a series that bear on the time between two instants: none without that time.
@@ -94,15 +107,16 @@ fn cut_parts(
     }
 }
 
-/// Whether the entries of a day are those of these correction sets and shifts that bear on its window, and its rating periods those of
-/// these ratings that meet it, cut to it; without a window there are to be none. It takes no memory.
+/// Whether the entries of a day are those of these correction sets and shifts that bear on its window, its rating periods those of these
+/// ratings that meet it, cut to it, and its least cover is this one; without a window there are to be none. It takes no memory.
 pub fn has_rules(
     corrections: &CorrectionSets,
     shifts: &Shifts,
     ratings: &Ratings,
+    least: Option<u32>,
     parts: &DayParts,
 ) -> bool
-    ensures { result ≡ has_rules (entries_of corrections.now) shifts.now.series.entries ratings.now.ratings parts.now }
+    ensures { result ≡ has_rules (entries_of corrections.now) shifts.now.series.entries ratings.now.ratings least parts.now }
 {
     match ends(parts.window.as_slice()) {
         Some((lo, hi)) => {
@@ -111,6 +125,7 @@ pub fn has_rules(
                 && bears(corrections.set(3), lo, hi, &parts.third)
                 && bears(shifts.series(), lo, hi, &parts.shifts)
                 && ratings.has_parts(lo, hi, parts.periods.as_slice())
+                && parts.least == least
         }
         None => has_no_rules(parts),
     }
@@ -123,15 +138,16 @@ fn bears(series: &Series, lo: Second, hi: Second, list: &EntryList) -> bool
     curves::are_same(list.as_slice(), series.bearing_entries(lo, hi))
 }
 
-/// Whether a day has no entries and no rating periods.
+/// Whether a day has no entries, no rating periods and no least cover.
 fn has_no_rules(parts: &DayParts) -> bool
-    ensures { (corrections : Corrections) → (shifts : List Entry) → (ratings : StationRatings) → result ≡ has_rules_on corrections shifts ratings parts.now None }
+    ensures { (corrections : Corrections) → (shifts : List Entry) → (ratings : StationRatings) → (least : Option ℕ) → result ≡ has_rules_on corrections shifts ratings least parts.now None }
 {
     parts.first.as_slice().is_empty()
         && parts.second.as_slice().is_empty()
         && parts.third.as_slice().is_empty()
         && parts.shifts.as_slice().is_empty()
         && parts.periods.as_slice().is_empty()
+        && parts.least.is_none()
 }
 
 /// The instants of the first and the last reading of a window, or `None` exactly where it is empty.

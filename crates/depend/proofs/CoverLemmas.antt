@@ -1,5 +1,5 @@
 -- The days that are compared cover the interval of what is touched.
-use Rattle.std.specs.Prelude.{◌≡◌, ℕ, Bool, true, false, cond, ◌&&◌, List, [], ◌∷◌, All, IfSome, ◌⊎◌, Option, Some, None, ℤ, pos, ◌+ℤ◌, ◌-ℤ◌, ◌≤ℤ◌, ◌<ℤ◌, int_le, int_lt}
+use Rattle.std.specs.Prelude.{◌≡◌, ◌≢◌, ℕ, Bool, true, false, cond, ◌&&◌, List, [], ◌∷◌, All, IfSome, ◌⊎◌, Option, Some, None, ℤ, pos, ◌+ℤ◌, ◌-ℤ◌, ◌≤ℤ◌, ◌<ℤ◌, int_le, int_lt}
 use Rattle.std.specs.Int.{int_max, int_min}
 use Rattle.std.specs.List.{list_any}
 use Rattle.std.specs.Ordering.{int_eq}
@@ -18,7 +18,7 @@ use Rattle.civil_days.specs.Starts.{IsZone, IsIn, day_start_of, calendar_end}
 use Rattle.civil_days.proofs.RiseLemmas.{rise, zone_steps, zone_lengths}
 use Rattle.edits.specs.Lawful.{IsLawful, IsPutPeriod, IsPutReading}
 use Rattle.edits.specs.declared.content.What.{What}
-use Rattle.edits.specs.declared.content.What.TheVariants.{PutReadings, DropReadings, FlagReadings, PutCorrection, DropCorrection, PutShift, DropShift, PutPeriod, DropPeriod}
+use Rattle.edits.specs.declared.content.What.TheVariants.{PutReadings, DropReadings, FlagReadings, PutCorrection, DropCorrection, PutShift, DropShift, PutPeriod, DropPeriod, SetEdition}
 use Rattle.readings.specs.Readings.{in_span, is_within}
 use Rattle.ratings.specs.Numbered.{period_from}
 use Rattle.ratings.specs.Periods.{begin}
@@ -31,7 +31,7 @@ use Rattle.station_inputs.specs.declared.series.StationSeries.TheVariants.{Corre
 use Rattle.office_inputs.specs.Touched.{is_filled, is_between_filled, in_reach, touched_by, meets, most_gap_seconds, IsUsedSpan}
 use Rattle.station_inputs.specs.Touched.{about_dropped_period, about_entry, about_period, about_span, between_readings, end_or_last, later_end, period_end, touched_at}
 use Rattle.station_inputs.specs.declared.touched.Touched.TheVariants.{Between}
-use Rattle.depend.specs.Compared.{IsCover, AreCompared}
+use Rattle.depend.specs.Compared.{AreCompared, IsAfter, IsCover}
 use Rattle.depend.proofs.EntryLemmas.{entry_stamps, from_of, series_has, until_of}
 
 -- the starts of days
@@ -59,12 +59,6 @@ pub record IsBefore (day before : ℤ) : Type 0 where
   pub other : IsDay before
   pub one : first_day <ℤ day → before ≡ day -ℤ pos 1
   pub end : day ≡ first_day → before ≡ first_day
-
-pub record IsAfter (day after : ℤ) : Type 0 where
-  pub own : IsDay day
-  pub other : IsDay after
-  pub one : day <ℤ last_day → after ≡ day +ℤ pos 1
-  pub end : day ≡ last_day → after ≡ last_day
 
 -- a day of a number that is clipped to the calendar
 pub record IsClipped (number day : ℤ) : Type 0 where
@@ -386,26 +380,27 @@ dropped_between : (o : Option Span) (from until : ℤ) (cells : Bool) → ((q : 
 dropped_between None from until cells k e = absurd (cc)
 dropped_between (Some q) from until cells k e = let h = k q refl in period_between q.from (period_end q) from until cells h.begins (end_stamp q.until h.ends) e
 
-stamps_at : (s : StationState) (what : What) (from until : ℤ) (cells : Bool) → IsStation s → IsLawful what → touched_at s what ≡ Between from until cells
+stamps_at : (s : StationState) (what : What) (from until : ℤ) (cells : Bool) → IsStation s → IsLawful what → ((day : ℤ) (least : Option ℕ) → what ≢ SetEdition day least) → touched_at s what ≡ Between from until cells
     → IsStamp from × IsStamp until
-stamps_at s (PutReadings readings) from until cells k l e =
+stamps_at s (PutReadings readings) from until cells k l n e =
     let all = All-weaker IsPutReading (λ (r : Reading). IsStamp r.at) (λ r k. k.stamp) readings l.each in
     between_stamps (first readings) (last readings) from until cells
     (λ r f. first-kept (λ (r : Reading). IsStamp r.at) readings r all f) (λ r f. last-kept (λ (r : Reading). IsStamp r.at) readings r all f) e
-stamps_at s (DropReadings a b) from until cells k l e = span_between s a b from until cells k e
-stamps_at s (FlagReadings a b flag) from until cells k l e = span_between s a b from until cells k e
-stamps_at s (PutCorrection set at curve prorate) from until cells k l e = series_between s (Correction set) at from until cells k l.1 e
-stamps_at s (DropCorrection set at) from until cells k l e = series_between s (Correction set) at from until cells k l.1 e
-stamps_at s (PutShift at curve prorate) from until cells k l e = series_between s Shift at from until cells k l.0 e
-stamps_at s (DropShift at) from until cells k l e = series_between s Shift at from until cells k l e
-stamps_at s (PutPeriod p) from until cells k l e =
+stamps_at s (DropReadings a b) from until cells k l n e = span_between s a b from until cells k e
+stamps_at s (FlagReadings a b flag) from until cells k l n e = span_between s a b from until cells k e
+stamps_at s (PutCorrection set at curve prorate) from until cells k l n e = series_between s (Correction set) at from until cells k l.1 e
+stamps_at s (DropCorrection set at) from until cells k l n e = series_between s (Correction set) at from until cells k l.1 e
+stamps_at s (PutShift at curve prorate) from until cells k l n e = series_between s Shift at from until cells k l.0 e
+stamps_at s (DropShift at) from until cells k l n e = series_between s Shift at from until cells k l e
+stamps_at s (PutPeriod p) from until cells k l n e =
     period_between p.from (later_end p (period_from p.from s.ratings.periods)) from until cells l.begins
     (later_stamp p (period_from p.from s.ratings.periods) l (at_kept begin IsPutPeriod p.from s.ratings.periods k.periods_are)) e
-stamps_at s (DropPeriod start) from until cells k l e =
+stamps_at s (DropPeriod start) from until cells k l n e =
     dropped_between (period_from start s.ratings.periods) from until cells (at_kept begin IsPutPeriod start s.ratings.periods k.periods_are) e
-stamps_at s _ from until cells k l e = absurd (cc)
+stamps_at s (SetEdition day least) from until cells k l n e = absurd (n day least refl)
+stamps_at s _ from until cells k l n e = absurd (cc)
 
 pub stamps : (o : Option StationState) (what : What) (from until : ℤ) (cells : Bool) → ((s : StationState) → o ≡ Some s → IsStation s) → IsLawful what
-    → touched_by o what ≡ Between from until cells → IsStamp from × IsStamp until
-stamps None what from until cells k l e = absurd (cc)
-stamps (Some s) what from until cells k l e = stamps_at s what from until cells (k s refl) l e
+    → ((day : ℤ) (least : Option ℕ) → what ≢ SetEdition day least) → touched_by o what ≡ Between from until cells → IsStamp from × IsStamp until
+stamps None what from until cells k l n e = absurd (cc)
+stamps (Some s) what from until cells k l n e = stamps_at s what from until cells (k s refl) l n e

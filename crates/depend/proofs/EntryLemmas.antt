@@ -28,7 +28,7 @@ use Rattle.day_inputs.proofs.EqualityLemmas.{Decides-same_inputs}
 use Rattle.station_inputs.specs.KeptStation.{IsStation}
 use Rattle.ratings.specs.Numbered.{StationRatings}
 use Rattle.station_inputs.specs.Series.{corrections_with, entries_in, shifts_with}
-use Rattle.station_inputs.specs.Stations.{StationState, estimated_discharge, series_of, station_day, with_series, day_start}
+use Rattle.station_inputs.specs.Stations.{StationState, estimated_discharge, least_cover, series_of, station_day, with_series, day_start}
 use Rattle.station_inputs.specs.Touched as touched
 use Rattle.office_inputs.specs.Touched.{meets, most_gap_seconds}
 use Rattle.station_inputs.specs.Touched.{has_inputs, says_from}
@@ -106,23 +106,23 @@ series_rise which s k =
     series_has series.IsRising which s k.corrections_are.first.rising k.corrections_are.second.rising k.corrections_are.third.rising k.shifts_are.rising
 
 -- a day whose window's bearing entries stay keeps its inputs
-module _ (gap : ℕ) (stages discharges : List ℕ) (from until : ℤ) (change : List Entry → List Entry) (r : Reading) (rs : List Reading) (ratings : StationRatings) (estimate : Option ℤ) where
+module _ (gap : ℕ) (stages discharges : List ℕ) (from until : ℤ) (change : List Entry → List Entry) (r : Reading) (rs : List Reading) (ratings : StationRatings) (estimate : Option ℤ) (least : Option ℕ) where
   abbrev BearAlike : List Entry → Type 0
   BearAlike es = bearing r.at (last_at r rs) es ≡ bearing r.at (last_at r rs) (change es)
 
   set_kept : (c : Corrections) (shifts : List Entry) (b d : Bool) → BearAlike (cond b c.first (cond d c.second c.third))
-      → with_window gap stages discharges from until c shifts ratings (r ∷ rs) estimate
+      → with_window gap stages discharges from until c shifts ratings (r ∷ rs) estimate least
       ≡ with_window gap stages discharges from until
       (cond b (record { first = change c.first; second = c.second; third = c.third })
       (cond d (record { first = c.first; second = change c.second; third = c.third }) (record { first = c.first; second = c.second; third = change c.third })))
-      shifts ratings (r ∷ rs) estimate
+      shifts ratings (r ∷ rs) estimate least
   set_kept c shifts true d e = rw e refl
   set_kept c shifts false true e = rw e refl
   set_kept c shifts false false e = rw e refl
 
   parts_kept : (which : StationSeries) (c : Corrections) (shifts : List Entry) → BearAlike (entries_in which c shifts)
-      → with_window gap stages discharges from until c shifts ratings (r ∷ rs) estimate
-      ≡ with_window gap stages discharges from until (corrections_with which change c) (shifts_with which change shifts) ratings (r ∷ rs) estimate
+      → with_window gap stages discharges from until c shifts ratings (r ∷ rs) estimate least
+      ≡ with_window gap stages discharges from until (corrections_with which change c) (shifts_with which change shifts) ratings (r ∷ rs) estimate least
   parts_kept (Correction set) c shifts e = set_kept c shifts (set == 1) (set == 2) e
   parts_kept Shift c shifts e = rw e refl
 
@@ -162,16 +162,16 @@ kept_not : (b : Bool) → b ≡ true → b ≡ false → ⊥
 kept_not b e f = absurd (cc)
 
 -- a day that changes has inputs, and meets that time
-in_window : (s : StationState) (a b : ℤ) (which : StationSeries) (at : ℤ) (change : List Entry → List Entry) (w : List Reading) (estimate : Option ℤ) → IsRising w
+in_window : (s : StationState) (a b : ℤ) (which : StationSeries) (at : ℤ) (change : List Entry → List Entry) (w : List Reading) (estimate : Option ℤ) (least : Option ℕ) → IsRising w
     → All (IsNear a b (pos (60 * s.gap))) w → All (λ (r : Reading). IsStamp r.at) w → s.gap ≤ most_gap → Keeps at change (series_of which s)
-    → same_inputs (with_window s.gap s.stage_array s.discharge_array a b s.corrections s.shifts s.ratings w estimate)
-    (with_window s.gap s.stage_array s.discharge_array a b (corrections_with which change s.corrections) (shifts_with which change s.shifts) s.ratings w estimate) ≡ false
-    → (has_inputs (with_window s.gap s.stage_array s.discharge_array a b s.corrections s.shifts s.ratings w estimate) ≡ true)
+    → same_inputs (with_window s.gap s.stage_array s.discharge_array a b s.corrections s.shifts s.ratings w estimate least)
+    (with_window s.gap s.stage_array s.discharge_array a b (corrections_with which change s.corrections) (shifts_with which change s.shifts) s.ratings w estimate least) ≡ false
+    → (has_inputs (with_window s.gap s.stage_array s.discharge_array a b s.corrections s.shifts s.ratings w estimate least) ≡ true)
     × (meets (from_of at (series_of which s)) (until_of at (series_of which s)) a b ≡ true)
-in_window s a b which at change [] estimate rising near stamps g k n =
-    let day = with_window s.gap s.stage_array s.discharge_array a b s.corrections s.shifts s.ratings [] estimate in
+in_window s a b which at change [] estimate least rising near stamps g k n =
+    let day = with_window s.gap s.stage_array s.discharge_array a b s.corrections s.shifts s.ratings [] estimate least in
     absurd (kept_not (same_inputs day day) ((Decides-same_inputs day day).1 refl) n)
-in_window s a b which at change (r ∷ rs) estimate rising near stamps g k n =
+in_window s a b which at change (r ∷ rs) estimate least rising near stamps g k n =
     let lo = r.at in
     let hi = last_at r rs in
     let gap = pos (60 * s.gap) in (
@@ -181,7 +181,7 @@ in_window s a b which at change (r ∷ rs) estimate rising near stamps g k n =
           (gap_seconds s.gap g) ((All-head (λ (x : Reading). IsStamp x.at) r rs stamps).high))
           (λ f. absurd (kept_not _
           ((Decides-same_inputs _ _).1
-          (parts_kept s.gap s.stage_array s.discharge_array a b change r rs s.ratings estimate which s.corrections s.shifts (k lo hi (ends_rise r rs rising) f))) n)),
+          (parts_kept s.gap s.stage_array s.discharge_array a b change r rs s.ratings estimate least which s.corrections s.shifts (k lo hi (ends_rise r rs rising) f))) n)),
     )
 
 pub entry_meets : (s : StationState) (day : ℤ) (which : StationSeries) (at : ℤ) (change : List Entry → List Entry) → IsStation s → IsDay day
@@ -194,7 +194,7 @@ entry_meets s day which at change k d keeps n =
     let b = day_start s (day +ℤ pos 1) in
     let gap = pos (60 * s.gap) in
     let longer = zone_steps s.zone k.zone_is day d.low d.high in
-    in_window s a b which at change (window a b gap s.readings) (estimated_discharge s day) (window_rises a b gap s.readings k.readings_are.rising)
+    in_window s a b which at change (window a b gap s.readings) (estimated_discharge s day) (least_cover s day) (window_rises a b gap s.readings k.readings_are.rising)
     (window_near a b gap s.readings (omega (arith, ints)) (omega (arith, ints)))
     (window_keeps (λ (r : Reading). IsStamp r.at) a b gap s.readings k.readings_are.stamps)
     k.gap_high (keeps (series_of which s) (series_rise which s k)) n

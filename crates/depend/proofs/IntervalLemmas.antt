@@ -16,7 +16,7 @@ use Rattle.day_inputs.specs.declared.day_inputs.DayInputs.{DayInputs}
 use Rattle.day_inputs.specs.declared.day_inputs.DayInputs.TheVariants.{Empty, Day}
 use Rattle.edits.specs.Lawful.{IsLawful}
 use Rattle.edits.specs.declared.content.What.{What}
-use Rattle.edits.specs.declared.content.What.TheVariants.{AddStation, SetStation, PutReadings, DropReadings, FlagReadings, PutCorrection, DropCorrection, PutShift, DropShift, AddRating, PutPeriod, DropPeriod, PutEstimate, DropEstimate, PutMeasurement, DropMeasurement, Review, Decide}
+use Rattle.edits.specs.declared.content.What.TheVariants.{SetStation, PutReadings, DropReadings, FlagReadings, PutCorrection, DropCorrection, PutShift, DropShift, AddRating, PutPeriod, DropPeriod, PutEstimate, DropEstimate, SetEdition}
 use Rattle.edits.specs.declared.content.Edit.{Edit}
 use Rattle.office_inputs.specs.Changes.{keeps_day}
 use Rattle.office_inputs.specs.Kept.{AreStations, states_of}
@@ -24,7 +24,7 @@ use Rattle.station_inputs.specs.KeptStation.{KeptStation, IsStation}
 use Rattle.office_inputs.specs.Refusals.{refusal_of}
 use Rattle.office_inputs.specs.Stations.{place_of, station_of}
 use Rattle.station_inputs.specs.Changes.{keeps_station_day}
-use Rattle.station_inputs.specs.Stations.{StationState, station_day, described, series_of, with_series}
+use Rattle.station_inputs.specs.Stations.{StationState, edition_of, station_day, described, series_of, with_series}
 use Rattle.station_inputs.specs.declared.series.StationSeries.{StationSeries}
 use Rattle.station_inputs.specs.declared.series.StationSeries.TheVariants.{Correction, Shift}
 use Rattle.office_inputs.specs.Touched.{in_reach, touched_by, touched_of}
@@ -34,6 +34,7 @@ use Rattle.office_inputs.proofs.KeepLemmas.{adds_none, add_told, change_told}
 use Rattle.station_inputs.proofs.EstimateDays.{drop_told, put_told}
 use Rattle.station_inputs.proofs.PeriodDays.{rating_told}
 use Rattle.station_inputs.proofs.StationLemmas.{filled_told}
+use Rattle.depend.proofs.EditionLemmas.{edition_day_changes}
 use Rattle.depend.proofs.EntryLemmas.{by_test, Keeps, entry_meets}
 use Rattle.depend.proofs.PeriodLemmas.{dropped_period_day, put_period_day}
 use Rattle.depend.proofs.ReadingDays.{drop_day, flag_day, put_day}
@@ -96,7 +97,6 @@ own_day own day other e = (Decides-int_eq own day).0 (own_step (int_eq own day) 
 -- a day that an edit of a station changes is one that what it touches can change
 changed_day : (s : StationState) (what : What) (day : ℤ) → IsStation s → IsLawful what → IsDay day → keeps_station_day s what day ≡ false
     → IsTouchedDay s (touched_at s what) day
-changed_day s (AddStation name zone gap stages discharges) day k l d n = absurd (same_not (station_day s day) n)
 changed_day s (SetStation name gap stages discharges) day k l d n =
     by_test (has_inputs (station_day s day)) (λ t. t) (λ f. absurd (told_not _ (empty_kept s day name gap stages discharges f) n))
 changed_day s (PutReadings readings) day k l d n = put_day s day readings k d l n
@@ -111,10 +111,8 @@ changed_day s (PutPeriod period) day k l d n = put_period_day s day period k d n
 changed_day s (DropPeriod from) day k l d n = dropped_period_day s day from k d n
 changed_day s (PutEstimate estimate) day k l d n = own_day estimate.day day _ (put_told s estimate day ∙ n)
 changed_day s (DropEstimate own) day k l d n = own_day own day _ (drop_told s own day ∙ n)
-changed_day s (PutMeasurement measurement) day k l d n = same_not (station_day s day) n
-changed_day s (DropMeasurement number) day k l d n = same_not (station_day s day) n
-changed_day s (Review from to) day k l d n = same_not (station_day s day) n
-changed_day s (Decide from to decision) day k l d n = same_not (station_day s day) n
+changed_day s (SetEdition own least) day k l d n = edition_day_changes s (edition_of own least) day k l d n
+changed_day s _ day k l d n = same_not (station_day s day) n
 
 -- and so it is of the edit's interval
 by_station : (limits : Limits) (kept : List KeptStation) (edit : Edit) (day : ℤ) (o : Option StationState) → station_of (states_of kept) edit.site ≡ o

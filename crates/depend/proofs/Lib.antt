@@ -1,6 +1,7 @@
 pub mod CalendarLemmas
 pub mod CoverLemmas
 pub mod DayNumbers
+pub mod EditionLemmas
 pub mod EntryLemmas
 pub mod IntervalLemmas
 pub mod PeriodLemmas

@@ -21,7 +21,7 @@ use Rattle.ratings.specs.Spans.{Span}
 use Rattle.office_inputs.specs.Touched.{meets, most_gap_seconds}
 use Rattle.office_inputs.proofs.KeepLemmas.{at_place}
 use Rattle.station_inputs.specs.KeptStation.{IsStation}
-use Rattle.station_inputs.specs.Stations.{StationState, day_start, estimated_discharge, station_day, station_window, with_ratings}
+use Rattle.station_inputs.specs.Stations.{StationState, day_start, estimated_discharge, least_cover, station_day, station_window, with_ratings}
 use Rattle.station_inputs.specs.Touched.{about_dropped_period, about_period, end_or_last, has_inputs, later_end, period_end}
 use Rattle.station_inputs.proofs.PeriodDays.{no_window_told, periods_told}
 use Rattle.depend.proofs.CoverLemmas.{greater}
@@ -58,14 +58,14 @@ day_near s day lo hi k d e =
     (window_keeps (λ (r : Reading). IsStamp r.at) a b gap s.readings k.readings_are.stamps) e
 
 -- a day whose window has ends has inputs
-ends_filled : (gap : ℕ) (stages discharges : List ℕ) (from until : ℤ) (sets : Corrections) (shifts : List Entry) (ratings : StationRatings) (w : List Reading) (estimate : Option ℤ) (lo hi : ℤ)
-    → window_ends w ≡ Some (lo, hi) → has_inputs (with_window gap stages discharges from until sets shifts ratings w estimate) ≡ true
-ends_filled gap stages discharges from until sets shifts ratings [] estimate lo hi e = absurd (cc)
-ends_filled gap stages discharges from until sets shifts ratings (r ∷ rs) estimate lo hi e = refl
+ends_filled : (gap : ℕ) (stages discharges : List ℕ) (from until : ℤ) (sets : Corrections) (shifts : List Entry) (ratings : StationRatings) (w : List Reading) (estimate : Option ℤ) (least : Option ℕ) (lo hi : ℤ)
+    → window_ends w ≡ Some (lo, hi) → has_inputs (with_window gap stages discharges from until sets shifts ratings w estimate least) ≡ true
+ends_filled gap stages discharges from until sets shifts ratings [] estimate least lo hi e = absurd (cc)
+ends_filled gap stages discharges from until sets shifts ratings (r ∷ rs) estimate least lo hi e = refl
 
-day_filled : (s : StationState) (day lo hi : ℤ) → window_ends (station_window s day) ≡ Some (lo, hi) → has_inputs (station_day s day) ≡ true
+pub day_filled : (s : StationState) (day lo hi : ℤ) → window_ends (station_window s day) ≡ Some (lo, hi) → has_inputs (station_day s day) ≡ true
 day_filled s day lo hi e =
-    ends_filled s.gap s.stage_array s.discharge_array (day_start s day) (day_start s (day +ℤ pos 1)) s.corrections s.shifts s.ratings (station_window s day) (estimated_discharge s day) lo hi e
+    ends_filled s.gap s.stage_array s.discharge_array (day_start s day) (day_start s (day +ℤ pos 1)) s.corrections s.shifts s.ratings (station_window s day) (estimated_discharge s day) (least_cover s day) lo hi e
 
 -- a period that meets the time of the window: its own time meets the day
 both_of : (b c : Bool) → (b && c) ≡ true → (b ≡ true) × (c ≡ true)

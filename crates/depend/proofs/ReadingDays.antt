@@ -22,7 +22,7 @@ use Rattle.day_inputs.specs.DayInputs.{with_window}
 use Rattle.edits.specs.Lawful.{ArePutReadings}
 use Rattle.office_inputs.specs.Touched.{meets, most_gap_seconds}
 use Rattle.station_inputs.specs.KeptStation.{IsStation}
-use Rattle.station_inputs.specs.Stations.{StationState, day_start, estimated_discharge, station_day, with_readings}
+use Rattle.station_inputs.specs.Stations.{StationState, day_start, estimated_discharge, least_cover, station_day, with_readings}
 use Rattle.station_inputs.specs.Touched.{about_span, between_readings}
 use Rattle.depend.proofs.EntryLemmas.{by_test, gap_seconds}
 use Rattle.depend.proofs.TouchedDays.{IsTouchedDay, meets_at}
@@ -51,7 +51,7 @@ left_day s day change touched k d leaves far =
     let longer = zone_steps s.zone k.zone_is day d.low d.high in
     let same = leaves a b gap (omega (arith, ints)) (omega (arith, ints)) far in
     sym ((Decides-same_inputs (station_day s day) (station_day (with_readings change s) day)).1
-    (ap (λ (w : List Reading). with_window s.gap s.stage_array s.discharge_array a b s.corrections s.shifts s.ratings w (estimated_discharge s day)) (sym same)))
+    (ap (λ (w : List Reading). with_window s.gap s.stage_array s.discharge_array a b s.corrections s.shifts s.ratings w (estimated_discharge s day) (least_cover s day)) (sym same)))
 
 told_not : (b : Bool) → true ≡ b → b ≡ false → ⊥
 told_not b e n = let k : true ≡ false = e ∙ n in absurd (cc)

@@ -1,6 +1,6 @@
 -- The days that are compared for an edit: from one day on to another, both included.
 use Rattle.std.specs.Prelude.{◌≡◌, ℕ, Bool, true, false, List, Option, Some, None, ℤ, pos, negsuc, ◌+ℤ◌, ◌-ℤ◌, ◌≤ℤ◌, ◌<ℤ◌}
-use Rattle.fixed_units.specs.Quantities.{IsDay}
+use Rattle.fixed_units.specs.Quantities.{IsDay, last_day}
 use Rattle.fixed_units.specs.Calendar.{days_from}
 
 -- a count, none where the number is below 0
@@ -23,3 +23,10 @@ pub record IsCover (inside : ℤ → Bool) (first last : ℤ) : Type 0 where
 abbrev pub AreCompared : (ℤ → Bool) → Option (ℤ × ℤ) → Type 0
 AreCompared inside None = (day : ℤ) → IsDay day → inside day ≡ false
 AreCompared inside (Some span) = IsCover inside span.0 span.1
+
+-- the day after one of the calendar, or the last one where there is none
+pub record IsAfter (day after : ℤ) : Type 0 where
+  pub own : IsDay day
+  pub other : IsDay after
+  pub one : day <ℤ last_day → after ≡ day +ℤ pos 1
+  pub end : day ≡ last_day → after ≡ last_day

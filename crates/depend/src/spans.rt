@@ -1,19 +1,24 @@
 //! Which days are compared for an edit: those of its interval, and at most one before them and one after them.
 
-ghost use Rattle.std.specs.Prelude.{◌≡◌, ℤ, pos, ◌+ℤ◌, ◌-ℤ◌, ◌<ℤ◌, ◌≤ℤ◌};
+ghost use Rattle.std.specs.Prelude.{◌≡◌, ◌≢◌, ℕ, ℤ, Option, pos, ◌+ℤ◌, ◌-ℤ◌, ◌<ℤ◌, ◌≤ℤ◌};
 ghost use Rattle.std.specs.Int.{int_max, int_min};
-ghost use Rattle.civil_days.specs.Starts.{IsZone, day_start_of};
-ghost use Rattle.depend.specs.Compared.{AreCompared, IsCover};
-ghost use Rattle.fixed_units.specs.Quantities.{IsDay, IsStamp, first_day, last_day};
+ghost use Rattle.civil_days.specs.Starts.{IsIn, IsZone, day_start_of};
+ghost use Rattle.depend.specs.Compared.{AreCompared, IsAfter, IsCover};
+ghost use Rattle.fixed_units.specs.Quantities.{IsDay, IsStamp, first_day, last_day, last_stamp};
 ghost use Rattle.office_inputs.specs.Kept.{in_force};
 ghost use Rattle.office_inputs.specs.Places.{IsPlace, IsPlaceOf};
-ghost use Rattle.office_inputs.specs.Touched.{in_reach, is_between_filled, meets, touched_of};
+ghost use Rattle.office_inputs.specs.Touched.{in_reach, is_between_filled, meets, touched_by, touched_of};
+ghost use Rattle.office_inputs.specs.Stations.{station_of};
+ghost use Rattle.edits.specs.declared.content.What.TheVariants.{SetEdition};
+ghost use Rattle.station_inputs.specs.KeptStation.{IsStation};
+ghost use Rattle.station_inputs.specs.Stations.{day_start, edition_after};
+ghost use Rattle.station_inputs.specs.Touched.{edition_end};
 ghost use Rattle.station_inputs.specs.declared.touched.Touched.TheVariants.{Between};
 
 use civil_days::StationZone;
-use edits::Edit;
-use fixed_units::{Day, FIRST_DAY, LAST_DAY, Second};
-use office_inputs::{Inputs, Place, Touched, stations_keep_to_their_ranges};
+use edits::{Edit, What};
+use fixed_units::{Day, FIRST_DAY, LAST_DAY, LAST_STAMP, Second};
+use office_inputs::{Inputs, Place, Station, Touched, stations_keep_to_their_ranges};
 
 /// The first and the last of the days that [`crate::reach`] compares for an edit, or `None` where its interval has no day: they
 /// hold every day of the interval, and all but these two are of it.
@@ -28,6 +33,18 @@ pub fn compared_days_at(inputs: &Inputs, place: Place, edit: &Edit) -> Option<(D
     requires { IsPlaceOf (in_force inputs.now) edit.now.site place }
     ensures { AreCompared (in_reach (in_force inputs.now) edit.now.site (touched_of (in_force inputs.now) edit.now)) result }
 {
+    match &edit.what {
+        What::SetEdition { day, .. } => days_of_edition(inputs, place, *day),
+        _ => days_touched(inputs, place, edit),
+    }
+}
+
+/// The same of an edit of another kind: what these touch lies between stamps.
+fn days_touched(inputs: &Inputs, place: Place, edit: &Edit) -> Option<(Day, Day)>
+    requires place { IsPlaceOf (in_force inputs.now) edit.now.site place }
+    requires other { (day : ℤ) (least : Option ℕ) → edit.now.what ≢ SetEdition day least }
+    ensures { AreCompared (in_reach (in_force inputs.now) edit.now.site (touched_of (in_force inputs.now) edit.now)) result }
+{
     stations_keep_to_their_ranges(inputs);
     match inputs.touched_at(place, edit) {
         Touched::Nothing => None,
@@ -39,6 +56,52 @@ pub fn compared_days_at(inputs: &Inputs, place: Place, edit: &Edit) -> Option<(D
         } => days_about(inputs, place, first, last, cells_only),
         Touched::Cells => used_days(inputs, place),
     }
+}
+
+/// The days of an edition of a day: of those on which it may be in force, and the one before them and behind them, those alone that lie
+/// between days that have inputs.
+fn days_of_edition(inputs: &Inputs, place: Place, day: Day) -> Option<(Day, Day)>
+    requires place { IsPlace (in_force inputs.now) place }
+    ensures { (least : Option ℕ) → AreCompared (in_reach (in_force inputs.now) place.site (touched_by (station_of (in_force inputs.now) place.site) (SetEdition day least))) result }
+{
+    let Some(station) = inputs.station_at(place) else {
+        return None;
+    };
+    stations_keep_to_their_ranges(inputs);
+    let near = edition_days(station, day);
+    match used_days(inputs, place) {
+        Some(used) => Some(common_days(near, used)),
+        None => None,
+    }
+}
+
+/// The day before that of an edition, and that of the next edition, or else the day behind the last stamp's.
+fn edition_days(station: &Station, day: Day) -> (Day, Day)
+    requires { IsStation station.now.station }
+    ensures { IsCover (λ d. meets (day_start station.now.station day) (edition_end station.now.station (edition_after day station.now.station.editions)) (day_start station.now.station d) (day_start station.now.station (d +ℤ pos 1))) result.0 result.1 }
+{
+    let before = clipped(day.get() - 1);
+    match station.edition_after(day) {
+        Some(next) => (before, day_itself(next.day)),
+        None => (before, day_behind_the_last_stamp(station.zone())),
+    }
+}
+
+/// The day behind the one of the last stamp.
+fn day_behind_the_last_stamp(zone: &StationZone) -> Day
+    requires { IsZone zone.now }
+    ensures { (own : ℤ) × IsIn zone.now own last_stamp × IsAfter own result }
+{
+    clipped(zone.day_of(Second::of_seconds(LAST_STAMP)).get() + 1)
+}
+
+/// A day, which is one of the calendar.
+fn day_itself(day: Day) -> Day
+    ensures value { result ≡ day }
+    ensures range { IsDay day }
+{
+    let _number = day.get();
+    day
 }
 
 /// The days from the one before the first instant's to the one after the last instant's, or of these those alone that lie

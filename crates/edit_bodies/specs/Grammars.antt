@@ -11,6 +11,7 @@ use Rattle.edits.specs.declared.decisions.Decision.TheVariants.{Approve, Rescind
 use Rattle.fixed_units.specs.Decimals.{decimal_of}
 use Rattle.edits.specs.declared.measurements.Grade.{Grade}
 use Rattle.edits.specs.declared.measurements.Grade.TheVariants.{Excellent, Good, Fair, Poor}
+use Rattle.editions.specs.Covers.{most_least_cover}
 use Rattle.fixed_units.specs.Quantities.{SiteNumber, is_amount, is_discharge, is_stage, most_gap, most_rating_number}
 use Rattle.fixed_units.specs.declared.readings.Flag.{Flag}
 use Rattle.fixed_units.specs.declared.readings.Flag.TheVariants.{Usable, Erroneous, Affected}
@@ -196,6 +197,10 @@ decision_of_text text =
 
 abbrev pub decision_of : Data → Option Decision
 decision_of value = string_of decision_of_text value
+
+-- the least cover of an edition: minutes, or none
+abbrev pub least_of : Data → Option (Option ℕ)
+least_of value = if is_some (as_null value) then Some None else option_map Some (option_and_then (kept_within 1 most_least_cover) (whole_of value))
 
 -- the number of a measurement
 abbrev pub measurement_number_of : Data → Option ℕ

@@ -1,61 +1,19 @@
--- The kinds of edits: of each a name, and its members from left to right.
-use Rattle.std.specs.Prelude.{ℕ, List, codes, bytes_eq, Option, Some, None, if◌then◌else◌}
+-- The kinds of edits: of each its members from left to right.
+use Rattle.std.specs.Prelude.{Option}
 use Rattle.serde_json.specs.Data.{Data}
 use Rattle.serde_json.specs.Find.{as_bool}
-use Rattle.edit_bodies.specs.Grammars.{string_of, name_of, zone_of, gap_of, array_of, readings_of, flag_of, to_of, day_of, last_day_of, decision_of, set_of, instant_of, points_of, rating_number_of, table_of, until_of, measurement_number_of, stage_of, discharge_of, grade_of}
+use Rattle.edit_bodies.specs.Grammars.{string_of, name_of, zone_of, gap_of, array_of, readings_of, flag_of, to_of, day_of, last_day_of, decision_of, set_of, instant_of, points_of, rating_number_of, table_of, until_of, measurement_number_of, stage_of, discharge_of, grade_of, least_of}
 use Rattle.edit_bodies.specs.Members.{Reader, ◌>>=◌, done, required}
-use Rattle.edit_bodies.specs.declared.kinds.Kind.{Kind}
-use Rattle.edit_bodies.specs.declared.kinds.Kind.TheVariants as kinds
-use Rattle.edit_bodies.specs.declared.members.Member.TheVariants.{Name, Zone, Gap, StageArray, DischargeArray, Readings, To, Flag, Set, At, Points, Prorate, Rating, Rows, From, Until, Day, Number, Gage, Discharge, Grade, Decision}
+use Rattle.edits.specs.declared.kinds.Kind.{Kind}
+use Rattle.edits.specs.declared.kinds.Kind.TheVariants as kinds
+use Rattle.edit_bodies.specs.declared.members.Member.TheVariants.{Name, Zone, Gap, StageArray, DischargeArray, Readings, To, Flag, Set, At, Points, Prorate, Rating, Rows, From, Until, Day, Number, Gage, Discharge, Grade, Decision, Least}
+use Rattle.edits.specs.Kinds.{kind_named}
 use Rattle.edits.specs.declared.content.What.{What}
-use Rattle.edits.specs.declared.content.What.TheVariants.{AddStation, SetStation, PutReadings, DropReadings, FlagReadings, PutCorrection, DropCorrection, PutShift, DropShift, AddRating, PutPeriod, DropPeriod, PutEstimate, DropEstimate, PutMeasurement, DropMeasurement, Review, Decide}
+use Rattle.edits.specs.declared.content.What.TheVariants.{AddStation, SetStation, PutReadings, DropReadings, FlagReadings, PutCorrection, DropCorrection, PutShift, DropShift, AddRating, PutPeriod, DropPeriod, PutEstimate, DropEstimate, PutMeasurement, DropMeasurement, Review, Decide, SetEdition}
 
--- the kind of a name
-abbrev pub kind_of_text : List ℕ → Option Kind
-kind_of_text text =
-    if bytes_eq text (codes "AddStation") then Some kinds.AddStation
-    else (if bytes_eq text (codes "SetStation") then Some kinds.SetStation
-    else (if bytes_eq text (codes "PutReadings") then Some kinds.PutReadings
-    else (if bytes_eq text (codes "DropReadings") then Some kinds.DropReadings
-    else (if bytes_eq text (codes "FlagReadings") then Some kinds.FlagReadings
-    else (if bytes_eq text (codes "PutCorrection") then Some kinds.PutCorrection
-    else (if bytes_eq text (codes "DropCorrection") then Some kinds.DropCorrection
-    else (if bytes_eq text (codes "PutShift") then Some kinds.PutShift
-    else (if bytes_eq text (codes "DropShift") then Some kinds.DropShift
-    else (if bytes_eq text (codes "AddRating") then Some kinds.AddRating
-    else (if bytes_eq text (codes "PutPeriod") then Some kinds.PutPeriod
-    else (if bytes_eq text (codes "DropPeriod") then Some kinds.DropPeriod
-    else (if bytes_eq text (codes "PutEstimate") then Some kinds.PutEstimate
-    else (if bytes_eq text (codes "DropEstimate") then Some kinds.DropEstimate
-    else (if bytes_eq text (codes "PutMeasurement") then Some kinds.PutMeasurement
-    else (if bytes_eq text (codes "DropMeasurement") then Some kinds.DropMeasurement
-    else (if bytes_eq text (codes "Review") then Some kinds.Review
-    else (if bytes_eq text (codes "Decide") then Some kinds.Decide
-    else None)))))))))))))))))
-
+-- the kind of an edit, by its name
 abbrev pub kind_of : Data → Option Kind
-kind_of value = string_of kind_of_text value
-
--- the name of a kind
-abbrev pub name_of_kind : Kind → List ℕ
-name_of_kind kinds.AddStation = codes "AddStation"
-name_of_kind kinds.SetStation = codes "SetStation"
-name_of_kind kinds.PutReadings = codes "PutReadings"
-name_of_kind kinds.DropReadings = codes "DropReadings"
-name_of_kind kinds.FlagReadings = codes "FlagReadings"
-name_of_kind kinds.PutCorrection = codes "PutCorrection"
-name_of_kind kinds.DropCorrection = codes "DropCorrection"
-name_of_kind kinds.PutShift = codes "PutShift"
-name_of_kind kinds.DropShift = codes "DropShift"
-name_of_kind kinds.AddRating = codes "AddRating"
-name_of_kind kinds.PutPeriod = codes "PutPeriod"
-name_of_kind kinds.DropPeriod = codes "DropPeriod"
-name_of_kind kinds.PutEstimate = codes "PutEstimate"
-name_of_kind kinds.DropEstimate = codes "DropEstimate"
-name_of_kind kinds.PutMeasurement = codes "PutMeasurement"
-name_of_kind kinds.DropMeasurement = codes "DropMeasurement"
-name_of_kind kinds.Review = codes "Review"
-name_of_kind kinds.Decide = codes "Decide"
+kind_of value = string_of kind_named value
 
 -- the members of each kind
 abbrev pub row : Kind → Reader What
@@ -140,3 +98,7 @@ row kinds.Decide = do
   to ← required To (last_day_of from)
   decision ← required Decision decision_of
   done (Decide from to decision)
+row kinds.SetEdition = do
+  day ← required Day day_of
+  least ← required Least least_of
+  done (SetEdition day least)

@@ -33,6 +33,7 @@ member_text named.Gage = codes "gage"
 member_text named.Discharge = codes "discharge"
 member_text named.Grade = codes "grade"
 member_text named.Decision = codes "decision"
+member_text named.Least = codes "least"
 member_text named.Further = codes "?"
 
 -- the members but the one of that name

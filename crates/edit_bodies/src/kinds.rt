@@ -1,8 +1,9 @@
-//! The kinds of edits, and what an edit of each kind changes by the members of its body.
+//! What an edit of each kind changes, by the members of its body.
 
-ghost use Rattle.std.specs.Prelude.{◌≡◌, IfOk, bytes_eq, find};
+ghost use Rattle.std.specs.Prelude.{IfOk};
 ghost use Rattle.edit_bodies.specs.Answers.{IsTaken};
-ghost use Rattle.edit_bodies.specs.Kinds.{kind_of, kind_of_text, name_of_kind, row};
+ghost use Rattle.edit_bodies.specs.Kinds.{kind_of, row};
+ghost use Rattle.edits.specs.declared.kinds.Kind.TheVariants as Kind;
 ghost use Rattle.edit_bodies.specs.Members.{required};
 ghost use Rattle.edits.specs.Lawful.{IsLawful};
 
@@ -12,6 +13,7 @@ use crate::faults::BodyFault;
 use crate::grammars::{
     take_array, take_gap, take_instant, take_name, take_prorate, take_set, take_text, take_zone,
 };
+use crate::least_covers::take_least;
 use crate::measurements::{take_discharge, take_gage, take_grade, take_measurement_number};
 use crate::members::{Fields, Member};
 use crate::periods::take_until;
@@ -19,121 +21,16 @@ use crate::rating_rows::{take_rating_number, take_table};
 use crate::reading_rows::take_readings;
 use crate::reviews::{take_decision, take_last_day};
 use crate::spans::{take_flag, take_to};
-use edits::{Estimate, Measurement, What};
+use edits::{Estimate, Kind, Measurement, What};
 use ratings::Period;
 use std::alloc::Global;
-
-/// The kind of an edit.
-#[derive(Clone, Copy, PartialEq, Eq)]
-pub enum Kind {
-    /// Adds a station.
-    AddStation,
-    /// Sets a station.
-    SetStation,
-    /// Puts readings.
-    PutReadings,
-    /// Takes out the readings of a span.
-    DropReadings,
-    /// Flags the readings of a span.
-    FlagReadings,
-    /// Puts an entry of a correction set.
-    PutCorrection,
-    /// Takes out an entry of a correction set.
-    DropCorrection,
-    /// Puts an entry of the shifts.
-    PutShift,
-    /// Takes out an entry of the shifts.
-    DropShift,
-    /// Adds a rating.
-    AddRating,
-    /// Puts a period.
-    PutPeriod,
-    /// Takes out a period.
-    DropPeriod,
-    /// Puts an estimate of a day.
-    PutEstimate,
-    /// Takes out an estimate of a day.
-    DropEstimate,
-    /// Puts a field measurement.
-    PutMeasurement,
-    /// Takes out a field measurement.
-    DropMeasurement,
-    /// Puts days in review.
-    Review,
-    /// Decides on days.
-    Decide,
-}
-
-impl Kind {
-    /// The name of the kind, as a body has it.
-    fn name(&self) -> &'static [u8]
-        ensures { result.now ≡ name_of_kind self.now }
-    {
-        match self {
-            Kind::AddStation => b"AddStation",
-            Kind::SetStation => b"SetStation",
-            Kind::PutReadings => b"PutReadings",
-            Kind::DropReadings => b"DropReadings",
-            Kind::FlagReadings => b"FlagReadings",
-            Kind::PutCorrection => b"PutCorrection",
-            Kind::DropCorrection => b"DropCorrection",
-            Kind::PutShift => b"PutShift",
-            Kind::DropShift => b"DropShift",
-            Kind::AddRating => b"AddRating",
-            Kind::PutPeriod => b"PutPeriod",
-            Kind::DropPeriod => b"DropPeriod",
-            Kind::PutEstimate => b"PutEstimate",
-            Kind::DropEstimate => b"DropEstimate",
-            Kind::PutMeasurement => b"PutMeasurement",
-            Kind::DropMeasurement => b"DropMeasurement",
-            Kind::Review => b"Review",
-            Kind::Decide => b"Decide",
-        }
-    }
-}
-
-/// The kinds of edits.
-const KINDS: [Kind; 18] = [
-    Kind::AddStation,
-    Kind::SetStation,
-    Kind::PutReadings,
-    Kind::DropReadings,
-    Kind::FlagReadings,
-    Kind::PutCorrection,
-    Kind::DropCorrection,
-    Kind::PutShift,
-    Kind::DropShift,
-    Kind::AddRating,
-    Kind::PutPeriod,
-    Kind::DropPeriod,
-    Kind::PutEstimate,
-    Kind::DropEstimate,
-    Kind::PutMeasurement,
-    Kind::DropMeasurement,
-    Kind::Review,
-    Kind::Decide,
-];
 
 /// Takes the kind out of the members.
 pub(crate) fn take_kind(fields: &mut Fields<'_>) -> Result<Kind, BodyFault>
     ensures { IsTaken (required Member.Kind kind_of) fields.old result fields.new }
 {
     let text = take_text(fields, Member::Kind)?;
-    kind_named(text.as_bytes()).ok_or(BodyFault::Body(Member::Kind))
-}
-
-/// The kind of that name, or `None` exactly where there is no such kind.
-fn kind_named(text: &[u8]) -> Option<Kind>
-    ensures { result ≡ kind_of_text text.now }
-{
-    first_named(text, &KINDS)
-}
-
-/// The first of these kinds that has that name.
-fn first_named(text: &[u8], kinds: &[Kind]) -> Option<Kind>
-    ensures { result ≡ find (λ kind. bytes_eq text.now (name_of_kind kind)) kinds.now }
-{
-    kinds.iter().copied().find(|kind| text == kind.name())
+    Kind::named(text.as_bytes()).ok_or(BodyFault::Body(Member::Kind))
 }
 
 /// What an edit of that kind changes, by its members, which are taken out.
@@ -164,6 +61,7 @@ pub(crate) fn take_what(
         Kind::DropMeasurement => take_dropped_measurement(fields),
         Kind::Review => take_review(fields),
         Kind::Decide => take_decided(fields),
+        Kind::SetEdition => take_edition(fields),
     }
 }
 
@@ -386,4 +284,14 @@ fn take_decided(fields: &mut Fields<'_>) -> Result<What, BodyFault>
     let to = take_last_day(fields, from)?;
     let decision = take_decision(fields)?;
     Ok(What::Decide { from, to, decision })
+}
+
+/// The setting of an edition.
+fn take_edition(fields: &mut Fields<'_>) -> Result<What, BodyFault>
+    ensures read { IsTaken (row Kind.SetEdition) fields.old result fields.new }
+    ensures lawful { IfOk result IsLawful }
+{
+    let day = take_day(fields, Member::Day)?;
+    let least = take_least(fields)?;
+    Ok(What::SetEdition { day, least })
 }

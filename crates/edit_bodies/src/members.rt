@@ -51,7 +51,7 @@ pub enum Member {
     From,
     /// The end of a period.
     Until,
-    /// The day of an estimate.
+    /// The day of an estimate, or the first one of an edition.
     Day,
     /// The number of a field measurement.
     Number,
@@ -63,6 +63,8 @@ pub enum Member {
     Grade,
     /// What is decided on the days of a span.
     Decision,
+    /// The least cover of an edition.
+    Least,
     /// A member that no such edit has.
     Further,
 }
@@ -99,6 +101,7 @@ impl Member {
             Member::Discharge => "discharge",
             Member::Grade => "grade",
             Member::Decision => "decision",
+            Member::Least => "least",
             Member::Further => "?",
         }
     }

@@ -62,6 +62,7 @@ fn day_change(kind: &str, rest: &str) -> Option<What> {
         "DropMeasurement" => dropped_measurement(rest),
         "Review" => review(rest),
         "Decide" => decision(rest),
+        "SetEdition" => edition(rest),
         _ => None,
     }
 }
@@ -360,6 +361,23 @@ fn review(text: &str) -> Option<What> {
         from: read_day(from.as_bytes())?,
         to: read_day(to.as_bytes())?,
     })
+}
+
+/// `SetEdition DAY LEAST`: minutes, or a dash.
+fn edition(text: &str) -> Option<What> {
+    let (day, least) = parted(text);
+    Some(What::SetEdition {
+        day: read_day(day.as_bytes())?,
+        least: least_of(least)?,
+    })
+}
+
+/// The least cover of a word, or none of a dash.
+fn least_of(word: &str) -> Option<Option<u32>> {
+    match word {
+        "-" => Some(None),
+        minutes => Some(Some(minutes.parse().ok()?)),
+    }
 }
 
 /// `Decide FROM TO DECISION`.

@@ -71,6 +71,7 @@ fn push_day_change(what: &What, came: &mut Text) -> Result<(), NoMemory> {
         What::DropMeasurement { number } => push_dropped_measurement(*number, came),
         What::Review { from, to } => push_days(b"Review", *from, *to, came),
         What::Decide { from, to, decision } => push_decision(*from, *to, *decision, came),
+        What::SetEdition { day, least } => push_edition(*day, *least, came),
         _ => Ok(()),
     }
 }
@@ -255,6 +256,15 @@ fn push_days(kind: &[u8], from: Day, to: Day, came: &mut Text) -> Result<(), NoM
     push_word(kind, came)?;
     push_day(from, came)?;
     push_day(to, came)
+}
+
+fn push_edition(day: Day, least: Option<u32>, came: &mut Text) -> Result<(), NoMemory> {
+    push_word(b"SetEdition", came)?;
+    push_day(day, came)?;
+    match least {
+        Some(minutes) => push_count(minutes, came),
+        None => push_word(b"-", came),
+    }
 }
 
 fn push_decision(from: Day, to: Day, decision: Decision, came: &mut Text) -> Result<(), NoMemory> {

@@ -1,10 +1,11 @@
 -- What an edit keeps to, by its kind.
-use Rattle.std.specs.Prelude.{ℕ, ◌≤◌, ◌≤ℤ◌, ◌<ℤ◌, ◌+ℤ◌, pos, List, length, All, IfSome, ℤ}
+use Rattle.std.specs.Prelude.{ℕ, ◌≤◌, ◌≤ℤ◌, ◌<ℤ◌, ◌+ℤ◌, pos, List, length, All, IfSome, Option, ℤ}
 use Rattle.civil_days.specs.Starts.{IsZone}
 use Rattle.curves.specs.Curve.{stage_of}
+use Rattle.editions.specs.Covers.{IsLeastCover}
 use Rattle.edits.specs.Texts.{IsName}
 use Rattle.edits.specs.declared.content.What.{What}
-use Rattle.edits.specs.declared.content.What.TheVariants.{AddStation, SetStation, PutReadings, DropReadings, FlagReadings, PutCorrection, DropCorrection, PutShift, DropShift, AddRating, PutPeriod, DropPeriod, PutEstimate, DropEstimate, PutMeasurement, DropMeasurement, Review, Decide}
+use Rattle.edits.specs.declared.content.What.TheVariants.{AddStation, SetStation, PutReadings, DropReadings, FlagReadings, PutCorrection, DropCorrection, PutShift, DropShift, AddRating, PutPeriod, DropPeriod, PutEstimate, DropEstimate, PutMeasurement, DropMeasurement, Review, Decide, SetEdition}
 use Rattle.edits.specs.declared.estimates.Estimate.{Estimate}
 use Rattle.edits.specs.declared.measurements.Measurement.{Measurement}
 use Rattle.fixed_units.specs.Quantities.{IsAmount, IsDay, IsDischarge, IsStage, IsStamp, most_gap, most_rating_number}
@@ -111,6 +112,11 @@ pub record IsReviewSpan (from to : ℤ) : Type 0 where
   pub ordered : from ≤ℤ to
   pub most : to <ℤ (from +ℤ pos most_reviewed_days)
 
+-- an edition that is set: from a day on, with a least cover, or none where the whole day is needed
+pub record IsSetEdition (day : ℤ) (least : Option ℕ) : Type 0 where
+  pub begins : IsDay day
+  pub cover : IfSome least IsLeastCover
+
 -- what an edit of each kind is lawful by
 abbrev pub IsLawful : What → Type 0
 IsLawful (AddStation name zone gap stage_array discharge_array) =
@@ -132,3 +138,4 @@ IsLawful (PutMeasurement measurement) = IsPutMeasurement measurement
 IsLawful (DropMeasurement number) = IsMeasurementNumber number
 IsLawful (Review from to) = IsReviewSpan from to
 IsLawful (Decide from to decision) = IsReviewSpan from to
+IsLawful (SetEdition day least) = IsSetEdition day least

@@ -3,9 +3,10 @@ use Rattle.std.specs.Prelude.{Bool, true, false, ◌&&◌, ◌==◌, bytes_eq, O
 use Rattle.std.specs.Ordering.{int_eq}
 use Rattle.curves.specs.Entries.{entry_of}
 use Rattle.curves.specs.Equality.{same_entry}
+use Rattle.editions.specs.Covers.{same_least}
 use Rattle.edits.specs.declared.content.Edit.{Edit}
 use Rattle.edits.specs.declared.content.What.{What}
-use Rattle.edits.specs.declared.content.What.TheVariants.{AddStation, SetStation, PutReadings, DropReadings, FlagReadings, PutCorrection, DropCorrection, PutShift, DropShift, AddRating, PutPeriod, DropPeriod, PutEstimate, DropEstimate, PutMeasurement, DropMeasurement, Review, Decide}
+use Rattle.edits.specs.declared.content.What.TheVariants.{AddStation, SetStation, PutReadings, DropReadings, FlagReadings, PutCorrection, DropCorrection, PutShift, DropShift, AddRating, PutPeriod, DropPeriod, PutEstimate, DropEstimate, PutMeasurement, DropMeasurement, Review, Decide, SetEdition}
 use Rattle.edits.specs.Decisions.{decision_number}
 use Rattle.edits.specs.Grades.{grade_number}
 use Rattle.edits.specs.declared.estimates.Estimate.{Estimate}
@@ -68,6 +69,7 @@ is_same_what (PutMeasurement measurement) (PutMeasurement its_measurement) = sam
 is_same_what (DropMeasurement number) (DropMeasurement its_number) = number == its_number
 is_same_what (Review from to) (Review its_from its_to) = same_span from to its_from its_to
 is_same_what (Decide from to decision) (Decide its_from its_to its_decision) = same_span from to its_from its_to && decision_number decision == decision_number its_decision
+is_same_what (SetEdition day least) (SetEdition its_day its_least) = int_eq day its_day && same_least least its_least
 is_same_what _ _ = false
 
 -- sent alike, and they change the same

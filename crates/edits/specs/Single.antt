@@ -1,13 +1,13 @@
 -- That an edit is lawful has at most one proof, so that an edit keeps it.
-use Rattle.std.specs.Prelude.{List, ℕ, ℤ}
+use Rattle.std.specs.Prelude.{List, Option, ℕ, ℤ}
 use Rattle.std.proofs.Common.{ap, ◌∙◌}
 use Rattle.std.proofs.Props.{props}
 use Rattle.civil_days.specs.Starts.{IsZone}
 use Rattle.civil_days.proofs.ZoneLemmas.{IsZone-prop}
-use Rattle.edits.specs.Lawful.{IsLawful, AreSettings, ArePutReadings, IsMeasurementNumber, IsPutCurve, IsPutEstimate, IsPutMeasurement, IsPutPeriod, IsRatingNumber, IsReadingSpan, IsReviewSpan, IsSetNumber, IsStationZone}
+use Rattle.edits.specs.Lawful.{IsLawful, AreSettings, ArePutReadings, IsMeasurementNumber, IsPutCurve, IsPutEstimate, IsPutMeasurement, IsPutPeriod, IsRatingNumber, IsReadingSpan, IsReviewSpan, IsSetEdition, IsSetNumber, IsStationZone}
 use Rattle.edits.specs.Texts.{IsName}
 use Rattle.edits.specs.declared.content.What.{What}
-use Rattle.edits.specs.declared.content.What.TheVariants.{AddStation, SetStation, PutReadings, DropReadings, FlagReadings, PutCorrection, DropCorrection, PutShift, DropShift, AddRating, PutPeriod, DropPeriod, PutEstimate, DropEstimate, PutMeasurement, DropMeasurement, Review, Decide}
+use Rattle.edits.specs.declared.content.What.TheVariants.{AddStation, SetStation, PutReadings, DropReadings, FlagReadings, PutCorrection, DropCorrection, PutShift, DropShift, AddRating, PutPeriod, DropPeriod, PutEstimate, DropEstimate, PutMeasurement, DropMeasurement, Review, Decide, SetEdition}
 use Rattle.fixed_units.specs.Quantities.{IsDay, IsStamp}
 use Rattle.edits.specs.declared.estimates.Estimate.{Estimate}
 use Rattle.edits.specs.declared.measurements.Measurement.{Measurement}
@@ -67,6 +67,9 @@ number_prop number = Prim.hlevel props
 review_prop : (from to : ℤ) → IsProp (IsReviewSpan from to)
 review_prop from to = Prim.hlevel props
 
+edition_prop : (day : ℤ) (least : Option ℕ) → IsProp (IsSetEdition day least)
+edition_prop day least = Prim.hlevel props
+
 pub IsLawful-prop : (what : What) → IsProp (IsLawful what)
 IsLawful-prop (AddStation name zone gap stages discharges) a b =
     ap (λ (x : AreSettings name gap stages discharges). (x, a.1)) (settings_prop name gap stages discharges a.0 b.0) ∙ ap (λ (x : IsStationZone zone). (b.0, x)) (IsStationZone-prop zone a.1 b.1)
@@ -87,3 +90,4 @@ IsLawful-prop (PutMeasurement measurement) a b = measurement_prop measurement a 
 IsLawful-prop (DropMeasurement number) a b = number_prop number a b
 IsLawful-prop (Review from to) a b = review_prop from to a b
 IsLawful-prop (Decide from to decision) a b = review_prop from to a b
+IsLawful-prop (SetEdition day least) a b = edition_prop day least a b

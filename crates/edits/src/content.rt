@@ -146,6 +146,13 @@ pub enum What {
         /// What is decided.
         decision: Decision,
     },
+    /// Sets from which cover on a mean is published, from a day on, in place of what was set for that day.
+    SetEdition {
+        /// The first day.
+        day: Day,
+        /// The least cover in minutes, 1 to 1,440, or `None` for the whole day.
+        least: Option<u32>,
+    },
 }
 
 /// An edit of the record.

@@ -2,7 +2,7 @@
 
 ghost use Rattle.std.specs.Prelude.{◌≡◌, ◌↔◌, true};
 ghost use Rattle.edits.specs.Same.{are_sent_alike, is_same, is_same_what, same_period};
-ghost use Rattle.edits.specs.declared.content.What.TheVariants.{AddStation, SetStation, PutReadings, DropReadings, FlagReadings, PutCorrection, DropCorrection, PutShift, DropShift, AddRating, PutPeriod, DropPeriod, PutEstimate, DropEstimate, PutMeasurement, DropMeasurement, Review, Decide};
+ghost use Rattle.edits.specs.declared.content.What.TheVariants.{AddStation, SetStation, PutReadings, DropReadings, FlagReadings, PutCorrection, DropCorrection, PutShift, DropShift, AddRating, PutPeriod, DropPeriod, PutEstimate, DropEstimate, PutMeasurement, DropMeasurement, Review, Decide, SetEdition};
 
 use crate::content::{Edit, What};
 use crate::decisions::Decision;
@@ -77,6 +77,7 @@ fn is_same_what(what: &What, other: &What) -> bool
         What::DropMeasurement { number } => is_dropped_measurement(other, *number),
         What::Review { from, to } => is_review(other, *from, *to),
         What::Decide { from, to, decision } => is_decision(other, *from, *to, *decision),
+        What::SetEdition { day, least } => is_set_edition(other, *day, *least),
     }
 }
 
@@ -348,6 +349,20 @@ fn is_decision(what: &What, from: Day, to: Day, decision: Decision) -> bool
             to: own_to,
             decision: own_decision,
         } => from == *own_from && to == *own_to && decision.number() == own_decision.number(),
+        _ => false,
+    }
+}
+
+/// Whether this sets the edition from a day on.
+fn is_set_edition(what: &What, day: Day, least: Option<u32>) -> bool
+    ensures same { result ≡ is_same_what (SetEdition day least) what.now }
+    ensures equal { result ≡ true ↔ what.now ≡ SetEdition day least }
+{
+    match what {
+        What::SetEdition {
+            day: own_day,
+            least: own_least,
+        } => day == *own_day && least == *own_least,
         _ => false,
     }
 }

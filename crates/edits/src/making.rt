@@ -2,8 +2,9 @@
 
 ghost use Rattle.std.specs.Prelude.{◌≡◌, ◌↔◌, true, ◌≤◌, ◌&&◌, int_lt, length, IfOk, IfErr, IfSome, OnErr, All};
 ghost use Rattle.civil_days.specs.Starts.{IsZone};
+ghost use Rattle.editions.specs.Covers.{IsLeastCover};
 ghost use Rattle.edits.specs.Faults.{AddsStation, IsEditFault};
-ghost use Rattle.edits.specs.Lawful.{IsLawful, AreSettings, ArePutReadings, IsGap, IsMeasurementNumber, IsPutCurve, IsPutEstimate, IsPutMeasurement, IsPutPeriod, IsPutPoint, IsPutReading, IsRatingNumber, IsReadingSpan, IsReviewSpan, IsSetNumber, IsStationZone, most_readings};
+ghost use Rattle.edits.specs.Lawful.{IsLawful, AreSettings, ArePutReadings, IsGap, IsMeasurementNumber, IsPutCurve, IsPutEstimate, IsPutMeasurement, IsPutPeriod, IsPutPoint, IsPutReading, IsRatingNumber, IsReadingSpan, IsReviewSpan, IsSetEdition, IsSetNumber, IsStationZone, most_readings};
 ghost use Rattle.fixed_units.specs.Quantities.{IsDay, IsStamp, is_stage, is_stamp};
 ghost use Rattle.rating_tables.specs.Table.{IsRating};
 ghost use Rattle.readings.specs.Readings.{IsRising};
@@ -16,6 +17,7 @@ use crate::names::{Name, is_name};
 use crate::senders::{By, Ref};
 use civil_days::{StationZone, ZoneFault};
 use curves::Curve;
+use editions::is_least_cover;
 use fixed_units::{
     Day, MOST_GAP, MOST_RATING_NUMBER, Micro, NoMemory, Reading, RoundingArray, Second, Site,
     is_amount, is_discharge, is_stage, is_stamp,
@@ -24,6 +26,19 @@ use ratings::{Period, SharedTable};
 use std::alloc::Global;
 
 impl Edit {
+    /// The edit of these parts, of which what it changes is known to be lawful.
+    pub fn of(by: By, reference: Ref, site: Site, what: What) -> Edit
+        requires { IsLawful what }
+        ensures { (result.by ≡ by) × (result.reference ≡ reference) × (result.site ≡ site) × (result.what ≡ what) }
+    {
+        Edit {
+            by,
+            reference,
+            site,
+            what,
+        }
+    }
+
     /// The edit of these parts.
     ///
     /// # Errors
@@ -42,12 +57,7 @@ impl Edit {
         ensures fault { IfErr result (IsEditFault what) }
     {
         match is_lawful(alloc, &what) {
-            Ok(true) => Ok(Edit {
-                by,
-                reference,
-                site,
-                what,
-            }),
+            Ok(true) => Ok(Edit::of(by, reference, site, what)),
             Ok(false) => Err(EditFault::NotLawful),
             Err(NoMemory) => Err(EditFault::NoMemory),
         }
@@ -89,6 +99,7 @@ fn is_lawful(alloc: Global, what: &What) -> Result<bool, NoMemory>
         What::DropMeasurement { number } => Ok(is_measurement_number(*number)),
         What::Review { from, to } => Ok(is_review_span(*from, *to)),
         What::Decide { from, to, .. } => Ok(is_review_span(*from, *to)),
+        What::SetEdition { day, least } => Ok(is_set_edition(*day, *least)),
     }
 }
 
@@ -310,4 +321,21 @@ pub fn is_put_measurement(measurement: &Measurement) -> bool
         && is_stamp(measurement.at.get())
         && is_stage(measurement.gage.get())
         && is_discharge(measurement.discharge.get())
+}
+
+/// Whether an edit may set this edition from a day on.
+pub fn is_set_edition(day: Day, least: Option<u32>) -> bool
+    ensures { result ≡ true ↔ IsSetEdition day least }
+{
+    is_calendar_day(day) && is_least_cover_or_none(least)
+}
+
+/// Whether a least cover, if there is one, is in range.
+fn is_least_cover_or_none(least: Option<u32>) -> bool
+    ensures { result ≡ true ↔ IfSome least IsLeastCover }
+{
+    match least {
+        Some(minutes) => is_least_cover(minutes),
+        None => true,
+    }
 }

@@ -27,6 +27,8 @@ pub struct Frame {
     pub discharges: RoundingArray,
     /// The estimate: `estimate=`, usually none.
     pub estimate: Option<Micro>,
+    /// The least cover in minutes: `least=`, usually none.
+    pub least: Option<u32>,
 }
 
 /// What stands behind a key.
@@ -49,6 +51,7 @@ pub fn frame_of(text: &str) -> Result<Frame, Stop> {
         stages: array(behind(text, "stages=", "9999999992"))?,
         discharges: array(behind(text, "discharges=", "0222233332"))?,
         estimate: estimate(behind(text, "estimate=", "-"))?,
+        least: least(behind(text, "least=", "-"))?,
     })
 }
 
@@ -61,6 +64,13 @@ fn estimate(text: &str) -> Result<Option<Micro>, Stop> {
         return Ok(None);
     }
     Ok(Some(quantity(text)?))
+}
+
+fn least(text: &str) -> Result<Option<u32>, Stop> {
+    if text == "-" {
+        return Ok(None);
+    }
+    Ok(Some(count(text)?))
 }
 
 /// The inputs of a day, or none where the text is `empty`.
@@ -87,6 +97,7 @@ fn without_lists(alloc: Global, frame: Frame) -> DayParts {
         shifts: EntryList::from_vec(Vec::new(alloc)),
         periods: PartList::from_vec(Vec::new(alloc)),
         estimate: frame.estimate,
+        least: frame.least,
     }
 }
 

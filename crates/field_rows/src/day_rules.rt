@@ -1,6 +1,7 @@
 //! Which inputs of a day may be computed, and the value that they have.
 ghost use Rattle.std.specs.Prelude.{◌≡◌, ◌<◌, All, IfSome, IsTrue};
 ghost use Rattle.curves.specs.Entries.{IsSeries};
+ghost use Rattle.editions.specs.Covers.{IsLeastCover};
 ghost use Rattle.fixed_units.specs.Quantities.{IsDischarge, IsStage, IsStamp};
 ghost use Rattle.ratings.specs.Parts.{AreParts};
 ghost use Rattle.readings.specs.Readings.{IsRising};
@@ -9,6 +10,7 @@ ghost use Rattle.day_inputs.specs.DayInputs.{AreInputs};
 use crate::unit_values::{are_parts, is_series};
 use chronicle::Steps;
 use daily_values::{DayInputs, DayParts, DayValue, compute};
+use editions::is_least_cover;
 use fixed_units::{Micro, Reading, is_discharge, is_stage, is_stamp};
 use std::marker::Brand;
 use std::sync::ledger::{Blank, Ledger};
@@ -51,6 +53,16 @@ pub fn is_estimate(estimate: Option<Micro>) -> bool
     }
 }
 
+/// Whether a least cover is 1 to 1,440 minutes, if there is one.
+pub fn is_least(least: Option<u32>) -> bool
+    ensures { IsTrue result → IfSome least IsLeastCover }
+{
+    match least {
+        Some(minutes) => is_least_cover(minutes),
+        None => true,
+    }
+}
+
 /// Whether a day's inputs keep to what they must.
 pub fn are_inputs(inputs: &DayInputs) -> bool
     ensures { IsTrue result → AreInputs inputs.now }
@@ -76,6 +88,7 @@ fn are_rules(parts: &DayParts) -> bool
     ensures shifts { IsTrue result → IsSeries parts.now.shifts }
     ensures periods { IsTrue result → AreParts parts.now.periods }
     ensures estimate { IsTrue result → IfSome parts.now.estimate IsDischarge }
+    ensures least { IsTrue result → IfSome parts.now.least IsLeastCover }
 {
     is_series(parts.first.as_slice())
         && is_series(parts.second.as_slice())
@@ -83,6 +96,7 @@ fn are_rules(parts: &DayParts) -> bool
         && is_series(parts.shifts.as_slice())
         && are_parts(parts.periods.as_slice())
         && is_estimate(parts.estimate)
+        && is_least(parts.least)
 }
 
 /// The value that the inputs of a day have.

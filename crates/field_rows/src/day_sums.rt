@@ -1,8 +1,9 @@
 //! Calls of `daily_values`: the sums of a day and what is published of them.
 
-use crate::notation::{push_next, push_whole, push_whole_if};
+use crate::day_needs;
+use crate::notation::{push_next, push_published, push_whole, push_whole_if};
 use daily_values::{Figures, Sum};
-use fixed_units::{NoMemory, Published, Text, write_published};
+use fixed_units::{NoMemory, Published, Text};
 
 /// Writes what a word asks of the sums of a day.
 pub fn push_figure(figures: &Figures, word: &str, came: &mut Text) -> Result<(), NoMemory> {
@@ -15,7 +16,7 @@ pub fn push_figure(figures: &Figures, word: &str, came: &mut Text) -> Result<(),
         "discharge_units" => push_units(figures.discharge_text(), came),
         "stage_text" => push_published(figures.stage_text(), came),
         "discharge_text" => push_published(figures.discharge_text(), came),
-        _ => came.push_slice(b"no such call"),
+        _ => day_needs::push_figure(figures, word, came),
     }
 }
 
@@ -28,11 +29,4 @@ fn push_sum(sum: Sum, came: &mut Text) -> Result<(), NoMemory> {
 /// The units of a published value, without its point.
 fn push_units(value: Option<Published>, came: &mut Text) -> Result<(), NoMemory> {
     push_whole_if(value.map(|value| value.units), came)
-}
-
-fn push_published(value: Option<Published>, came: &mut Text) -> Result<(), NoMemory> {
-    match value {
-        Some(value) => write_published(value, came),
-        None => came.push_slice(b"none"),
-    }
 }

@@ -4,6 +4,7 @@
 mod curve_points;
 mod day_figures;
 mod day_given;
+mod day_needs;
 mod day_rules;
 mod day_sums;
 mod days;

@@ -1,7 +1,9 @@
 //! How rows write quantities, instants and lists of pairs, and why a row is not played to its end.
 
 use civil_days::{read_instant, write_instant};
-use fixed_units::{Micro, NoMemory, Second, Text, read_decimal, write_micro};
+use fixed_units::{
+    Micro, NoMemory, Published, Second, Text, read_decimal, write_micro, write_published,
+};
 use row_lines::parted;
 use std::alloc::Global;
 
@@ -153,6 +155,14 @@ pub fn push_whole(value: i128, came: &mut Text) -> Result<(), NoMemory> {
 pub fn push_whole_if(value: Option<i64>, came: &mut Text) -> Result<(), NoMemory> {
     match value {
         Some(value) => push_whole(i128::from(value), came),
+        None => came.push_slice(b"none"),
+    }
+}
+
+/// Writes a published value, or that there is none.
+pub fn push_published(value: Option<Published>, came: &mut Text) -> Result<(), NoMemory> {
+    match value {
+        Some(value) => write_published(value, came),
         None => came.push_slice(b"none"),
     }
 }

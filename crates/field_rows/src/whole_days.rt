@@ -1,10 +1,11 @@
 //! The value of a day from all readings of a station without corrections, shifts and ratings.
 ghost use Rattle.std.specs.Prelude.{◌≡◌, ◌≤◌, ◌-ℤ◌, pos, All, IfSome};
+ghost use Rattle.editions.specs.Covers.{IsLeastCover};
 ghost use Rattle.fixed_units.specs.Quantities.{IsDischarge, IsStage, IsStamp};
 ghost use Rattle.readings.specs.Readings.{IsRising};
 
 use crate::day_given::{behind, frame_of};
-use crate::day_rules::{are_rising, are_stages, are_stamps, is_estimate};
+use crate::day_rules::{are_rising, are_stages, are_stamps, is_estimate, is_least};
 use crate::notation::Stop;
 use crate::reading_lists::reading_list;
 use curves::{CorrectionSets, Shifts};
@@ -33,7 +34,7 @@ fn from_readings(
     if !are_rising(readings) || !are_stages(readings) || !are_stamps(readings) {
         return Err(Stop::NotWellFormed);
     }
-    if frame.gap < 1 || frame.gap > 720 || !is_estimate(estimate) {
+    if frame.gap < 1 || frame.gap > 720 || !is_estimate(estimate) || !is_least(frame.least) {
         return Err(Stop::NotWellFormed);
     }
     let length = frame.until.get() - frame.from.get();
@@ -47,6 +48,7 @@ fn from_readings(
         frame.until,
         readings,
         estimate,
+        frame.least,
     )?)
 }
 
@@ -57,6 +59,7 @@ fn without_entries(
     until: Second,
     readings: &[Reading],
     estimate: Option<Micro>,
+    least: Option<u32>,
 ) -> Result<DayValue, NoMemory>
     requires gap_low { 1 ≤ gap }
     requires gap_high { gap ≤ 720 }
@@ -65,6 +68,7 @@ fn without_entries(
     requires stamps { All (λ r. IsStamp r.at) readings.now }
     requires stages { All (λ r. IsStage r.raw) readings.now }
     requires estimate { IfSome estimate IsDischarge }
+    requires least { IfSome least IsLeastCover }
 {
     let corrections = CorrectionSets::new(alloc);
     let shifts = Shifts::new(alloc);
@@ -84,5 +88,6 @@ fn without_entries(
         &ratings,
         readings,
         estimate,
+        least,
     )
 }

@@ -9,7 +9,7 @@ use Rattle.approval.specs.Statuses.{Standing, after_what, is_approved, is_in_rev
 use Rattle.approval.specs.declared.status.Status.TheVariants.{InReview, Approved}
 use Rattle.edits.specs.Lawful.{IsLawful, IsReviewSpan}
 use Rattle.edits.specs.declared.content.What.{What}
-use Rattle.edits.specs.declared.content.What.TheVariants.{AddStation, SetStation, PutReadings, DropReadings, FlagReadings, PutCorrection, DropCorrection, PutShift, DropShift, AddRating, PutPeriod, DropPeriod, PutEstimate, DropEstimate, PutMeasurement, DropMeasurement, Review, Decide}
+use Rattle.edits.specs.declared.content.What.TheVariants.{Review, Decide}
 use Rattle.edits.specs.declared.decisions.Decision.{Decision}
 use Rattle.edits.specs.declared.decisions.Decision.TheVariants.{Approve, Rescind}
 use Rattle.fixed_units.specs.Calendar.{calendar, days_from, days_of_calendar}
@@ -60,24 +60,9 @@ decided_made number by from to Rescind changed day s h = other_made (spans from 
 
 pub made_by : (number : ℕ) (by : List ℕ) (what : What) (changed : Bool) (day : ℤ) (s : Standing) → is_approved (after_what number by what changed day s).status ≡ true
     → (after_what number by what changed day s ≡ s) ⊎ IsApproval number what day (after_what number by what changed day s)
-made_by number by (AddStation name zone gap stages discharges) changed day s h = other_made (changed && is_in_review s.status) number _ day s h
-made_by number by (SetStation name gap stages discharges) changed day s h = other_made (changed && is_in_review s.status) number _ day s h
-made_by number by (PutReadings readings) changed day s h = other_made (changed && is_in_review s.status) number _ day s h
-made_by number by (DropReadings from to) changed day s h = other_made (changed && is_in_review s.status) number _ day s h
-made_by number by (FlagReadings from to flag) changed day s h = other_made (changed && is_in_review s.status) number _ day s h
-made_by number by (PutCorrection set since curve prorate) changed day s h = other_made (changed && is_in_review s.status) number _ day s h
-made_by number by (DropCorrection set since) changed day s h = other_made (changed && is_in_review s.status) number _ day s h
-made_by number by (PutShift since curve prorate) changed day s h = other_made (changed && is_in_review s.status) number _ day s h
-made_by number by (DropShift since) changed day s h = other_made (changed && is_in_review s.status) number _ day s h
-made_by number by (AddRating rating table) changed day s h = other_made (changed && is_in_review s.status) number _ day s h
-made_by number by (PutPeriod period) changed day s h = other_made (changed && is_in_review s.status) number _ day s h
-made_by number by (DropPeriod from) changed day s h = other_made (changed && is_in_review s.status) number _ day s h
-made_by number by (PutEstimate estimate) changed day s h = other_made (changed && is_in_review s.status) number _ day s h
-made_by number by (DropEstimate own) changed day s h = other_made (changed && is_in_review s.status) number _ day s h
-made_by number by (PutMeasurement measurement) changed day s h = other_made (changed && is_in_review s.status) number _ day s h
-made_by number by (DropMeasurement own) changed day s h = other_made (changed && is_in_review s.status) number _ day s h
 made_by number by (Review from to) changed day s h = reviewed_made (spans from to day) number by _ day s h
 made_by number by (Decide from to decision) changed day s h = decided_made number by from to decision changed day s h
+made_by number by _ changed day s h = other_made (changed && is_in_review s.status) number _ day s h
 
 -- how far one day is behind another
 pub distance : (z : ℤ) → pos 0 ≤ℤ z → pos (unsigned_abs z) ≡ z
@@ -154,48 +139,16 @@ decided_sheets events site from to Approve span =
 decided_sheets events site from to Rescind span = refl
 
 pub made_sheets : (events : List Event) (site : SiteNumber) (what : What) → IsLawful what → HasItsSheets what (sheets_of events site what)
-made_sheets events site (AddStation name zone gap stages discharges) l = refl
-made_sheets events site (SetStation name gap stages discharges) l = refl
-made_sheets events site (PutReadings readings) l = refl
-made_sheets events site (DropReadings first last) l = refl
-made_sheets events site (FlagReadings first last flag) l = refl
-made_sheets events site (PutCorrection set at curve prorate) l = refl
-made_sheets events site (DropCorrection set at) l = refl
-made_sheets events site (PutShift at curve prorate) l = refl
-made_sheets events site (DropShift at) l = refl
-made_sheets events site (AddRating rating table) l = refl
-made_sheets events site (PutPeriod period) l = refl
-made_sheets events site (DropPeriod start) l = refl
-made_sheets events site (PutEstimate estimate) l = refl
-made_sheets events site (DropEstimate own) l = refl
-made_sheets events site (PutMeasurement measurement) l = refl
-made_sheets events site (DropMeasurement number) l = refl
-made_sheets events site (Review first last) l = refl
 made_sheets events site (Decide from to decision) l = decided_sheets events site from to decision l
+made_sheets events site _ l = refl
 
 decided_fit : (from to : ℤ) (decision : Decision) (sheets : List (List ℕ)) → AreSheetsOf (Decide from to decision) sheets → HasItsSheets (Decide from to decision) sheets
 decided_fit from to Approve sheets f = f.one_a_day
 decided_fit from to Rescind sheets f = f
 
 pub sheets_fit : (what : What) (sheets : List (List ℕ)) → AreSheetsOf what sheets → HasItsSheets what sheets
-sheets_fit (AddStation name zone gap stages discharges) sheets f = f
-sheets_fit (SetStation name gap stages discharges) sheets f = f
-sheets_fit (PutReadings readings) sheets f = f
-sheets_fit (DropReadings first last) sheets f = f
-sheets_fit (FlagReadings first last flag) sheets f = f
-sheets_fit (PutCorrection set at curve prorate) sheets f = f
-sheets_fit (DropCorrection set at) sheets f = f
-sheets_fit (PutShift at curve prorate) sheets f = f
-sheets_fit (DropShift at) sheets f = f
-sheets_fit (AddRating rating table) sheets f = f
-sheets_fit (PutPeriod period) sheets f = f
-sheets_fit (DropPeriod start) sheets f = f
-sheets_fit (PutEstimate estimate) sheets f = f
-sheets_fit (DropEstimate own) sheets f = f
-sheets_fit (PutMeasurement measurement) sheets f = f
-sheets_fit (DropMeasurement number) sheets f = f
-sheets_fit (Review first last) sheets f = f
 sheets_fit (Decide from to decision) sheets f = decided_fit from to decision sheets f
+sheets_fit _ sheets f = f
 
 -- so each day that it approves has one
 spanned_sheet : (from to day : ℤ) (sheets : List (List ℕ)) → HasItsSheets (Decide from to Approve) sheets → spans from to day ≡ true

@@ -11,7 +11,7 @@ use Rattle.approval.specs.declared.status.Status.{Status}
 use Rattle.approval.specs.declared.status.Status.TheVariants.{InReview, Approved}
 use Rattle.edits.specs.declared.content.Edit.{Edit}
 use Rattle.edits.specs.declared.content.What.{What}
-use Rattle.edits.specs.declared.content.What.TheVariants.{AddStation, SetStation, PutReadings, DropReadings, FlagReadings, PutCorrection, DropCorrection, PutShift, DropShift, AddRating, PutPeriod, DropPeriod, PutEstimate, DropEstimate, PutMeasurement, DropMeasurement, Review, Decide}
+use Rattle.edits.specs.declared.content.What.TheVariants.{Review, Decide}
 use Rattle.edits.specs.declared.decisions.Decision.{Decision}
 use Rattle.edits.specs.declared.decisions.Decision.TheVariants.{Approve, Rescind}
 use Rattle.fixed_units.specs.Calendar.{calendar}
@@ -169,24 +169,9 @@ decided_within number by from to Approve changed day s l = set_within (spans fro
 decided_within number by from to Rescind changed day s l = other_within (spans from to day) number s l
 
 what_within : (number : ℕ) (by : List ℕ) (what : What) (changed : Bool) (day : ℤ) (s : Standing) → s.edit ≤ number → (after_what number by what changed day s).edit ≤ number
-what_within number by (AddStation name zone gap stages discharges) changed day s l = other_within (changed && is_in_review s.status) number s l
-what_within number by (SetStation name gap stages discharges) changed day s l = other_within (changed && is_in_review s.status) number s l
-what_within number by (PutReadings readings) changed day s l = other_within (changed && is_in_review s.status) number s l
-what_within number by (DropReadings from to) changed day s l = other_within (changed && is_in_review s.status) number s l
-what_within number by (FlagReadings from to flag) changed day s l = other_within (changed && is_in_review s.status) number s l
-what_within number by (PutCorrection set since curve prorate) changed day s l = other_within (changed && is_in_review s.status) number s l
-what_within number by (DropCorrection set since) changed day s l = other_within (changed && is_in_review s.status) number s l
-what_within number by (PutShift since curve prorate) changed day s l = other_within (changed && is_in_review s.status) number s l
-what_within number by (DropShift since) changed day s l = other_within (changed && is_in_review s.status) number s l
-what_within number by (AddRating rating table) changed day s l = other_within (changed && is_in_review s.status) number s l
-what_within number by (PutPeriod period) changed day s l = other_within (changed && is_in_review s.status) number s l
-what_within number by (DropPeriod from) changed day s l = other_within (changed && is_in_review s.status) number s l
-what_within number by (PutEstimate estimate) changed day s l = other_within (changed && is_in_review s.status) number s l
-what_within number by (DropEstimate own) changed day s l = other_within (changed && is_in_review s.status) number s l
-what_within number by (PutMeasurement measurement) changed day s l = other_within (changed && is_in_review s.status) number s l
-what_within number by (DropMeasurement own) changed day s l = other_within (changed && is_in_review s.status) number s l
 what_within number by (Review from to) changed day s l = set_within (spans from to day) number (InReview by) s l
 what_within number by (Decide from to decision) changed day s l = decided_within number by from to decision changed day s l
+what_within number by _ changed day s l = other_within (changed && is_in_review s.status) number s l
 
 step_within : (b : Bool) (number : ℕ) (t s : Standing) → t.edit ≤ number → s.edit ≤ number → (cond b t s).edit ≤ number
 step_within true number t s k l = k

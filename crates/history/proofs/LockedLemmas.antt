@@ -7,7 +7,7 @@ use Rattle.approval.specs.declared.objections.Objection.TheVariants as objection
 use Rattle.edits.specs.Same.{is_same}
 use Rattle.edits.specs.declared.content.Edit.{Edit}
 use Rattle.edits.specs.declared.content.What.{What}
-use Rattle.edits.specs.declared.content.What.TheVariants.{AddStation, SetStation, PutReadings, DropReadings, FlagReadings, PutCorrection, DropCorrection, PutShift, DropShift, AddRating, PutPeriod, DropPeriod, PutEstimate, DropEstimate, PutMeasurement, DropMeasurement, Review, Decide}
+use Rattle.edits.specs.declared.content.What.TheVariants.{Decide}
 use Rattle.edits.specs.declared.decisions.Decision.{Decision}
 use Rattle.edits.specs.declared.decisions.Decision.TheVariants.{Approve, Rescind}
 use Rattle.fixed_units.specs.Calendar.{calendar}
@@ -100,23 +100,7 @@ not_decision day events site from to Rescind h = cc h
 
 not_awaiting : (day : ℤ) (events : List Event) (site : SiteNumber) (what : What) → NotLocked day (awaiting events site what)
 not_awaiting day events site (Decide from to decision) h = not_decision day events site from to decision h
-not_awaiting day events site (AddStation name zone gap stages discharges) h = cc h
-not_awaiting day events site (SetStation name gap stages discharges) h = cc h
-not_awaiting day events site (PutReadings readings) h = cc h
-not_awaiting day events site (DropReadings from to) h = cc h
-not_awaiting day events site (FlagReadings from to flag) h = cc h
-not_awaiting day events site (PutCorrection set at curve prorate) h = cc h
-not_awaiting day events site (DropCorrection set at) h = cc h
-not_awaiting day events site (PutShift at curve prorate) h = cc h
-not_awaiting day events site (DropShift at) h = cc h
-not_awaiting day events site (AddRating rating table) h = cc h
-not_awaiting day events site (PutPeriod period) h = cc h
-not_awaiting day events site (DropPeriod from) h = cc h
-not_awaiting day events site (PutEstimate estimate) h = cc h
-not_awaiting day events site (DropEstimate own) h = cc h
-not_awaiting day events site (PutMeasurement measurement) h = cc h
-not_awaiting day events site (DropMeasurement number) h = cc h
-not_awaiting day events site (Review from to) h = cc h
+not_awaiting day events site _ h = cc h
 
 not_full : (day : ℤ) (events cells journal : Bool) → NotLocked day (or_else (refused_where events (HistoryFull fulls.Events))
     (or_else (refused_where cells (HistoryFull fulls.Cells)) (refused_where journal JournalFull)))

@@ -11,10 +11,11 @@ use Rattle.curves.specs.Equality.{same_entry}
 use Rattle.curves.specs.declared.entries.Entry.{Entry}
 use Rattle.edits.specs.Decisions.{decision_number}
 use Rattle.edits.specs.Grades.{grade_number}
+use Rattle.editions.proofs.CoverLemmas.{leasts_decide}
 use Rattle.edits.specs.Same.{is_same, is_same_what, same_end}
 use Rattle.edits.specs.declared.content.Edit.{Edit}
 use Rattle.edits.specs.declared.content.What.{What}
-use Rattle.edits.specs.declared.content.What.TheVariants.{AddStation, SetStation, PutReadings, DropReadings, FlagReadings, PutCorrection, DropCorrection, PutShift, DropShift, AddRating, PutPeriod, DropPeriod, PutEstimate, DropEstimate, PutMeasurement, DropMeasurement, Review, Decide}
+use Rattle.edits.specs.declared.content.What.TheVariants.{AddStation, SetStation, PutReadings, DropReadings, FlagReadings, PutCorrection, DropCorrection, PutShift, DropShift, AddRating, PutPeriod, DropPeriod, PutEstimate, DropEstimate, PutMeasurement, DropMeasurement, Review, Decide, SetEdition}
 use Rattle.fixed_units.specs.declared.readings.Flag.{Flag}
 use Rattle.fixed_units.specs.declared.readings.Flag.TheVariants.{Usable, Erroneous, Affected}
 use Rattle.history.specs.Accepted.{Numbered, accepted, edit_of, edits_of, named}
@@ -79,6 +80,7 @@ same_what (PutMeasurement m) =
 same_what (DropMeasurement number) = same_number number
 same_what (Review from to) = rw (same_instant from, same_instant to) refl
 same_what (Decide from to decision) = rw (same_instant from, same_instant to, same_number (decision_number decision)) refl
+same_what (SetEdition day least) = rw (same_instant day) ((leasts_decide least least).1 refl)
 
 -- an edit is the same as itself
 same_as_itself : (edit : Edit) → is_same edit edit ≡ true

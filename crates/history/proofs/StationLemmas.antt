@@ -8,7 +8,7 @@ use Rattle.day_inputs.specs.Equality.{same_inputs}
 use Rattle.day_inputs.proofs.EqualityLemmas.{Decides-same_inputs}
 use Rattle.edits.specs.declared.content.Edit.{Edit}
 use Rattle.edits.specs.declared.content.What.{What}
-use Rattle.edits.specs.declared.content.What.TheVariants.{AddStation, SetStation, PutReadings, DropReadings, FlagReadings, PutCorrection, DropCorrection, PutShift, DropShift, AddRating, PutPeriod, DropPeriod, PutEstimate, DropEstimate, PutMeasurement, DropMeasurement, Review, Decide}
+use Rattle.edits.specs.declared.content.What.TheVariants.{AddStation}
 use Rattle.fixed_units.specs.Quantities.{SiteNumber, site_place, same_site}
 use Rattle.history.specs.Accepted.{changes}
 use Rattle.office_inputs.specs.Changes.{keeps_day}
@@ -45,45 +45,13 @@ same_day stations a b day e = ap (λ o. day_of_station o day) (same_station stat
 -- a station keeps its place through an edit, and one that is added has that of its site
 pub changed_place : (what : What) (s : StationState) → place_of (station_after what s) ≡ place_of s
 changed_place (AddStation name zone gap stages discharges) s = refl
-changed_place (SetStation name gap stages discharges) s = refl
-changed_place (PutReadings readings) s = refl
-changed_place (DropReadings from to) s = refl
-changed_place (FlagReadings from to flag) s = refl
-changed_place (PutCorrection set since curve prorate) s = refl
-changed_place (DropCorrection set since) s = refl
-changed_place (PutShift since curve prorate) s = refl
-changed_place (DropShift since) s = refl
-changed_place (AddRating rating table) s = refl
-changed_place (PutPeriod period) s = refl
-changed_place (DropPeriod from) s = refl
-changed_place (PutEstimate estimate) s = refl
-changed_place (DropEstimate day) s = refl
-changed_place (PutMeasurement measurement) s = refl
-changed_place (DropMeasurement number) s = refl
-changed_place (Review from to) s = refl
-changed_place (Decide from to decision) s = refl
+changed_place _ s = refl
 
 pub added_place : (site : SiteNumber) (what : What) (s : StationState) → added site what ≡ Some s → place_of s ≡ site_place site
 added_place site (AddStation name zone gap stages discharges) s e =
     let same : new_station site name zone gap stages discharges ≡ s = cc in
     ap place_of (sym same)
-added_place site (SetStation name gap stages discharges) s e = absurd (cc)
-added_place site (PutReadings readings) s e = absurd (cc)
-added_place site (DropReadings from to) s e = absurd (cc)
-added_place site (FlagReadings from to flag) s e = absurd (cc)
-added_place site (PutCorrection set since curve prorate) s e = absurd (cc)
-added_place site (DropCorrection set since) s e = absurd (cc)
-added_place site (PutShift since curve prorate) s e = absurd (cc)
-added_place site (DropShift since) s e = absurd (cc)
-added_place site (AddRating rating table) s e = absurd (cc)
-added_place site (PutPeriod period) s e = absurd (cc)
-added_place site (DropPeriod from) s e = absurd (cc)
-added_place site (PutEstimate estimate) s e = absurd (cc)
-added_place site (DropEstimate day) s e = absurd (cc)
-added_place site (PutMeasurement measurement) s e = absurd (cc)
-added_place site (DropMeasurement number) s e = absurd (cc)
-added_place site (Review from to) s e = absurd (cc)
-added_place site (Decide from to decision) s e = absurd (cc)
+added_place site _ s e = absurd (cc)
 
 module _ (own : SiteNumber) (stations : List StationState) where
   -- a change of a station keeps it

@@ -4,7 +4,7 @@ use Rattle.civil_days.specs.Texts.{day_text, instant_text}
 use Rattle.edit_bodies.specs.Members.{member_text}
 use Rattle.rating_tables.specs.Rdb.{line_of}
 use Rattle.office_inputs.specs.declared.refusals.Which.{Which}
-use Rattle.office_inputs.specs.declared.refusals.Which.TheVariants.{Stations, Readings, DayReadings, Ratings, Entries, Periods, Measurements}
+use Rattle.office_inputs.specs.declared.refusals.Which.TheVariants.{Stations, Readings, DayReadings, Ratings, Entries, Periods, Measurements, Editions}
 use Rattle.office_inputs.specs.declared.refusals.Full.{Full}
 use Rattle.office_inputs.specs.declared.refusals.Full.TheVariants.{Events, Cells}
 use Rattle.office_inputs.specs.declared.refusals.Refusal.{Refusal}
@@ -94,6 +94,7 @@ which_text Ratings = codes "Ratings"
 which_text Entries = codes "Entries"
 which_text Periods = codes "Periods"
 which_text Measurements = codes "Measurements"
+which_text Editions = codes "Editions"
 
 abbrev pub full_text : Full → List ℕ
 full_text Events = codes "Events"

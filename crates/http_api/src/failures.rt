@@ -237,6 +237,7 @@ fn which_name(which: Which) -> &'static [u8]
         Which::Entries => b"Entries",
         Which::Periods => b"Periods",
         Which::Measurements => b"Measurements",
+        Which::Editions => b"Editions",
     }
 }
 

@@ -6,7 +6,7 @@ use Rattle.approval.specs.declared.objections.Objection.{Objection}
 use Rattle.approval.specs.declared.objections.Objection.TheVariants as objections
 use Rattle.edits.specs.Same.{is_same}
 use Rattle.edits.specs.declared.content.What.{What}
-use Rattle.edits.specs.declared.content.What.TheVariants.{AddStation, SetStation, PutReadings, DropReadings, FlagReadings, PutCorrection, DropCorrection, PutShift, DropShift, AddRating, PutPeriod, DropPeriod, PutEstimate, DropEstimate, PutMeasurement, DropMeasurement, Review, Decide}
+use Rattle.edits.specs.declared.content.What.TheVariants.{Decide}
 use Rattle.edits.specs.declared.decisions.Decision.{Decision}
 use Rattle.edits.specs.declared.decisions.Decision.TheVariants.{Approve, Rescind}
 use Rattle.fixed_units.specs.Quantities.{SiteNumber}
@@ -91,23 +91,7 @@ of_decision events site from to Rescind = tt
 
 of_awaiting : (events : List Event) (site : SiteNumber) (what : What) → NoFault (awaiting events site what)
 of_awaiting events site (Decide from to decision) = of_decision events site from to decision
-of_awaiting events site (AddStation name zone gap stages discharges) = tt
-of_awaiting events site (SetStation name gap stages discharges) = tt
-of_awaiting events site (PutReadings readings) = tt
-of_awaiting events site (DropReadings from to) = tt
-of_awaiting events site (FlagReadings from to flag) = tt
-of_awaiting events site (PutCorrection set at curve prorate) = tt
-of_awaiting events site (DropCorrection set at) = tt
-of_awaiting events site (PutShift at curve prorate) = tt
-of_awaiting events site (DropShift at) = tt
-of_awaiting events site (AddRating rating table) = tt
-of_awaiting events site (PutPeriod period) = tt
-of_awaiting events site (DropPeriod from) = tt
-of_awaiting events site (PutEstimate estimate) = tt
-of_awaiting events site (DropEstimate day) = tt
-of_awaiting events site (PutMeasurement measurement) = tt
-of_awaiting events site (DropMeasurement number) = tt
-of_awaiting events site (Review from to) = tt
+of_awaiting events site _ = tt
 
 -- an approved day that would change
 of_locked : (o : Option ℤ) → NoFault (option_map Locked o)

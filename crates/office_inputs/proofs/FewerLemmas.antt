@@ -4,7 +4,7 @@ use Rattle.std.proofs.Common.{arith, refl, ap}
 use Rattle.std.proofs.lemmas.List.{length-map}
 use Rattle.std.proofs.lemmas.List.Filters.{length-filter_both}
 use Rattle.edits.specs.declared.content.What.{What}
-use Rattle.edits.specs.declared.content.What.TheVariants.{AddStation, SetStation, PutReadings, DropReadings, FlagReadings, PutCorrection, DropCorrection, PutShift, DropShift, AddRating, PutPeriod, DropPeriod, PutEstimate, DropEstimate, PutMeasurement, DropMeasurement, Review, Decide}
+use Rattle.edits.specs.declared.content.What.TheVariants.{PutReadings, DropReadings, FlagReadings}
 use Rattle.fixed_units.specs.declared.readings.Reading.{Reading}
 use Rattle.readings.specs.Readings.{flagged_where, is_within}
 use Rattle.readings.specs.Window.{is_of_day}
@@ -40,8 +40,6 @@ kept_all s t e z = record {
 }
 
 pub fewer : (what : What) (s : StationState) → ((readings : List Reading) → what ≡ PutReadings readings → ⊥) → IsFewer s (station_after what s)
-fewer (AddStation name zone gap stages discharges) s n = kept_all s _ refl refl
-fewer (SetStation name gap stages discharges) s n = kept_all s _ refl refl
 fewer (PutReadings readings) s n = absurd (n readings refl)
 fewer (DropReadings from to) s n =
     let out : Reading → Bool = λ r. not (is_within from to r) in
@@ -59,16 +57,4 @@ fewer (FlagReadings from to flag) s n =
       all = as_many _ _ (length-map s.readings f);
       days = λ day. as_many _ _ (marked (is_of_day (day_start s day) (day_start s (day +ℤ pos 1))) f (λ r. refl) s.readings);
     }
-fewer (PutCorrection set at curve prorate) s n = kept_all s _ refl refl
-fewer (DropCorrection set at) s n = kept_all s _ refl refl
-fewer (PutShift at curve prorate) s n = kept_all s _ refl refl
-fewer (DropShift at) s n = kept_all s _ refl refl
-fewer (AddRating rating table) s n = kept_all s _ refl refl
-fewer (PutPeriod period) s n = kept_all s _ refl refl
-fewer (DropPeriod from) s n = kept_all s _ refl refl
-fewer (PutEstimate estimate) s n = kept_all s _ refl refl
-fewer (DropEstimate day) s n = kept_all s _ refl refl
-fewer (PutMeasurement measurement) s n = kept_all s _ refl refl
-fewer (DropMeasurement number) s n = kept_all s _ refl refl
-fewer (Review from to) s n = kept_all s _ refl refl
-fewer (Decide from to decision) s n = kept_all s _ refl refl
+fewer _ s n = kept_all s _ refl refl

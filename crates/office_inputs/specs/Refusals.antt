@@ -44,6 +44,7 @@ limit_of counted.Ratings = counts.Ratings
 limit_of counted.Entries = counts.Entries
 limit_of counted.Periods = counts.Periods
 limit_of counted.Measurements = counts.Measurements
+limit_of counted.Editions = counts.Editions
 
 -- the first of a station's other counts that passes its limit
 abbrev pub passed_alone : Option StationState → Option StationState → Option Which

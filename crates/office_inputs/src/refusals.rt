@@ -23,6 +23,8 @@ pub enum Which {
     Periods,
     /// The measurements of a station.
     Measurements,
+    /// The editions of a station.
+    Editions,
 }
 
 impl From<Counted> for Which {
@@ -37,6 +39,7 @@ impl From<Counted> for Which {
             Counted::Entries => Which::Entries,
             Counted::Periods => Which::Periods,
             Counted::Measurements => Which::Measurements,
+            Counted::Editions => Which::Editions,
         }
     }
 }

@@ -2,14 +2,15 @@
 
 use crate::inputs::accept;
 use crate::sent::edit;
-use civil_days::write_instant;
-use fixed_units::{NoMemory, Second, Text};
+use civil_days::{write_day, write_instant};
+use fixed_units::{Day, NoMemory, Second, Text};
 use office_inputs::Inputs;
 use row_lines::parted;
 use std::alloc::Global;
 
 /// `many COUNT shift`: so many shifts of a tenth of a foot, at the seconds from the beginning of 1970 on. `period` is of rating 1, from
-/// each second until the next; `rate` and `measure` are of the numbers from 1 on. How many of them are accepted.
+/// each second until the next; `edition` is of 720 minutes from each day of 1970 on; `rate` and `measure` are of the numbers from 1 on.
+/// How many of them are accepted.
 pub fn send_many(
     alloc: Global,
     inputs: &mut Inputs,
@@ -62,6 +63,7 @@ fn push_nth(kind: &str, place: u32, act: &mut Text) -> Result<(), NoMemory> {
             act.push_slice(b" 0.1 held")
         }
         "period" => push_period(place, act),
+        "edition" => push_edition(place, act),
         _ => act.push_number(u64::from(place).saturating_add(1)),
     }
 }
@@ -71,6 +73,19 @@ fn push_period(place: u32, act: &mut Text) -> Result<(), NoMemory> {
     act.push_slice(b" ")?;
     push_second(place.saturating_add(1), act)?;
     act.push_slice(b" 1")
+}
+
+fn push_edition(place: u32, act: &mut Text) -> Result<(), NoMemory> {
+    push_day(place, act)?;
+    act.push_slice(b" 720")
+}
+
+/// Writes the day so many days after the beginning of 1970.
+fn push_day(days: u32, act: &mut Text) -> Result<(), NoMemory> {
+    match i32::try_from(days).ok().and_then(Day::new) {
+        Some(day) => write_day(day, act),
+        None => act.push_slice(b"-"),
+    }
 }
 
 /// Writes the instant so many seconds after the beginning of 1970.

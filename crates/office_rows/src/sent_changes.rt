@@ -37,7 +37,7 @@ fn change_of_entry(alloc: Global, word: &str, rest: &str) -> Option<What> {
     }
 }
 
-/// Estimates, measurements, reviews and decisions.
+/// Estimates, measurements, reviews, decisions and editions.
 fn change_of_day(word: &str, rest: &str) -> Option<What> {
     match word {
         "estimate" => estimate(rest),
@@ -47,6 +47,7 @@ fn change_of_day(word: &str, rest: &str) -> Option<What> {
         "review" => review(rest),
         "approve" => decision(rest, Decision::Approve),
         "rescind" => decision(rest, Decision::Rescind),
+        "edition" => edition(rest),
         _ => None,
     }
 }
@@ -248,4 +249,21 @@ fn review(text: &str) -> Option<What> {
 fn decision(text: &str, decision: Decision) -> Option<What> {
     let (from, to) = days(text)?;
     Some(What::Decide { from, to, decision })
+}
+
+/// `edition DAY LEAST`: minutes, or a dash.
+fn edition(text: &str) -> Option<What> {
+    let (from, least) = parted(text);
+    Some(What::SetEdition {
+        day: day(from)?,
+        least: least_of(least)?,
+    })
+}
+
+/// The least cover of a word, or none of a dash.
+fn least_of(word: &str) -> Option<Option<u32>> {
+    match word {
+        "-" => Some(None),
+        minutes => Some(Some(minutes.parse().ok()?)),
+    }
 }

@@ -28,6 +28,7 @@ fn push_limit(which: Which, came: &mut Text) -> Result<(), NoMemory> {
         Which::Entries => b"limit of entries",
         Which::Periods => b"limit of periods",
         Which::Measurements => b"limit of measurements",
+        Which::Editions => b"limit of editions",
     })
 }
 

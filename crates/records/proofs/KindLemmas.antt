@@ -1,18 +1,22 @@
 -- The fields of each kind of edit and their bytes, both ways.
-use Rattle.std.proofs.Common.{◌≡◌, ℕ, ◌^◌, ◌<◌, cond, eqb, List, [], ◌∷◌, ◌++◌, length, Option, Some, None, refl, sym, ap, subst, ◌∙◌, arith, append_assoc, inl, inr, FitsSigned}
+use Rattle.std.proofs.Common.{◌≡◌, ℕ, ◌^◌, ◌<◌, List, [], ◌∷◌, ◌++◌, length, Option, Some, refl, sym, ap, subst, ◌∙◌, arith, append_assoc, FitsSigned}
 use Rattle.std.specs.Prelude.{ℤ}
 use Rattle.std.specs.Int.{w32, w64, to_le_bytes}
-use Rattle.std.proofs.lemmas.Bool.{eqb-true}
 use Rattle.std.proofs.lemmas.Int.{ints}
+use Rattle.edits.specs.Kinds.{kind_number, kind_numbered, kind_of}
 use Rattle.edits.specs.Lawful.{IsLawful}
+use Rattle.edits.specs.declared.kinds.Kind.{Kind}
+use Rattle.edits.specs.declared.kinds.Kind.TheVariants as kinds
+use Rattle.edits.proofs.KindLemmas.{numbered_is}
 use Rattle.edits.specs.declared.content.What.{What}
-use Rattle.edits.specs.declared.content.What.TheVariants.{AddStation, SetStation, PutReadings, DropReadings, FlagReadings, PutCorrection, DropCorrection, PutShift, DropShift, AddRating, PutPeriod, DropPeriod, PutEstimate, DropEstimate, PutMeasurement, DropMeasurement, Review, Decide}
+use Rattle.edits.specs.declared.content.What.TheVariants.{AddStation, SetStation, PutReadings, DropReadings, FlagReadings, PutCorrection, DropCorrection, PutShift, DropShift, AddRating, PutPeriod, DropPeriod, PutEstimate, DropEstimate, PutMeasurement, DropMeasurement, Review, Decide, SetEdition}
 use Rattle.fixed_units.specs.Quantities.{IsDay, IsStamp, IsStage, IsDischarge, SiteNumber}
 use Rattle.fixed_units.specs.declared.readings.Reading.{Reading}
 use Rattle.records.specs.Payloads.{short_text, signed_number, day_number, site_number, kind, fields}
-use Rattle.records.specs.Parsing.{both_at, byte_at, number_at, front_at, short_text_at, signed_number_at, site_number_at, day_at, sender_at, arrays_at, addition, addition_at, setting, setting_at, put, put_at, readings_at, dropped_readings, dropped_readings_at, flagged_readings, flagged_readings_at, entry_at, correction, correction_at, dropped_correction, dropped_correction_at, shift, shift_at, dropped_shift, dropped_shift_at, added_rating, rating_at, period, period_at, dropped_period, dropped_period_at, estimate, estimate_at, dropped_estimate, dropped_estimate_at, measurement, measurement_at, dropped_measurement, dropped_measurement_at, review, review_at, decided, decided_at, fields_at}
-use Rattle.records.proofs.Fields.{IsBytes, Takes, Reads, IsAny, both_reads, made_takes, made_again, byte_reads, number_reads, signed_reads, day_reads, wide32, front_reads, short_reads, site_reads}
-use Rattle.records.proofs.CurveLemmas.{which, Parts, entry_parts, FitsEntry, entry_reads, entry_spelling, put_fits}
+use Rattle.records.specs.Parsing.{both_at, byte_at, number_at, front_at, short_text_at, signed_number_at, site_number_at, day_at, sender_at, arrays_at, addition, addition_at, setting, setting_at, put, put_at, readings_at, dropped_readings, dropped_readings_at, flagged_readings, flagged_readings_at, entry_at, correction, correction_at, dropped_correction, dropped_correction_at, shift, shift_at, dropped_shift, dropped_shift_at, added_rating, rating_at, period, period_at, dropped_period, dropped_period_at, estimate, estimate_at, dropped_estimate, dropped_estimate_at, measurement, measurement_at, dropped_measurement, dropped_measurement_at, review, review_at, decided, decided_at, edition, edition_at, fields_at, fields_of}
+use Rattle.records.proofs.Fields.{IsBytes, bind_some, Takes, Reads, IsAny, both_reads, made_takes, made_again, byte_reads, number_reads, signed_reads, day_reads, wide32, front_reads, short_reads, site_reads}
+use Rattle.records.proofs.CurveLemmas.{Parts, entry_parts, FitsEntry, entry_reads, entry_spelling, put_fits}
+use Rattle.records.proofs.EditionLemmas.{Edition, edition_parts, edition_bytes, FitsEdition, edition_reads, least_fits}
 use Rattle.records.proofs.MeasurementLemmas.{Estimated, estimated_parts, estimated_bytes, FitsEstimated, estimated_reads, Measured, measured_parts, measured_bytes, FitsMeasured, measured_reads}
 use Rattle.records.proofs.ReviewLemmas.{Reviewed, reviewed_parts, reviewed_bytes, FitsReviewed, reviewed_reads, Judged, judged_parts, judged_bytes, FitsJudged, judged_reads}
 use Rattle.records.proofs.RatingLemmas.{Rating, rating_parts, rating_bytes, FitsRating, rating_reads, rating_fits, Period, period_parts, period_spelled, FitsPeriod, period_reads, end_fits}
@@ -156,155 +160,155 @@ number32_reads = number_reads w32 (2 ^ 32) wide32
 -- ---- each kind is read
 
 -- what a reader of one kind took
-abbrev TakesKind : ℕ → List ℕ → What → List ℕ → Type 0
-TakesKind number bytes what rest = Takes bytes (fields what) rest × (number ≡ kind what)
+abbrev TakesKind : Kind → List ℕ → What → List ℕ → Type 0
+TakesKind kind bytes what rest = Takes bytes (fields what) rest × (kind ≡ kind_of what)
 
-took : (number : ℕ) (bytes text rest : List ℕ) (v w : What) → v ≡ w → fields v ≡ text → number ≡ kind v → Takes bytes text rest → TakesKind number bytes w rest
-took number bytes text rest v w same spelled of t =
-    subst (λ (u : What). TakesKind number bytes u rest) same (subst (λ (x : List ℕ). Takes bytes x rest) (sym spelled) t, of)
+took : (kind : Kind) (bytes text rest : List ℕ) (v w : What) → v ≡ w → fields v ≡ text → kind ≡ kind_of v → Takes bytes text rest → TakesKind kind bytes w rest
+took kind bytes text rest v w same spelled of t =
+    subst (λ (u : What). TakesKind kind bytes u rest) same (subst (λ (x : List ℕ). Takes bytes x rest) (sym spelled) t, of)
 
-addition_takes : (bytes : List ℕ) (what : What) (rest : List ℕ) → IsBytes bytes → addition_at bytes ≡ Some (what, rest) → TakesKind 1 bytes what rest
+addition_takes : (bytes : List ℕ) (what : What) (rest : List ℕ) → IsBytes bytes → addition_at bytes ≡ Some (what, rest) → TakesKind kinds.AddStation bytes what rest
 unfolding addition_at
 addition_takes bytes what rest fits e =
     let m = made_takes Addition What addition addition_parts addition_bytes FitsAddition addition_reads bytes what rest fits e in
-    took 1 bytes (addition_bytes m.0) rest (addition m.0) what m.1 (addition_spelling m.0) refl m.2
+    took kinds.AddStation bytes (addition_bytes m.0) rest (addition m.0) what m.1 (addition_spelling m.0) refl m.2
 
-setting_takes : (bytes : List ℕ) (what : What) (rest : List ℕ) → IsBytes bytes → setting_at bytes ≡ Some (what, rest) → TakesKind 2 bytes what rest
+setting_takes : (bytes : List ℕ) (what : What) (rest : List ℕ) → IsBytes bytes → setting_at bytes ≡ Some (what, rest) → TakesKind kinds.SetStation bytes what rest
 unfolding setting_at
 setting_takes bytes what rest fits e =
     let m = made_takes Setting What setting setting_parts setting_bytes FitsSetting setting_reads bytes what rest fits e in
-    took 2 bytes (setting_bytes m.0) rest (setting m.0) what m.1 (setting_spelling m.0) refl m.2
+    took kinds.SetStation bytes (setting_bytes m.0) rest (setting m.0) what m.1 (setting_spelling m.0) refl m.2
 
-put_takes : (bytes : List ℕ) (what : What) (rest : List ℕ) → IsBytes bytes → put_at bytes ≡ Some (what, rest) → TakesKind 3 bytes what rest
+put_takes : (bytes : List ℕ) (what : What) (rest : List ℕ) → IsBytes bytes → put_at bytes ≡ Some (what, rest) → TakesKind kinds.PutReadings bytes what rest
 unfolding put_at
 put_takes bytes what rest fits e =
     let m = made_takes (List Reading) What put readings_at readings_bytes FitsReadings readings_read bytes what rest fits e in
-    took 3 bytes (readings_bytes m.0) rest (put m.0) what m.1 refl refl m.2
+    took kinds.PutReadings bytes (readings_bytes m.0) rest (put m.0) what m.1 refl refl m.2
 
-dropped_readings_takes : (bytes : List ℕ) (what : What) (rest : List ℕ) → IsBytes bytes → dropped_readings_at bytes ≡ Some (what, rest) → TakesKind 4 bytes what rest
+dropped_readings_takes : (bytes : List ℕ) (what : What) (rest : List ℕ) → IsBytes bytes → dropped_readings_at bytes ≡ Some (what, rest) → TakesKind kinds.DropReadings bytes what rest
 unfolding dropped_readings_at
 dropped_readings_takes bytes what rest fits e =
     let m = made_takes Span What dropped_readings span_parts span_bytes FitsSpan span_reads bytes what rest fits e in
-    took 4 bytes (span_bytes m.0) rest (dropped_readings m.0) what m.1 refl refl m.2
+    took kinds.DropReadings bytes (span_bytes m.0) rest (dropped_readings m.0) what m.1 refl refl m.2
 
-flagged_readings_takes : (bytes : List ℕ) (what : What) (rest : List ℕ) → IsBytes bytes → flagged_readings_at bytes ≡ Some (what, rest) → TakesKind 5 bytes what rest
+flagged_readings_takes : (bytes : List ℕ) (what : What) (rest : List ℕ) → IsBytes bytes → flagged_readings_at bytes ≡ Some (what, rest) → TakesKind kinds.FlagReadings bytes what rest
 unfolding flagged_readings_at
 flagged_readings_takes bytes what rest fits e =
     let m = made_takes Flagged What flagged_readings flagged_parts flagged_bytes FitsFlagged flagged_reads bytes what rest fits e in
-    took 5 bytes (flagged_bytes m.0) rest (flagged_readings m.0) what m.1 refl refl m.2
+    took kinds.FlagReadings bytes (flagged_bytes m.0) rest (flagged_readings m.0) what m.1 refl refl m.2
 
-correction_takes : (bytes : List ℕ) (what : What) (rest : List ℕ) → IsBytes bytes → correction_at bytes ≡ Some (what, rest) → TakesKind 6 bytes what rest
+correction_takes : (bytes : List ℕ) (what : What) (rest : List ℕ) → IsBytes bytes → correction_at bytes ≡ Some (what, rest) → TakesKind kinds.PutCorrection bytes what rest
 unfolding correction_at
 correction_takes bytes what rest fits e =
     let m = made_takes Correction What correction correction_parts correction_bytes FitsCorrection correction_reads bytes what rest fits e in
-    took 6 bytes (correction_bytes m.0) rest (correction m.0) what m.1 (correction_spelling m.0) refl m.2
+    took kinds.PutCorrection bytes (correction_bytes m.0) rest (correction m.0) what m.1 (correction_spelling m.0) refl m.2
 
-dropped_correction_takes : (bytes : List ℕ) (what : What) (rest : List ℕ) → IsBytes bytes → dropped_correction_at bytes ≡ Some (what, rest) → TakesKind 7 bytes what rest
+dropped_correction_takes : (bytes : List ℕ) (what : What) (rest : List ℕ) → IsBytes bytes → dropped_correction_at bytes ≡ Some (what, rest) → TakesKind kinds.DropCorrection bytes what rest
 unfolding dropped_correction_at
 dropped_correction_takes bytes what rest fits e =
     let m = made_takes Dropped What dropped_correction dropped_parts dropped_bytes FitsDropped dropped_reads bytes what rest fits e in
-    took 7 bytes (dropped_bytes m.0) rest (dropped_correction m.0) what m.1 refl refl m.2
+    took kinds.DropCorrection bytes (dropped_bytes m.0) rest (dropped_correction m.0) what m.1 refl refl m.2
 
-shift_takes : (bytes : List ℕ) (what : What) (rest : List ℕ) → IsBytes bytes → shift_at bytes ≡ Some (what, rest) → TakesKind 8 bytes what rest
+shift_takes : (bytes : List ℕ) (what : What) (rest : List ℕ) → IsBytes bytes → shift_at bytes ≡ Some (what, rest) → TakesKind kinds.PutShift bytes what rest
 unfolding shift_at
 shift_takes bytes what rest fits e =
     let m = made_takes Parts What shift entry_at entry_parts FitsEntry entry_reads bytes what rest fits e in
-    took 8 bytes (entry_parts m.0) rest (shift m.0) what m.1 (entry_spelling m.0) refl m.2
+    took kinds.PutShift bytes (entry_parts m.0) rest (shift m.0) what m.1 (entry_spelling m.0) refl m.2
 
-dropped_shift_takes : (bytes : List ℕ) (what : What) (rest : List ℕ) → IsBytes bytes → dropped_shift_at bytes ≡ Some (what, rest) → TakesKind 9 bytes what rest
+dropped_shift_takes : (bytes : List ℕ) (what : What) (rest : List ℕ) → IsBytes bytes → dropped_shift_at bytes ≡ Some (what, rest) → TakesKind kinds.DropShift bytes what rest
 unfolding dropped_shift_at
 dropped_shift_takes bytes what rest fits e =
     let m = made_takes ℤ What dropped_shift signed_number_at signed_number (FitsSigned w64) signed_reads bytes what rest fits e in
-    took 9 bytes (signed_number m.0) rest (dropped_shift m.0) what m.1 refl refl m.2
+    took kinds.DropShift bytes (signed_number m.0) rest (dropped_shift m.0) what m.1 refl refl m.2
 
-rating_takes : (bytes : List ℕ) (what : What) (rest : List ℕ) → IsBytes bytes → rating_at bytes ≡ Some (what, rest) → TakesKind 10 bytes what rest
+rating_takes : (bytes : List ℕ) (what : What) (rest : List ℕ) → IsBytes bytes → rating_at bytes ≡ Some (what, rest) → TakesKind kinds.AddRating bytes what rest
 unfolding rating_at
 rating_takes bytes what rest fits e =
     let m = made_takes Rating What added_rating rating_parts rating_bytes FitsRating rating_reads bytes what rest fits e in
-    took 10 bytes (rating_bytes m.0) rest (added_rating m.0) what m.1 refl refl m.2
+    took kinds.AddRating bytes (rating_bytes m.0) rest (added_rating m.0) what m.1 refl refl m.2
 
-period_takes : (bytes : List ℕ) (what : What) (rest : List ℕ) → IsBytes bytes → period_at bytes ≡ Some (what, rest) → TakesKind 11 bytes what rest
+period_takes : (bytes : List ℕ) (what : What) (rest : List ℕ) → IsBytes bytes → period_at bytes ≡ Some (what, rest) → TakesKind kinds.PutPeriod bytes what rest
 unfolding period_at
 period_takes bytes what rest fits e =
     let m = made_takes Period What period period_parts period_spelled FitsPeriod period_reads bytes what rest fits e in
-    took 11 bytes (period_spelled m.0) rest (period m.0) what m.1 refl refl m.2
+    took kinds.PutPeriod bytes (period_spelled m.0) rest (period m.0) what m.1 refl refl m.2
 
-dropped_period_takes : (bytes : List ℕ) (what : What) (rest : List ℕ) → IsBytes bytes → dropped_period_at bytes ≡ Some (what, rest) → TakesKind 12 bytes what rest
+dropped_period_takes : (bytes : List ℕ) (what : What) (rest : List ℕ) → IsBytes bytes → dropped_period_at bytes ≡ Some (what, rest) → TakesKind kinds.DropPeriod bytes what rest
 unfolding dropped_period_at
 dropped_period_takes bytes what rest fits e =
     let m = made_takes ℤ What dropped_period signed_number_at signed_number (FitsSigned w64) signed_reads bytes what rest fits e in
-    took 12 bytes (signed_number m.0) rest (dropped_period m.0) what m.1 refl refl m.2
+    took kinds.DropPeriod bytes (signed_number m.0) rest (dropped_period m.0) what m.1 refl refl m.2
 
-estimate_takes : (bytes : List ℕ) (what : What) (rest : List ℕ) → IsBytes bytes → estimate_at bytes ≡ Some (what, rest) → TakesKind 13 bytes what rest
+estimate_takes : (bytes : List ℕ) (what : What) (rest : List ℕ) → IsBytes bytes → estimate_at bytes ≡ Some (what, rest) → TakesKind kinds.PutEstimate bytes what rest
 unfolding estimate_at
 estimate_takes bytes what rest fits e =
     let m = made_takes Estimated What estimate estimated_parts estimated_bytes FitsEstimated estimated_reads bytes what rest fits e in
-    took 13 bytes (estimated_bytes m.0) rest (estimate m.0) what m.1 refl refl m.2
+    took kinds.PutEstimate bytes (estimated_bytes m.0) rest (estimate m.0) what m.1 refl refl m.2
 
-dropped_estimate_takes : (bytes : List ℕ) (what : What) (rest : List ℕ) → IsBytes bytes → dropped_estimate_at bytes ≡ Some (what, rest) → TakesKind 14 bytes what rest
+dropped_estimate_takes : (bytes : List ℕ) (what : What) (rest : List ℕ) → IsBytes bytes → dropped_estimate_at bytes ≡ Some (what, rest) → TakesKind kinds.DropEstimate bytes what rest
 unfolding dropped_estimate_at
 dropped_estimate_takes bytes what rest fits e =
     let m = made_takes ℤ What dropped_estimate day_at day_number (FitsSigned w32) day_reads bytes what rest fits e in
-    took 14 bytes (day_number m.0) rest (dropped_estimate m.0) what m.1 refl refl m.2
+    took kinds.DropEstimate bytes (day_number m.0) rest (dropped_estimate m.0) what m.1 refl refl m.2
 
-measurement_takes : (bytes : List ℕ) (what : What) (rest : List ℕ) → IsBytes bytes → measurement_at bytes ≡ Some (what, rest) → TakesKind 15 bytes what rest
+measurement_takes : (bytes : List ℕ) (what : What) (rest : List ℕ) → IsBytes bytes → measurement_at bytes ≡ Some (what, rest) → TakesKind kinds.PutMeasurement bytes what rest
 unfolding measurement_at
 measurement_takes bytes what rest fits e =
     let m = made_takes Measured What measurement measured_parts measured_bytes FitsMeasured measured_reads bytes what rest fits e in
-    took 15 bytes (measured_bytes m.0) rest (measurement m.0) what m.1 refl refl m.2
+    took kinds.PutMeasurement bytes (measured_bytes m.0) rest (measurement m.0) what m.1 refl refl m.2
 
-dropped_measurement_takes : (bytes : List ℕ) (what : What) (rest : List ℕ) → IsBytes bytes → dropped_measurement_at bytes ≡ Some (what, rest) → TakesKind 16 bytes what rest
+dropped_measurement_takes : (bytes : List ℕ) (what : What) (rest : List ℕ) → IsBytes bytes → dropped_measurement_at bytes ≡ Some (what, rest) → TakesKind kinds.DropMeasurement bytes what rest
 unfolding dropped_measurement_at
 dropped_measurement_takes bytes what rest fits e =
     let m = made_takes ℕ What dropped_measurement (number_at w32) (to_le_bytes w32) (λ n. n < 2 ^ 32) number32_reads bytes what rest fits e in
-    took 16 bytes (to_le_bytes w32 m.0) rest (dropped_measurement m.0) what m.1 refl refl m.2
+    took kinds.DropMeasurement bytes (to_le_bytes w32 m.0) rest (dropped_measurement m.0) what m.1 refl refl m.2
 
-review_takes : (bytes : List ℕ) (what : What) (rest : List ℕ) → IsBytes bytes → review_at bytes ≡ Some (what, rest) → TakesKind 17 bytes what rest
+review_takes : (bytes : List ℕ) (what : What) (rest : List ℕ) → IsBytes bytes → review_at bytes ≡ Some (what, rest) → TakesKind kinds.Review bytes what rest
 unfolding review_at
 review_takes bytes what rest fits e =
     let m = made_takes Reviewed What review reviewed_parts reviewed_bytes FitsReviewed reviewed_reads bytes what rest fits e in
-    took 17 bytes (reviewed_bytes m.0) rest (review m.0) what m.1 refl refl m.2
+    took kinds.Review bytes (reviewed_bytes m.0) rest (review m.0) what m.1 refl refl m.2
 
-decided_takes : (bytes : List ℕ) (what : What) (rest : List ℕ) → IsBytes bytes → decided_at bytes ≡ Some (what, rest) → TakesKind 18 bytes what rest
+decided_takes : (bytes : List ℕ) (what : What) (rest : List ℕ) → IsBytes bytes → decided_at bytes ≡ Some (what, rest) → TakesKind kinds.Decide bytes what rest
 unfolding decided_at
 decided_takes bytes what rest fits e =
     let m = made_takes Judged What decided judged_parts judged_bytes FitsJudged judged_reads bytes what rest fits e in
-    took 18 bytes (judged_bytes m.0) rest (decided m.0) what m.1 refl refl m.2
+    took kinds.Decide bytes (judged_bytes m.0) rest (decided m.0) what m.1 refl refl m.2
 
-along : (m n : ℕ) (bytes : List ℕ) (what : What) (rest : List ℕ) → m ≡ n → TakesKind n bytes what rest → TakesKind m bytes what rest
-along m n bytes what rest e t = subst (λ (k : ℕ). TakesKind k bytes what rest) (sym e) t
+edition_takes : (bytes : List ℕ) (what : What) (rest : List ℕ) → IsBytes bytes → edition_at bytes ≡ Some (what, rest) → TakesKind kinds.SetEdition bytes what rest
+unfolding edition_at
+edition_takes bytes what rest fits e =
+    let m = made_takes Edition What edition edition_parts edition_bytes FitsEdition edition_reads bytes what rest fits e in
+    took kinds.SetEdition bytes (edition_bytes m.0) rest (edition m.0) what m.1 refl refl m.2
 
--- the reader of a kind took it, or one of those behind did
-picked : (number n : ℕ) (bytes : List ℕ) (what : What) (rest : List ℕ) (first others : Option (What × List ℕ)) → (first ≡ Some (what, rest) → TakesKind n bytes what rest)
-    → (others ≡ Some (what, rest) → TakesKind number bytes what rest) → cond (eqb number n) first others ≡ Some (what, rest) → TakesKind number bytes what rest
-picked number n bytes what rest first others here behind e =
-    elim (which (eqb number n) first others _ e) [
-      | inl h ↦ along number n bytes what rest (eqb-true _ _ h.0) (here h.1)
-      | inr h ↦ behind h.1
-    ]
+kind_takes : (kind : Kind) (bytes : List ℕ) (what : What) (rest : List ℕ) → IsBytes bytes → fields_of kind bytes ≡ Some (what, rest) → TakesKind kind bytes what rest
+unfolding fields_of
+kind_takes kinds.AddStation bytes what rest fits e = addition_takes bytes what rest fits e
+kind_takes kinds.SetStation bytes what rest fits e = setting_takes bytes what rest fits e
+kind_takes kinds.PutReadings bytes what rest fits e = put_takes bytes what rest fits e
+kind_takes kinds.DropReadings bytes what rest fits e = dropped_readings_takes bytes what rest fits e
+kind_takes kinds.FlagReadings bytes what rest fits e = flagged_readings_takes bytes what rest fits e
+kind_takes kinds.PutCorrection bytes what rest fits e = correction_takes bytes what rest fits e
+kind_takes kinds.DropCorrection bytes what rest fits e = dropped_correction_takes bytes what rest fits e
+kind_takes kinds.PutShift bytes what rest fits e = shift_takes bytes what rest fits e
+kind_takes kinds.DropShift bytes what rest fits e = dropped_shift_takes bytes what rest fits e
+kind_takes kinds.AddRating bytes what rest fits e = rating_takes bytes what rest fits e
+kind_takes kinds.PutPeriod bytes what rest fits e = period_takes bytes what rest fits e
+kind_takes kinds.DropPeriod bytes what rest fits e = dropped_period_takes bytes what rest fits e
+kind_takes kinds.PutEstimate bytes what rest fits e = estimate_takes bytes what rest fits e
+kind_takes kinds.DropEstimate bytes what rest fits e = dropped_estimate_takes bytes what rest fits e
+kind_takes kinds.PutMeasurement bytes what rest fits e = measurement_takes bytes what rest fits e
+kind_takes kinds.DropMeasurement bytes what rest fits e = dropped_measurement_takes bytes what rest fits e
+kind_takes kinds.Review bytes what rest fits e = review_takes bytes what rest fits e
+kind_takes kinds.Decide bytes what rest fits e = decided_takes bytes what rest fits e
+kind_takes kinds.SetEdition bytes what rest fits e = edition_takes bytes what rest fits e
 
 pub fields_take : (number : ℕ) (bytes : List ℕ) (what : What) (rest : List ℕ) → IsBytes bytes → fields_at number bytes ≡ Some (what, rest) → Takes bytes (fields what) rest × (number ≡ kind what)
 unfolding fields_at
 fields_take number bytes what rest fits e =
-    picked number 1 bytes what rest _ _ (addition_takes bytes what rest fits)
-    (picked number 2 bytes what rest _ _ (setting_takes bytes what rest fits)
-    (picked number 3 bytes what rest _ _ (put_takes bytes what rest fits)
-    (picked number 4 bytes what rest _ _ (dropped_readings_takes bytes what rest fits)
-    (picked number 5 bytes what rest _ _ (flagged_readings_takes bytes what rest fits)
-    (picked number 6 bytes what rest _ _ (correction_takes bytes what rest fits)
-    (picked number 7 bytes what rest _ _ (dropped_correction_takes bytes what rest fits)
-    (picked number 8 bytes what rest _ _ (shift_takes bytes what rest fits)
-    (picked number 9 bytes what rest _ _ (dropped_shift_takes bytes what rest fits)
-    (picked number 10 bytes what rest _ _ (rating_takes bytes what rest fits)
-    (picked number 11 bytes what rest _ _ (period_takes bytes what rest fits)
-    (picked number 12 bytes what rest _ _ (dropped_period_takes bytes what rest fits)
-    (picked number 13 bytes what rest _ _ (estimate_takes bytes what rest fits)
-    (picked number 14 bytes what rest _ _ (dropped_estimate_takes bytes what rest fits)
-    (picked number 15 bytes what rest _ _ (measurement_takes bytes what rest fits)
-    (picked number 16 bytes what rest _ _ (dropped_measurement_takes bytes what rest fits)
-    (picked number 17 bytes what rest _ _ (review_takes bytes what rest fits)
-    (picked number 18 bytes what rest _ _ (decided_takes bytes what rest fits)
-    (λ no. absurd (let none : None ≡ Some (what, rest) = no in cc))))))))))))))))))) e
+    let a = bind_some (kind_numbered number) (λ k. fields_of k bytes) (what, rest) e in
+    let t = kind_takes a.0 bytes what rest fits a.2 in
+    (t.0, numbered_is number a.0 a.1 ∙ ap kind_number t.1)
 
 addition_again : (f : Addition) (rest : List ℕ) → FitsAddition f → addition_at (addition_bytes f ++ rest) ≡ Some (addition f, rest)
 unfolding addition_at
@@ -391,81 +395,9 @@ decided_again : (f : Judged) (rest : List ℕ) → FitsJudged f → decided_at (
 unfolding decided_at
 decided_again f rest fits = made_again Judged What decided judged_parts judged_bytes FitsJudged judged_reads f rest fits
 
-addition_back : (f : Addition) (rest : List ℕ) → FitsAddition f → fields_at 1 (fields (addition f) ++ rest) ≡ Some (addition f, rest)
-unfolding fields_at
-addition_back f rest fits =
-    ap (λ (t : List ℕ). addition_at (t ++ rest)) (addition_spelling f) ∙ addition_again f rest fits
-
-setting_back : (f : Setting) (rest : List ℕ) → FitsSetting f → fields_at 2 (fields (setting f) ++ rest) ≡ Some (setting f, rest)
-unfolding fields_at
-setting_back f rest fits =
-    ap (λ (t : List ℕ). setting_at (t ++ rest)) (setting_spelling f) ∙ setting_again f rest fits
-
-put_back : (f : List Reading) (rest : List ℕ) → FitsReadings f → fields_at 3 (fields (put f) ++ rest) ≡ Some (put f, rest)
-unfolding fields_at
-put_back f rest fits = put_again f rest fits
-
-dropped_readings_back : (f : Span) (rest : List ℕ) → FitsSpan f → fields_at 4 (fields (dropped_readings f) ++ rest) ≡ Some (dropped_readings f, rest)
-unfolding fields_at
-dropped_readings_back f rest fits = dropped_readings_again f rest fits
-
-flagged_readings_back : (f : Flagged) (rest : List ℕ) → FitsFlagged f → fields_at 5 (fields (flagged_readings f) ++ rest) ≡ Some (flagged_readings f, rest)
-unfolding fields_at
-flagged_readings_back f rest fits = flagged_readings_again f rest fits
-
-correction_back : (f : Correction) (rest : List ℕ) → FitsCorrection f → fields_at 6 (fields (correction f) ++ rest) ≡ Some (correction f, rest)
-unfolding fields_at
-correction_back f rest fits =
-    ap (λ (t : List ℕ). correction_at (t ++ rest)) (correction_spelling f) ∙ correction_again f rest fits
-
-dropped_correction_back : (f : Dropped) (rest : List ℕ) → FitsDropped f → fields_at 7 (fields (dropped_correction f) ++ rest) ≡ Some (dropped_correction f, rest)
-unfolding fields_at
-dropped_correction_back f rest fits = dropped_correction_again f rest fits
-
-shift_back : (f : Parts) (rest : List ℕ) → FitsEntry f → fields_at 8 (fields (shift f) ++ rest) ≡ Some (shift f, rest)
-unfolding fields_at
-shift_back f rest fits =
-    ap (λ (t : List ℕ). shift_at (t ++ rest)) (entry_spelling f) ∙ shift_again f rest fits
-
-dropped_shift_back : (at : ℤ) (rest : List ℕ) → FitsSigned w64 at → fields_at 9 (fields (dropped_shift at) ++ rest) ≡ Some (dropped_shift at, rest)
-unfolding fields_at
-dropped_shift_back at rest fits = dropped_shift_again at rest fits
-
-rating_back : (f : Rating) (rest : List ℕ) → FitsRating f → fields_at 10 (fields (added_rating f) ++ rest) ≡ Some (added_rating f, rest)
-unfolding fields_at
-rating_back f rest fits = rating_again f rest fits
-
-period_back : (f : Period) (rest : List ℕ) → FitsPeriod f → fields_at 11 (fields (period f) ++ rest) ≡ Some (period f, rest)
-unfolding fields_at
-period_back f rest fits = period_again f rest fits
-
-dropped_period_back : (at : ℤ) (rest : List ℕ) → FitsSigned w64 at → fields_at 12 (fields (dropped_period at) ++ rest) ≡ Some (dropped_period at, rest)
-unfolding fields_at
-dropped_period_back at rest fits = dropped_period_again at rest fits
-
-estimate_back : (f : Estimated) (rest : List ℕ) → FitsEstimated f → fields_at 13 (fields (estimate f) ++ rest) ≡ Some (estimate f, rest)
-unfolding fields_at
-estimate_back f rest fits = estimate_again f rest fits
-
-dropped_estimate_back : (f : ℤ) (rest : List ℕ) → FitsSigned w32 f → fields_at 14 (fields (dropped_estimate f) ++ rest) ≡ Some (dropped_estimate f, rest)
-unfolding fields_at
-dropped_estimate_back f rest fits = dropped_estimate_again f rest fits
-
-measurement_back : (f : Measured) (rest : List ℕ) → FitsMeasured f → fields_at 15 (fields (measurement f) ++ rest) ≡ Some (measurement f, rest)
-unfolding fields_at
-measurement_back f rest fits = measurement_again f rest fits
-
-dropped_measurement_back : (n : ℕ) (rest : List ℕ) → n < 2 ^ 32 → fields_at 16 (fields (dropped_measurement n) ++ rest) ≡ Some (dropped_measurement n, rest)
-unfolding fields_at
-dropped_measurement_back n rest fits = dropped_measurement_again n rest fits
-
-review_back : (f : Reviewed) (rest : List ℕ) → FitsReviewed f → fields_at 17 (fields (review f) ++ rest) ≡ Some (review f, rest)
-unfolding fields_at
-review_back f rest fits = review_again f rest fits
-
-decided_back : (f : Judged) (rest : List ℕ) → FitsJudged f → fields_at 18 (fields (decided f) ++ rest) ≡ Some (decided f, rest)
-unfolding fields_at
-decided_back f rest fits = decided_again f rest fits
+edition_again : (f : Edition) (rest : List ℕ) → FitsEdition f → edition_at (edition_bytes f ++ rest) ≡ Some (edition f, rest)
+unfolding edition_at
+edition_again f rest fits = made_again Edition What edition edition_parts edition_bytes FitsEdition edition_reads f rest fits
 
 stamp_fits : (at : ℤ) → IsStamp at → FitsSigned w64 at
 stamp_fits at stamp = omega (arith, ints)
@@ -480,35 +412,41 @@ discharge_fits : (discharge : ℤ) → IsDischarge discharge → FitsSigned w64 
 discharge_fits discharge is = omega (arith, ints)
 
 pub fields_again : (what : What) (rest : List ℕ) → IsLawful what → fields_at (kind what) (fields what ++ rest) ≡ Some (what, rest)
+unfolding fields_at fields_of
 fields_again (AddStation name zone gap stages discharges) rest law =
     let set = law.0 in
-    addition_back (name, (zone, (gap, (stages, discharges)))) rest (tt, (tt, (omega (arith, set.near.high), (set.stages.ten, set.discharges.ten))))
+    let f : Addition = (name, (zone, (gap, (stages, discharges)))) in
+    ap (λ (t : List ℕ). addition_at (t ++ rest)) (addition_spelling f) ∙ addition_again f rest (tt, (tt, (omega (arith, set.near.high), (set.stages.ten, set.discharges.ten))))
 fields_again (SetStation name gap stages discharges) rest set =
-    setting_back (name, (gap, (stages, discharges))) rest (tt, (omega (arith, set.near.high), (set.stages.ten, set.discharges.ten)))
-fields_again (PutReadings readings) rest are = put_back readings rest (readings_fit readings are)
+    let f : Setting = (name, (gap, (stages, discharges))) in
+    ap (λ (t : List ℕ). setting_at (t ++ rest)) (setting_spelling f) ∙ setting_again f rest (tt, (omega (arith, set.near.high), (set.stages.ten, set.discharges.ten)))
+fields_again (PutReadings readings) rest are = put_again readings rest (readings_fit readings are)
 fields_again (DropReadings from to) rest span =
-    dropped_readings_back (from, to) rest (stamp_fits from span.begins, stamp_fits to span.ends)
+    dropped_readings_again (from, to) rest (stamp_fits from span.begins, stamp_fits to span.ends)
 fields_again (FlagReadings from to flag) rest span =
-    flagged_readings_back (from, (to, flag)) rest (stamp_fits from span.begins, (stamp_fits to span.ends, tt))
+    flagged_readings_again (from, (to, flag)) rest (stamp_fits from span.begins, (stamp_fits to span.ends, tt))
 fields_again (PutCorrection set at curve prorate) rest law =
-    correction_back (set, (at, (curve, prorate))) rest (tt, (stamp_fits at law.1, (put_fits curve law.2, tt)))
-fields_again (DropCorrection set at) rest law = dropped_correction_back (set, at) rest (tt, stamp_fits at law.1)
+    let f : Correction = (set, (at, (curve, prorate))) in
+    ap (λ (t : List ℕ). correction_at (t ++ rest)) (correction_spelling f) ∙ correction_again f rest (tt, (stamp_fits at law.1, (put_fits curve law.2, tt)))
+fields_again (DropCorrection set at) rest law = dropped_correction_again (set, at) rest (tt, stamp_fits at law.1)
 fields_again (PutShift at curve prorate) rest law =
-    shift_back (at, (curve, prorate)) rest (stamp_fits at law.0, (put_fits curve law.1, tt))
-fields_again (DropShift at) rest law = dropped_shift_back at rest (stamp_fits at law)
+    ap (λ (t : List ℕ). shift_at (t ++ rest)) (entry_spelling (at, (curve, prorate))) ∙ shift_again (at, (curve, prorate)) rest (stamp_fits at law.0, (put_fits curve law.1, tt))
+fields_again (DropShift at) rest law = dropped_shift_again at rest (stamp_fits at law)
 fields_again (AddRating rating table) rest law =
-    rating_back (rating, table) rest (omega (arith, law.0.greatest), rating_fits table law.1)
+    rating_again (rating, table) rest (omega (arith, law.0.greatest), rating_fits table law.1)
 fields_again (PutPeriod p) rest put =
-    period_back (p.rating, (p.from, p.until)) rest (omega (arith, put.rating.greatest), (stamp_fits p.from put.begins, end_fits p.until put.ends))
-fields_again (DropPeriod from) rest law = dropped_period_back from rest (stamp_fits from law)
+    period_again (p.rating, (p.from, p.until)) rest (omega (arith, put.rating.greatest), (stamp_fits p.from put.begins, end_fits p.until put.ends))
+fields_again (DropPeriod from) rest law = dropped_period_again from rest (stamp_fits from law)
 fields_again (PutEstimate estimate) rest put =
-    estimate_back (estimate.day, estimate.discharge) rest (day_fits estimate.day put.day, discharge_fits estimate.discharge put.discharge)
-fields_again (DropEstimate day) rest is = dropped_estimate_back day rest (day_fits day is)
+    estimate_again (estimate.day, estimate.discharge) rest (day_fits estimate.day put.day, discharge_fits estimate.discharge put.discharge)
+fields_again (DropEstimate day) rest is = dropped_estimate_again day rest (day_fits day is)
 fields_again (PutMeasurement m) rest put =
-    measurement_back (m.number, (m.at, (m.gage, (m.discharge, m.grade)))) rest
+    measurement_again (m.number, (m.at, (m.gage, (m.discharge, m.grade)))) rest
     (omega (arith, put.numbered.greatest), (stamp_fits m.at put.stamp, (stage_fits m.gage put.gage, (discharge_fits m.discharge put.discharge, tt))))
-fields_again (DropMeasurement number) rest law = dropped_measurement_back number rest (omega (arith, law.greatest))
+fields_again (DropMeasurement number) rest law = dropped_measurement_again number rest (omega (arith, law.greatest))
 fields_again (Review from to) rest span =
-    review_back (from, to) rest (day_fits from span.begins, day_fits to span.ends)
+    review_again (from, to) rest (day_fits from span.begins, day_fits to span.ends)
 fields_again (Decide from to decision) rest span =
-    decided_back (from, (to, decision)) rest (day_fits from span.begins, (day_fits to span.ends, tt))
+    decided_again (from, (to, decision)) rest (day_fits from span.begins, (day_fits to span.ends, tt))
+fields_again (SetEdition day least) rest law =
+    edition_again (day, least) rest (day_fits day law.begins, least_fits least law.cover)

@@ -1,5 +1,5 @@
 -- The laws of the spelling: lengths, bytes, and that no record begins another.
-use Rattle.std.proofs.Common.{◌≡◌, ℕ, ◌+◌, ◌^◌, ◌<◌, ◌≤◌, ◌%◌, ◌/◌, List, true, ◌||◌, get_or, [], ◌∷◌, ◌++◌, length, take, drop, Option, Some, None, refl, sym, ap, subst, ◌∙◌, length-append, arith, w64}
+use Rattle.std.proofs.Common.{◌≡◌, ℕ, ◌+◌, ◌^◌, ◌<◌, ◌≤◌, ◌%◌, ◌/◌, List, true, ◌||◌, get_or, [], ◌∷◌, ◌++◌, length, take, drop, Option, Some, refl, sym, ap, subst, ◌∙◌, length-append, arith, w64}
 use Rattle.std.specs.Prelude.{ℤ, Bool, false, All, ◌==◌, flat_map}
 use Rattle.std.specs.Int.{w32, to_le_bytes, cast_unsigned}
 use Rattle.std.specs.List.{list_all}
@@ -14,7 +14,7 @@ use Rattle.edits.specs.Grades.{grade_number}
 use Rattle.edits.specs.Lawful.{IsLawful}
 use Rattle.edits.specs.Texts.{is_letter, is_digit, is_printed, AreInitials, IsReference, IsName}
 use Rattle.edits.specs.declared.content.What.{What}
-use Rattle.edits.specs.declared.content.What.TheVariants.{AddStation, SetStation, PutReadings, DropReadings, FlagReadings, PutCorrection, DropCorrection, PutShift, DropShift, AddRating, PutPeriod, DropPeriod, PutEstimate, DropEstimate, PutMeasurement, DropMeasurement, Review, Decide}
+use Rattle.edits.specs.declared.content.What.TheVariants.{AddStation, SetStation, PutReadings, DropReadings, FlagReadings, PutCorrection, DropCorrection, PutShift, DropShift, AddRating, PutPeriod, DropPeriod, PutEstimate, DropEstimate, PutMeasurement, DropMeasurement, Review, Decide, SetEdition}
 use Rattle.edits.specs.declared.decisions.Decision.TheVariants.{Approve}
 use Rattle.edits.specs.declared.measurements.Measurement.{Measurement}
 use Rattle.fixed_units.specs.Quantities.{SiteNumber, IsSite}
@@ -22,13 +22,15 @@ use Rattle.fixed_units.specs.RoundingArray.{IsRoundingArray}
 use Rattle.fixed_units.specs.declared.readings.Flag.{Flag}
 use Rattle.fixed_units.specs.declared.readings.Flag.TheVariants.{Usable, Erroneous, Affected}
 use Rattle.fixed_units.specs.declared.readings.Reading.{Reading}
-use Rattle.records.specs.Payloads.{short_text, signed_number, site_number, flag_number, reading_bytes, point_bytes, curve_bytes, mark_number, entry_bytes, table_bytes, end_bytes, day_number, measurement_bytes, kind, fields, edit_bytes, sheet_bytes, longest_fields, longest_payload, payload, encoded, IsInGrammar}
+use Rattle.records.specs.Payloads.{short_text, signed_number, site_number, flag_number, reading_bytes, point_bytes, curve_bytes, mark_number, entry_bytes, table_bytes, end_bytes, day_number, least_bytes, measurement_bytes, kind, fields, edit_bytes, sheet_bytes, longest_fields, longest_payload, payload, encoded, IsInGrammar}
 use Rattle.records.specs.Parsing.{number_at}
 use Rattle.records.specs.Sheets.{AreSheetsOf}
 use Rattle.records.specs.Sheets.{Record}
 use Rattle.records.proofs.Fields.{some_is, wide32, number_again}
 use Rattle.records.proofs.CurveLemmas.{length-entry}
+use Rattle.records.proofs.EditionLemmas.{least_within}
 use Rattle.records.proofs.MeasurementLemmas.{grade_byte, length-measurement}
+use Rattle.records.proofs.OptionalLemmas.{optional_is_bytes}
 use Rattle.records.proofs.PutLemmas.{length-readings}
 use Rattle.records.proofs.RatingLemmas.{length-table, period_within}
 use Rattle.records.proofs.Records.{one_record}
@@ -53,22 +55,14 @@ few_fields (SetStation name gap stages discharges) set =
 few_fields (PutReadings readings) are =
     let a = length-append (to_le_bytes w32 (length readings)) (flat_map reading_bytes readings) in
     omega (arith, a, length-readings readings, are.most)
-few_fields (DropReadings from to) law = omega arith
-few_fields (FlagReadings from to flag) law = omega arith
 few_fields (PutCorrection set at curve prorate) law = omega (arith, length-entry at curve prorate, law.2.most)
-few_fields (DropCorrection set at) law = omega arith
 few_fields (PutShift at curve prorate) law = omega (arith, length-entry at curve prorate, law.1.most)
-few_fields (DropShift at) law = omega arith
 few_fields (AddRating rating table) law =
     omega (arith, length-table table, length-append (to_le_bytes w32 rating) (table_bytes table), law.1.table.most)
 few_fields (PutPeriod period) law = omega (arith, period_within period)
-few_fields (DropPeriod from) law = omega arith
-few_fields (PutEstimate estimate) law = omega arith
-few_fields (DropEstimate day) law = omega arith
 few_fields (PutMeasurement m) law = omega (arith, length-measurement m)
-few_fields (DropMeasurement number) law = omega arith
-few_fields (Review from to) law = omega arith
-few_fields (Decide from to decision) law = omega arith
+few_fields (SetEdition day least) law = omega (arith, least_within least)
+few_fields _ law = omega arith
 
 -- the fields and the sheets behind them
 few_behind : (what : What) (sheets : List (List ℕ)) → IsLawful what → AreSheetsOf what sheets → length (fields what) + length (flat_map sheet_bytes sheets) ≤ longest_fields
@@ -171,10 +165,6 @@ entry_is_bytes at curve prorate few =
     (All-cons is_byte (length curve) (flat_map point_bytes curve) (omega (arith, few)) (points_are_bytes curve)))
     (All-cons is_byte (mark_number prorate) [] (mark_byte prorate) (All-nil is_byte))
 
-end_is_bytes : (until : Option ℤ) → All is_byte (end_bytes until)
-end_is_bytes None = All-cons is_byte 0 [] (omega arith) (All-nil is_byte)
-end_is_bytes (Some until) = All-cons is_byte 1 (signed_number until) (omega arith) (bytes_64 (cast_unsigned w64 until))
-
 measurement_is_bytes : (m : Measurement) → All is_byte (measurement_bytes m)
 measurement_is_bytes m =
     let graded = All-append is_byte (signed_number m.discharge) (grade_number m.grade ∷ []) (bytes_64 (cast_unsigned w64 m.discharge)) (All-cons is_byte (grade_number m.grade) [] (grade_byte m.grade) (All-nil is_byte)) in
@@ -209,7 +199,7 @@ fields_are_bytes (AddRating rating table) law =
     (All-append is_byte (to_le_bytes w32 (length table)) (flat_map point_bytes table) (bytes_32 (length table)) (points_are_bytes table))
 fields_are_bytes (PutPeriod p) law =
     All-append is_byte (to_le_bytes w32 p.rating) (signed_number p.from ++ end_bytes p.until) (bytes_32 p.rating)
-    (All-append is_byte (signed_number p.from) (end_bytes p.until) (bytes_64 (cast_unsigned w64 p.from)) (end_is_bytes p.until))
+    (All-append is_byte (signed_number p.from) (end_bytes p.until) (bytes_64 (cast_unsigned w64 p.from)) (optional_is_bytes signed_number (λ n. bytes_64 (cast_unsigned w64 n)) p.until))
 fields_are_bytes (DropPeriod from) law = bytes_64 (cast_unsigned w64 from)
 fields_are_bytes (PutEstimate estimate) law =
     All-append is_byte (day_number estimate.day) (signed_number estimate.discharge) (bytes_32 (cast_unsigned w32 estimate.day)) (bytes_64 (cast_unsigned w64 estimate.discharge))
@@ -221,6 +211,8 @@ fields_are_bytes (Review from to) law =
 fields_are_bytes (Decide from to decision) law =
     All-append is_byte (day_number from) (day_number to ++ decision_number decision ∷ []) (bytes_32 (cast_unsigned w32 from))
     (All-append is_byte (day_number to) (decision_number decision ∷ []) (bytes_32 (cast_unsigned w32 to)) (All-cons is_byte (decision_number decision) [] (decision_byte decision) (All-nil is_byte)))
+fields_are_bytes (SetEdition day least) law =
+    All-append is_byte (day_number day) (least_bytes least) (bytes_32 (cast_unsigned w32 day)) (optional_is_bytes (to_le_bytes w32) bytes_32 least)
 
 sheets_are_bytes : (sheets : List (List ℕ)) → All (All is_byte) sheets → All is_byte (flat_map sheet_bytes sheets)
 sheets_are_bytes [] each = All-nil is_byte
@@ -232,23 +224,7 @@ sheets_are_bytes (sheet ∷ sheets) each =
 
 kind_byte : (what : What) → kind what < 256
 kind_byte (AddStation name zone gap stages discharges) = omega arith
-kind_byte (SetStation name gap stages discharges) = omega arith
-kind_byte (PutReadings readings) = omega arith
-kind_byte (DropReadings from to) = omega arith
-kind_byte (FlagReadings from to flag) = omega arith
-kind_byte (PutCorrection set at curve prorate) = omega arith
-kind_byte (DropCorrection set at) = omega arith
-kind_byte (PutShift at curve prorate) = omega arith
-kind_byte (DropShift at) = omega arith
-kind_byte (AddRating rating table) = omega arith
-kind_byte (PutPeriod period) = omega arith
-kind_byte (DropPeriod from) = omega arith
-kind_byte (PutEstimate estimate) = omega arith
-kind_byte (DropEstimate day) = omega arith
-kind_byte (PutMeasurement measurement) = omega arith
-kind_byte (DropMeasurement number) = omega arith
-kind_byte (Review from to) = omega arith
-kind_byte (Decide from to decision) = omega arith
+kind_byte _ = omega arith
 
 payload_bytes : (piece : Record) → IsInGrammar piece → All (All is_byte) piece.sheets → All is_byte (payload piece)
 payload_bytes piece g texts =

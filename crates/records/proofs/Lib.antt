@@ -1,9 +1,11 @@
 pub mod CurveLemmas
+pub mod EditionLemmas
 pub mod Fields
 pub mod KindLemmas
 pub mod LawLemmas
 pub mod ManyLemmas
 pub mod MeasurementLemmas
+pub mod OptionalLemmas
 pub mod PieceLemmas
 pub mod PutLemmas
 pub mod RatingLemmas

@@ -1,5 +1,5 @@
 -- Ratings and periods and their bytes, both ways.
-use Rattle.std.proofs.Common.{◌≡◌, ℕ, zero, suc, ◌+◌, ◌*◌, ◌/◌, ◌^◌, ◌<◌, ◌≤◌, Bool, true, false, cond, ltb, List, [], ◌∷◌, ◌++◌, length, take, drop, Option, Some, None, refl, sym, ap, subst, ◌∙◌, arith, append_assoc, length-append, FitsSigned}
+use Rattle.std.proofs.Common.{◌≡◌, ℕ, zero, suc, ◌+◌, ◌*◌, ◌/◌, ◌^◌, ◌<◌, ◌≤◌, false, ltb, List, [], ◌++◌, length, take, drop, Option, Some, None, refl, sym, ap, ◌∙◌, arith, append_assoc, length-append, FitsSigned}
 use Rattle.std.specs.Prelude.{ℤ, flat_map, IfSome}
 use Rattle.std.specs.Int.{w32, w64, to_le_bytes, from_le_bytes, cast_signed}
 use Rattle.std.specs.Simd.{first_chunks}
@@ -9,10 +9,11 @@ use Rattle.std.proofs.lemmas.List.{take_at, drop_at, take-append-drop, take_all,
 use Rattle.fixed_units.specs.Quantities.{IsStamp}
 use Rattle.rating_tables.specs.Table.{Row, IsRating}
 use Rattle.ratings.specs.Spans.{Span}
-use Rattle.records.specs.Payloads.{signed_number, point_bytes, table_bytes, mark_number, end_bytes, period_bytes}
-use Rattle.records.specs.Parsing.{both_at, number_at, signed_number_at, made_at, point_at, points_at, table_at, row_in, rows_in, mark_at, end_at}
-use Rattle.records.proofs.Fields.{IsBytes, bind_some, some_is, Takes, Takes-then, Reads, both_reads, made_takes, made_again, wide32, number_reads, signed_reads}
-use Rattle.records.proofs.CurveLemmas.{FitsPoint, point_reads, points_take, no_points, next_points, length-curve, mark_reads, mark_again}
+use Rattle.records.specs.Payloads.{signed_number, point_bytes, table_bytes, end_bytes, period_bytes}
+use Rattle.records.specs.Parsing.{both_at, number_at, signed_number_at, point_at, points_at, table_at, row_in, rows_in, end_at}
+use Rattle.records.proofs.Fields.{IsBytes, Reads, both_reads, wide32, number_reads, signed_reads}
+use Rattle.records.proofs.CurveLemmas.{FitsPoint, point_reads, points_take, no_points, next_points, length-curve}
+use Rattle.records.proofs.OptionalLemmas.{FitsOptional, optional_reads}
 use Rattle.records.proofs.ManyLemmas.{FitsCounted, counted_reads}
 
 -- ---- tables
@@ -96,33 +97,12 @@ points_short count bytes fits few =
 
 -- ---- periods
 
-end_step : (bytes : List ℕ) (ends : Bool) (behind : List ℕ) (until : Option ℤ) (rest : List ℕ) → Takes bytes (mark_number ends ∷ []) behind
-    → cond ends (made_at Some signed_number_at behind) (Some (None, behind)) ≡ Some (until, rest) → Takes bytes (end_bytes until) rest
-end_step bytes true behind until rest t e =
-    let m = made_takes ℤ (Option ℤ) (λ u. Some u) signed_number_at signed_number (FitsSigned w64) signed_reads behind until rest t.rest_fits e in
-    let both : Takes bytes (end_bytes (Some m.0)) rest = Takes-then bytes (mark_number true ∷ []) behind (signed_number m.0) rest t m.2 in
-    subst (λ (u : Option ℤ). Takes bytes (end_bytes u) rest) m.1 both
-end_step bytes false behind until rest t e =
-    subst (λ (x : Option ℤ × List ℕ). Takes bytes (end_bytes x.0) x.1) (some_is (None, behind) (until, rest) e) t
-
-end_takes : (bytes : List ℕ) (until : Option ℤ) (rest : List ℕ) → IsBytes bytes → end_at bytes ≡ Some (until, rest) → Takes bytes (end_bytes until) rest
-unfolding end_at
-end_takes bytes until rest fits e =
-    let a = bind_some (mark_at bytes) (λ ends. cond ends.0 (made_at Some signed_number_at ends.1) (Some (None, ends.1))) (until, rest) e in
-    end_step bytes a.0.0 a.0.1 until rest (mark_reads.takes bytes a.0.0 a.0.1 fits a.1) a.2
-
 abbrev pub FitsEnd : Option ℤ → Type 0
-FitsEnd None = Unit {0}
-FitsEnd (Some until) = FitsSigned w64 until
-
-end_again : (until : Option ℤ) (rest : List ℕ) → FitsEnd until → end_at (end_bytes until ++ rest) ≡ Some (until, rest)
-unfolding end_at
-end_again None rest fits = rw (mark_again false rest) refl
-end_again (Some until) rest fits =
-    rw (mark_again true (signed_number until ++ rest)) (made_again ℤ (Option ℤ) (λ u. Some u) signed_number_at signed_number (FitsSigned w64) signed_reads until rest fits)
+FitsEnd until = FitsOptional (FitsSigned w64) until
 
 end_reads : Reads (Option ℤ) end_at end_bytes FitsEnd
-end_reads = record { takes = end_takes; again = end_again }
+unfolding end_at
+end_reads = optional_reads ℤ signed_number_at signed_number (FitsSigned w64) signed_reads
 
 pub end_fits : (until : Option ℤ) → IfSome until IsStamp → FitsEnd until
 end_fits None stamp = tt

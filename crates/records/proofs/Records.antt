@@ -10,7 +10,7 @@ use Rattle.edits.specs.declared.content.What.{What}
 use Rattle.fixed_units.specs.Quantities.{SiteNumber, IsSite}
 use Rattle.records.specs.Drafts.{AreLawful, HasParts}
 use Rattle.records.specs.Payloads.{short_text, site_number, kind, fields, sheet_bytes, payload, IsInGrammar}
-use Rattle.records.specs.Sheets.{AreSheetsOf, Record}
+use Rattle.records.specs.Sheets.{Record}
 use Rattle.records.specs.Parsing.{◌>>=◌, Parts, byte_at, sender_at, fields_at, parts_at}
 use Rattle.records.proofs.Fields.{IsBytes, bind_some, some_is, Takes, Takes-then, byte_takes, byte_again}
 use Rattle.records.proofs.SheetLemmas.{same_sheets, sheets_each}

@@ -3,7 +3,7 @@ use Rattle.std.specs.Prelude.{◌≡◌, ℕ, List, length, flat_map, All}
 use Rattle.edits.specs.Lawful.{IsLawful}
 use Rattle.edits.specs.Texts.{AreInitials, IsReference}
 use Rattle.edits.specs.declared.content.What.{What}
-use Rattle.edits.specs.declared.content.What.TheVariants.{AddStation, SetStation, PutReadings, DropReadings, FlagReadings, PutCorrection, DropCorrection, PutShift, DropShift, AddRating, PutPeriod, DropPeriod, PutEstimate, DropEstimate, PutMeasurement, DropMeasurement, Review, Decide}
+use Rattle.edits.specs.declared.content.What.TheVariants.{AddStation, SetStation, PutReadings, DropReadings, FlagReadings, PutCorrection, DropCorrection, PutShift, DropShift, AddRating, PutPeriod, DropPeriod, PutEstimate, DropEstimate, PutMeasurement, DropMeasurement, Review, Decide, SetEdition}
 use Rattle.edits.specs.declared.estimates.Estimate.{Estimate}
 use Rattle.edits.specs.declared.measurements.Measurement.{Measurement}
 use Rattle.fixed_units.specs.Quantities.{IsSite}
@@ -11,7 +11,7 @@ use Rattle.ratings.specs.Spans.{Span}
 use Rattle.records.specs.Parsing.{Parts, readings_in, rows_in}
 use Rattle.records.specs.declared.drafts.Draft.{Draft}
 use Rattle.records.specs.declared.drafts.Fields.{Fields}
-use Rattle.records.specs.declared.drafts.Fields.TheVariants.{Addition, Setting, Put, DroppedSpan, FlaggedSpan, Correction, DroppedCorrection, Shift, DroppedShift, Rating, Period, DroppedPeriod, DroppedEstimate, DroppedMeasurement, Decided}
+use Rattle.records.specs.declared.drafts.Fields.TheVariants.{Addition, Setting, Put, DroppedSpan, FlaggedSpan, Correction, DroppedCorrection, Shift, DroppedShift, Rating, Period, DroppedPeriod, DroppedEstimate, DroppedMeasurement, Decided, Edition}
 use Rattle.records.specs.declared.drafts.Fields.TheVariants as fields
 use Rattle.records.specs.declared.estimate_drafts.EstimateDraft.{EstimateDraft}
 use Rattle.records.specs.declared.measurement_drafts.MeasurementDraft.{MeasurementDraft}
@@ -53,6 +53,7 @@ what_of (fields.Measurement draft) = PutMeasurement (measured draft)
 what_of (DroppedMeasurement number) = DropMeasurement number
 what_of (fields.Review from to) = Review from to
 what_of (Decided from to decision) = Decide from to decision
+what_of (Edition day least) = SetEdition day least
 
 -- the parts that a draft lends
 abbrev pub parts : Draft → Parts

@@ -2,9 +2,12 @@
 use Rattle.std.specs.Prelude.{ℕ, zero, suc, Bool, true, false, List, [], ◌∷◌, length, take, drop, map, slice_index, Option, Some, None, unwrap_or, nat_lt, nat_le, ◌==◌, ◌&&◌, if◌then◌else◌, ℤ}
 use Rattle.std.specs.Int.{Width, w32, w64, byte_len, from_le_bytes, cast_signed}
 use Rattle.edits.specs.declared.content.What.{What}
-use Rattle.edits.specs.declared.content.What.TheVariants.{AddStation, SetStation, PutReadings, DropReadings, FlagReadings, PutCorrection, DropCorrection, PutShift, DropShift, AddRating, PutPeriod, DropPeriod, PutEstimate, DropEstimate, PutMeasurement, DropMeasurement, Review, Decide}
+use Rattle.edits.specs.declared.content.What.TheVariants.{AddStation, SetStation, PutReadings, DropReadings, FlagReadings, PutCorrection, DropCorrection, PutShift, DropShift, AddRating, PutPeriod, DropPeriod, PutEstimate, DropEstimate, PutMeasurement, DropMeasurement, Review, Decide, SetEdition}
 use Rattle.edits.specs.Decisions.{decision_of}
 use Rattle.edits.specs.Grades.{grade_of}
+use Rattle.edits.specs.Kinds.{kind_numbered}
+use Rattle.edits.specs.declared.kinds.Kind.{Kind}
+use Rattle.edits.specs.declared.kinds.Kind.TheVariants as kinds
 use Rattle.edits.specs.declared.decisions.Decision.{Decision}
 use Rattle.edits.specs.declared.measurements.Grade.{Grade}
 use Rattle.fixed_units.specs.Quantities.{SiteNumber}
@@ -213,9 +216,13 @@ added_rating f = AddRating f.0 f.1
 unfoldable pub rating_at : List ℕ → Option (What × List ℕ)
 rating_at bytes = made_at added_rating (both_at (number_at w32) table_at) bytes
 
+-- what may lack, behind a mark that says whether it is there
+abbrev pub optional_at : {A : Type 0} → (List ℕ → Option (A × List ℕ)) → List ℕ → Option (Option A × List ℕ)
+optional_at read bytes = mark_at bytes >>= λ there. if there.0 then made_at Some read there.1 else Some (None, there.1)
+
 -- the end of a period, where it has one
 unfoldable pub end_at : List ℕ → Option (Option ℤ × List ℕ)
-end_at bytes = mark_at bytes >>= λ ends. if ends.0 then made_at Some signed_number_at ends.1 else Some (None, ends.1)
+end_at bytes = optional_at signed_number_at bytes
 
 -- the fields of a period that is put, and of one that is dropped
 abbrev pub period : ℕ × (ℤ × Option ℤ) → What
@@ -286,33 +293,47 @@ decided f = Decide f.0 f.1.0 f.1.1
 unfoldable pub decided_at : List ℕ → Option (What × List ℕ)
 decided_at bytes = made_at decided (both_at day_at (both_at day_at decision_at)) bytes
 
+-- the least cover of an edition, where it has one
+unfoldable pub least_at : List ℕ → Option (Option ℕ × List ℕ)
+least_at bytes = optional_at (number_at w32) bytes
+
+-- the fields of an edition
+abbrev pub edition : ℤ × Option ℕ → What
+edition f = SetEdition f.0 f.1
+
+unfoldable pub edition_at : List ℕ → Option (What × List ℕ)
+edition_at bytes = made_at edition (both_at day_at least_at) bytes
+
 -- a sheet: its length, and so many bytes
 unfoldable pub sheet_at : List ℕ → Option (List ℕ × List ℕ)
 sheet_at bytes = do
   count ← number_at w32 bytes
   if nat_le 1 count.0 && nat_le count.0 most_sheet_bytes then front_at count.0 count.1 else None
 
--- the fields of a kind
+-- the fields of a kind, and those of the kind of a number
+unfoldable pub fields_of : Kind → List ℕ → Option (What × List ℕ)
+fields_of kinds.AddStation bytes = addition_at bytes
+fields_of kinds.SetStation bytes = setting_at bytes
+fields_of kinds.PutReadings bytes = put_at bytes
+fields_of kinds.DropReadings bytes = dropped_readings_at bytes
+fields_of kinds.FlagReadings bytes = flagged_readings_at bytes
+fields_of kinds.PutCorrection bytes = correction_at bytes
+fields_of kinds.DropCorrection bytes = dropped_correction_at bytes
+fields_of kinds.PutShift bytes = shift_at bytes
+fields_of kinds.DropShift bytes = dropped_shift_at bytes
+fields_of kinds.AddRating bytes = rating_at bytes
+fields_of kinds.PutPeriod bytes = period_at bytes
+fields_of kinds.DropPeriod bytes = dropped_period_at bytes
+fields_of kinds.PutEstimate bytes = estimate_at bytes
+fields_of kinds.DropEstimate bytes = dropped_estimate_at bytes
+fields_of kinds.PutMeasurement bytes = measurement_at bytes
+fields_of kinds.DropMeasurement bytes = dropped_measurement_at bytes
+fields_of kinds.Review bytes = review_at bytes
+fields_of kinds.Decide bytes = decided_at bytes
+fields_of kinds.SetEdition bytes = edition_at bytes
+
 unfoldable pub fields_at : ℕ → List ℕ → Option (What × List ℕ)
-fields_at kind bytes =
-    if kind == 1 then addition_at bytes
-    else (if kind == 2 then setting_at bytes
-    else (if kind == 3 then put_at bytes
-    else (if kind == 4 then dropped_readings_at bytes
-    else (if kind == 5 then flagged_readings_at bytes
-    else (if kind == 6 then correction_at bytes
-    else (if kind == 7 then dropped_correction_at bytes
-    else (if kind == 8 then shift_at bytes
-    else (if kind == 9 then dropped_shift_at bytes
-    else (if kind == 10 then rating_at bytes
-    else (if kind == 11 then period_at bytes
-    else (if kind == 12 then dropped_period_at bytes
-    else (if kind == 13 then estimate_at bytes
-    else (if kind == 14 then dropped_estimate_at bytes
-    else (if kind == 15 then measurement_at bytes
-    else (if kind == 16 then dropped_measurement_at bytes
-    else (if kind == 17 then review_at bytes
-    else (if kind == 18 then decided_at bytes else None)))))))))))))))))
+fields_at number bytes = kind_numbered number >>= λ kind. fields_of kind bytes
 
 -- the parts of a payload, and what stands behind them
 unfoldable pub parts_at : List ℕ → Option Parts

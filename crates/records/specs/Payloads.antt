@@ -3,10 +3,11 @@ use Rattle.std.specs.Prelude.{ℕ, Bool, true, false, List, [], ◌∷◌, ◌++
 use Rattle.std.specs.Int.{w32, w64, to_le_bytes, cast_unsigned}
 use Rattle.edits.specs.Decisions.{decision_number}
 use Rattle.edits.specs.Grades.{grade_number}
+use Rattle.edits.specs.Kinds.{kind_number, kind_of}
 use Rattle.edits.specs.Texts.{AreInitials, IsReference}
 use Rattle.edits.specs.declared.content.Edit.{Edit}
 use Rattle.edits.specs.declared.content.What.{What}
-use Rattle.edits.specs.declared.content.What.TheVariants.{AddStation, SetStation, PutReadings, DropReadings, FlagReadings, PutCorrection, DropCorrection, PutShift, DropShift, AddRating, PutPeriod, DropPeriod, PutEstimate, DropEstimate, PutMeasurement, DropMeasurement, Review, Decide}
+use Rattle.edits.specs.declared.content.What.TheVariants.{AddStation, SetStation, PutReadings, DropReadings, FlagReadings, PutCorrection, DropCorrection, PutShift, DropShift, AddRating, PutPeriod, DropPeriod, PutEstimate, DropEstimate, PutMeasurement, DropMeasurement, Review, Decide, SetEdition}
 use Rattle.edits.specs.declared.estimates.Estimate.{Estimate}
 use Rattle.edits.specs.declared.measurements.Measurement.{Measurement}
 use Rattle.fixed_units.specs.Quantities.{SiteNumber, IsSite}
@@ -60,10 +61,14 @@ entry_bytes at curve prorate = signed_number at ++ curve_bytes curve ++ mark_num
 abbrev pub table_bytes : List Row → List ℕ
 table_bytes rows = to_le_bytes w32 (length rows) ++ flat_map point_bytes rows
 
+-- what may lack: whether it is there, and itself where it is
+abbrev pub optional_bytes : {A : Type 0} → (A → List ℕ) → Option A → List ℕ
+optional_bytes bytes None = mark_number false ∷ []
+optional_bytes bytes (Some x) = mark_number true ∷ bytes x
+
 -- a period: the number of its rating, its start, whether it ends, and its end where it does
 abbrev pub end_bytes : Option ℤ → List ℕ
-end_bytes None = mark_number false ∷ []
-end_bytes (Some until) = mark_number true ∷ signed_number until
+end_bytes until = optional_bytes signed_number until
 
 abbrev pub period_bytes : Span → List ℕ
 period_bytes p = to_le_bytes w32 p.rating ++ (signed_number p.from ++ end_bytes p.until)
@@ -77,26 +82,13 @@ abbrev pub measurement_bytes : Measurement → List ℕ
 measurement_bytes m =
     to_le_bytes w32 m.number ++ (signed_number m.at ++ (signed_number m.gage ++ (signed_number m.discharge ++ grade_number m.grade ∷ [])))
 
+-- an edition: its day, whether it has a least cover, and that in minutes where it has
+abbrev pub least_bytes : Option ℕ → List ℕ
+least_bytes least = optional_bytes (to_le_bytes w32) least
+
 -- the kind of an edit
 abbrev pub kind : What → ℕ
-kind (AddStation name zone gap stage_array discharge_array) = 1
-kind (SetStation name gap stage_array discharge_array) = 2
-kind (PutReadings readings) = 3
-kind (DropReadings from to) = 4
-kind (FlagReadings from to flag) = 5
-kind (PutCorrection set at curve prorate) = 6
-kind (DropCorrection set at) = 7
-kind (PutShift at curve prorate) = 8
-kind (DropShift at) = 9
-kind (AddRating rating table) = 10
-kind (PutPeriod period) = 11
-kind (DropPeriod from) = 12
-kind (PutEstimate estimate) = 13
-kind (DropEstimate day) = 14
-kind (PutMeasurement measurement) = 15
-kind (DropMeasurement number) = 16
-kind (Review from to) = 17
-kind (Decide from to decision) = 18
+kind what = kind_number (kind_of what)
 
 -- the fields of each kind
 abbrev pub fields : What → List ℕ
@@ -120,6 +112,7 @@ fields (PutMeasurement measurement) = measurement_bytes measurement
 fields (DropMeasurement number) = to_le_bytes w32 number
 fields (Review from to) = day_number from ++ day_number to
 fields (Decide from to decision) = day_number from ++ (day_number to ++ decision_number decision ∷ [])
+fields (SetEdition day least) = day_number day ++ least_bytes least
 
 -- an edit: its kind, who makes it, under which reference, of which station, and the fields of its kind
 abbrev pub edit_bytes : Edit → List ℕ

@@ -8,6 +8,7 @@ ghost use Rattle.fixed_units.specs.Quantities.{IsSite};
 ghost use Rattle.fixed_units.specs.RoundingArray.{IsRoundingArray};
 ghost use Rattle.records.specs.Drafts.{parts, what_of, AreLawful, HasParts};
 
+use crate::edition_drafts::{edition_from, is_edition};
 use crate::entry_drafts::{
     EntryDraft, correction_from, dropped_correction_from, dropped_shift_from, is_entry, shift_from,
 };
@@ -123,6 +124,11 @@ pub(crate) enum Fields<'a> {
         to: i32,
         decision: Decision,
     },
+    /// An edition that is set: its day, and its least cover where it has one.
+    Edition {
+        day: i32,
+        least: Option<u32>,
+    },
 }
 
 /// Whether each part keeps to its range, with the sheets that belong to them behind. `NoMemory` comes only where it is so.
@@ -180,6 +186,7 @@ fn are_lawful(alloc: Global, fields: &Fields<'_>) -> Result<bool, NoMemory>
         Fields::DroppedMeasurement { number } => Ok(is_measurement_number(*number)),
         Fields::Review { from, to } => Ok(is_review(*from, *to)),
         Fields::Decided { from, to, .. } => Ok(is_review(*from, *to)),
+        Fields::Edition { day, least } => Ok(is_edition(*day, *least)),
     }
 }
 
@@ -252,6 +259,7 @@ fn what_from(alloc: Global, fields: &Fields<'_>) -> Result<What, NoMemory>
         Fields::DroppedMeasurement { number } => Ok(What::DropMeasurement { number: *number }),
         Fields::Review { from, to } => Ok(review_from(*from, *to)),
         Fields::Decided { from, to, decision } => Ok(decided_from(*from, *to, *decision)),
+        Fields::Edition { day, least } => Ok(edition_from(*day, *least)),
     }
 }
 

@@ -2,7 +2,7 @@
 
 ghost use Rattle.std.specs.Prelude.{◌≡◌, ◌≤◌, ◌*◌, length, flat_map, All, ℤ, Bool};
 ghost use Rattle.edits.specs.Lawful.{IsLawful, most_reviewed_days};
-ghost use Rattle.records.specs.Payloads.{entry_bytes, period_bytes, fields, edit_bytes, sheet_bytes, payload, longest_fields, longest_payload};
+ghost use Rattle.records.specs.Payloads.{entry_bytes, least_bytes, period_bytes, fields, edit_bytes, sheet_bytes, payload, longest_fields, longest_payload};
 ghost use Rattle.records.specs.Sheets.{IsSheet};
 
 use crate::laws::keeps_grammar;
@@ -73,6 +73,17 @@ fn fields_len(what: &What) -> usize
         What::DropMeasurement { .. } => 4,
         What::Review { .. } => 8,
         What::Decide { .. } => 9,
+        What::SetEdition { least, .. } => 4 + least_len(*least),
+    }
+}
+
+/// How many bytes a least cover takes, with what says whether it is there.
+fn least_len(least: Option<u32>) -> usize
+    ensures { result ≡ length (least_bytes least) }
+{
+    match least {
+        Some(_) => 5,
+        None => 1,
     }
 }
 

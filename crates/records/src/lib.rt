@@ -3,6 +3,8 @@
 
 pub mod codec;
 mod drafts;
+mod edition_drafts;
+mod edition_parsing;
 mod entry_drafts;
 mod estimate_drafts;
 pub mod laws;

@@ -3,9 +3,10 @@
 ghost use Rattle.std.specs.Prelude.{◌≡◌, ◌≤◌, option_map};
 ghost use Rattle.std.specs.Int.{w32, w64};
 ghost use Rattle.records.specs.Drafts.{parts, what_of};
-ghost use Rattle.records.specs.Parsing.{byte_at, number_at, front_at, short_text_at, signed_number_at, site_number_at, sender_at, day_at, arrays_at, addition_at, setting_at, point_at, points_at, curve_at, mark_at, entry_at, correction_at, dropped_correction_at, shift_at, dropped_shift_at, fields_at, parts_at};
+ghost use Rattle.records.specs.Parsing.{byte_at, number_at, front_at, short_text_at, signed_number_at, site_number_at, sender_at, day_at, arrays_at, addition_at, setting_at, point_at, points_at, curve_at, mark_at, entry_at, correction_at, dropped_correction_at, shift_at, dropped_shift_at, fields_at, fields_of, parts_at};
 
 use crate::drafts::{Draft, Fields};
+use crate::edition_parsing::edition_of;
 use crate::entry_drafts::EntryDraft;
 use crate::measurement_parsing::{
     dropped_estimate_of, dropped_measurement_of, estimate_of, measurement_of,
@@ -14,15 +15,16 @@ use crate::rating_parsing::{dropped_period_of, period_of, rating_of};
 use crate::reading_parsing::{dropped_span_of, flagged_span_of, put_of};
 use crate::review_parsing::{decided_of, review_of};
 use arrayvec::ArrayVec;
+use edits::Kind;
 
 /// The parts of a payload, and what stands behind them.
 #[tactic(auto, unfolding(crate::specs::Parsing::parts_at))]
 pub(crate) fn draft_of(bytes: &[u8]) -> Option<Draft<'_>>
     ensures { option_map parts result ≡ parts_at bytes.now }
 {
-    let (kind, rest) = byte_of(bytes)?;
+    let (number, rest) = byte_of(bytes)?;
     let ((by, (reference, (digits, value))), rest) = sender_of(rest)?;
-    let (fields, rest) = fields_of(kind, rest)?;
+    let (fields, rest) = fields_at(number, rest)?;
     Some(Draft {
         by,
         reference,
@@ -44,31 +46,39 @@ fn sender_of(bytes: &[u8]) -> Option<((&[u8], (&[u8], (u8, u64))), &[u8])>
     Some(((by, (reference, site)), rest))
 }
 
-/// The fields of a kind.
+/// The fields of the kind of a number.
 #[tactic(auto, unfolding(crate::specs::Parsing::fields_at))]
-fn fields_of(kind: u8, bytes: &[u8]) -> Option<(Fields<'_>, &[u8])>
-    ensures { option_map (λ x. (what_of x.0, x.1.now)) result ≡ fields_at kind bytes.now }
+fn fields_at(number: u8, bytes: &[u8]) -> Option<(Fields<'_>, &[u8])>
+    ensures { option_map (λ x. (what_of x.0, x.1.now)) result ≡ fields_at number bytes.now }
+{
+    fields_of(Kind::numbered(number)?, bytes)
+}
+
+/// The fields of a kind.
+#[tactic(auto, unfolding(crate::specs::Parsing::fields_of))]
+fn fields_of(kind: Kind, bytes: &[u8]) -> Option<(Fields<'_>, &[u8])>
+    ensures { option_map (λ x. (what_of x.0, x.1.now)) result ≡ fields_of kind bytes.now }
 {
     match kind {
-        1 => addition_of(bytes),
-        2 => setting_of(bytes),
-        3 => put_of(bytes),
-        4 => dropped_span_of(bytes),
-        5 => flagged_span_of(bytes),
-        6 => correction_of(bytes),
-        7 => dropped_correction_of(bytes),
-        8 => shift_of(bytes),
-        9 => dropped_shift_of(bytes),
-        10 => rating_of(bytes),
-        11 => period_of(bytes),
-        12 => dropped_period_of(bytes),
-        13 => estimate_of(bytes),
-        14 => dropped_estimate_of(bytes),
-        15 => measurement_of(bytes),
-        16 => dropped_measurement_of(bytes),
-        17 => review_of(bytes),
-        18 => decided_of(bytes),
-        _ => None,
+        Kind::AddStation => addition_of(bytes),
+        Kind::SetStation => setting_of(bytes),
+        Kind::PutReadings => put_of(bytes),
+        Kind::DropReadings => dropped_span_of(bytes),
+        Kind::FlagReadings => flagged_span_of(bytes),
+        Kind::PutCorrection => correction_of(bytes),
+        Kind::DropCorrection => dropped_correction_of(bytes),
+        Kind::PutShift => shift_of(bytes),
+        Kind::DropShift => dropped_shift_of(bytes),
+        Kind::AddRating => rating_of(bytes),
+        Kind::PutPeriod => period_of(bytes),
+        Kind::DropPeriod => dropped_period_of(bytes),
+        Kind::PutEstimate => estimate_of(bytes),
+        Kind::DropEstimate => dropped_estimate_of(bytes),
+        Kind::PutMeasurement => measurement_of(bytes),
+        Kind::DropMeasurement => dropped_measurement_of(bytes),
+        Kind::Review => review_of(bytes),
+        Kind::Decide => decided_of(bytes),
+        Kind::SetEdition => edition_of(bytes),
     }
 }
 

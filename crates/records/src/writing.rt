@@ -4,7 +4,7 @@ ghost use Rattle.std.specs.Prelude.{◌≡◌, ◌<◌, ◌++◌, ◌∷◌, [],
 ghost use Rattle.std.specs.Int.{w32, w64, to_le_bytes};
 ghost use Rattle.edits.specs.Decisions.{decision_number};
 ghost use Rattle.edits.specs.Lawful.{IsLawful};
-ghost use Rattle.records.specs.Payloads.{short_text, signed_number, site_number, flag_number, reading_bytes, mark_number, point_bytes, curve_bytes, entry_bytes, table_bytes, end_bytes, period_bytes, day_number, estimate_bytes, measurement_bytes, kind, fields, edit_bytes, sheet_bytes, payload};
+ghost use Rattle.records.specs.Payloads.{short_text, signed_number, site_number, flag_number, reading_bytes, mark_number, point_bytes, curve_bytes, entry_bytes, table_bytes, end_bytes, period_bytes, day_number, estimate_bytes, measurement_bytes, least_bytes, fields, edit_bytes, sheet_bytes, payload};
 ghost use Rattle.records.specs.Sheets.{IsSheet, Record};
 
 use crate::number_writing::{put_day, put_micro, put_point, put_second, put_u32};
@@ -26,37 +26,11 @@ pub(crate) fn put_record(out: &mut Vec<u8>, piece: &Record) -> Result<(), NoMemo
 fn put_edit(out: &mut Vec<u8>, edit: &Edit) -> Result<(), NoMemory>
     ensures { OnOk result (out.new.items ≡ out.old.items ++ edit_bytes edit.now) }
 {
-    out.push(kind_of(&edit.what))?;
+    out.push(edit.what.kind().number())?;
     put_short_text(out, edit.by.as_slice())?;
     put_short_text(out, edit.reference.as_slice())?;
     put_site(out, edit.site)?;
     put_fields(out, &edit.what)
-}
-
-/// The number of a kind of edit.
-fn kind_of(what: &What) -> u8
-    ensures { result ≡ kind what.now }
-{
-    match what {
-        What::AddStation { .. } => 1,
-        What::SetStation { .. } => 2,
-        What::PutReadings { .. } => 3,
-        What::DropReadings { .. } => 4,
-        What::FlagReadings { .. } => 5,
-        What::PutCorrection { .. } => 6,
-        What::DropCorrection { .. } => 7,
-        What::PutShift { .. } => 8,
-        What::DropShift { .. } => 9,
-        What::AddRating { .. } => 10,
-        What::PutPeriod { .. } => 11,
-        What::DropPeriod { .. } => 12,
-        What::PutEstimate { .. } => 13,
-        What::DropEstimate { .. } => 14,
-        What::PutMeasurement { .. } => 15,
-        What::DropMeasurement { .. } => 16,
-        What::Review { .. } => 17,
-        What::Decide { .. } => 18,
-    }
 }
 
 /// Adds a byte of length and the bytes of a text.
@@ -119,6 +93,7 @@ fn put_fields(out: &mut Vec<u8>, what: &What) -> Result<(), NoMemory>
         What::DropMeasurement { number } => put_u32(out, *number),
         What::Review { from, to } => put_days(out, *from, *to),
         What::Decide { from, to, decision } => put_decision(out, *from, *to, *decision),
+        What::SetEdition { day, least } => put_edition(out, *day, *least),
     }
 }
 
@@ -334,6 +309,25 @@ fn put_decision(out: &mut Vec<u8>, from: Day, to: Day, decision: Decision) -> Re
     put_days(out, from, to)?;
     out.push(decision.number())?;
     Ok(())
+}
+
+/// Adds the day of an edition, and its least cover.
+fn put_edition(out: &mut Vec<u8>, day: Day, least: Option<u32>) -> Result<(), NoMemory>
+    ensures { OnOk result (out.new.items ≡ out.old.items ++ (day_number day ++ least_bytes least)) }
+{
+    put_day(out, day)?;
+    put_least(out, least)
+}
+
+/// Adds whether there is a least cover, and its minutes where there is.
+fn put_least(out: &mut Vec<u8>, least: Option<u32>) -> Result<(), NoMemory>
+    ensures { OnOk result (out.new.items ≡ out.old.items ++ least_bytes least) }
+{
+    out.push(u8::from(least.is_some()))?;
+    match least {
+        Some(minutes) => put_u32(out, minutes),
+        None => Ok(()),
+    }
 }
 
 /// Adds the length and the bytes of each sheet.

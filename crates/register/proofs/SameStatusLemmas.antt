@@ -10,7 +10,7 @@ use Rattle.approval.specs.declared.objections.Objection.TheVariants.{NotInReview
 use Rattle.approval.specs.declared.status.Status.{Status}
 use Rattle.edits.specs.declared.content.Edit.{Edit}
 use Rattle.edits.specs.declared.content.What.{What}
-use Rattle.edits.specs.declared.content.What.TheVariants.{AddStation, SetStation, PutReadings, DropReadings, FlagReadings, PutCorrection, DropCorrection, PutShift, DropShift, AddRating, PutPeriod, DropPeriod, PutEstimate, DropEstimate, PutMeasurement, DropMeasurement, Review, Decide}
+use Rattle.edits.specs.declared.content.What.TheVariants.{Review, Decide}
 use Rattle.edits.specs.declared.decisions.Decision.{Decision}
 use Rattle.edits.specs.declared.decisions.Decision.TheVariants.{Approve, Rescind}
 use Rattle.fixed_units.specs.Calendar.{calendar}
@@ -48,22 +48,7 @@ module _ (a b : ℤ → Status) (same : (d : ℤ) → IsDay d → a d ≡ b d) w
   objection_same : (by : List ℕ) (what : What) → objection_of a by what ≡ objection_of b by what
   objection_same by (Review from to) = ap (option_map AlreadyApproved) (first_same is_approved from to)
   objection_same by (Decide from to decision) = decision_same by from to decision
-  objection_same by (AddStation name zone gap stages discharges) = refl
-  objection_same by (SetStation name gap stages discharges) = refl
-  objection_same by (PutReadings readings) = refl
-  objection_same by (DropReadings from to) = refl
-  objection_same by (FlagReadings from to flag) = refl
-  objection_same by (PutCorrection set at curve prorate) = refl
-  objection_same by (DropCorrection set at) = refl
-  objection_same by (PutShift at curve prorate) = refl
-  objection_same by (DropShift at) = refl
-  objection_same by (AddRating rating table) = refl
-  objection_same by (PutPeriod period) = refl
-  objection_same by (DropPeriod from) = refl
-  objection_same by (PutEstimate estimate) = refl
-  objection_same by (DropEstimate day) = refl
-  objection_same by (PutMeasurement measurement) = refl
-  objection_same by (DropMeasurement number) = refl
+  objection_same by _ = refl
 
   approved_same : (days : List ℤ) → All IsDay days → first_approved a days ≡ first_approved b days
   approved_same days h = find_same (λ d. is_approved (a d)) (λ d. is_approved (b d)) (λ d is. ap is_approved (same d is)) days h

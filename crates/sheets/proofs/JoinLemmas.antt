@@ -20,10 +20,7 @@ pub amounts_joined : (out at k a l b m c n d o e t u v w x y z : List ℕ) → t
     → x ≡ w ++ (n ++ d) → y ≡ x ++ o → z ≡ y ++ e → z ≡ out ++ (at ++ k ++ a ++ l ++ b ++ m ++ c ++ n ++ d ++ o ++ e)
 amounts_joined out at k a l b m c n d o e t u v w x y z ht hu hv hw hx hy hz = rw (hz, hy, hx, hw, hv, hu, ht) (simp append_assoc)
 
--- three lines, and four
-pub three_lines : (out a b c w x z : List ℕ) → w ≡ out ++ ended a → x ≡ w ++ ended b → z ≡ x ++ ended c → z ≡ out ++ flat_map ended (a ∷ b ∷ c ∷ [])
-three_lines out a b c w x z hw hx hz = rw (hz, hx, hw) (simp (append_assoc, append-nil))
-
+-- four lines
 pub four_lines : (out a b c d w x y z : List ℕ) → w ≡ out ++ ended a → x ≡ w ++ ended b → y ≡ x ++ ended c → z ≡ y ++ ended d
     → z ≡ out ++ flat_map ended (a ∷ b ∷ c ∷ d ∷ [])
 four_lines out a b c d w x y z hw hx hy hz = rw (hz, hy, hx, hw) (simp (append_assoc, append-nil))
@@ -37,7 +34,7 @@ pub sections_joined : (out : List ℕ) (a b c : List (List ℕ)) (d w x y z : Li
     → y ≡ x ++ flat_map ended c → z ≡ y ++ ended d → z ≡ out ++ flat_map ended (a ++ b ++ c ++ d ∷ [])
 sections_joined out a b c d w x y z hw hx hy hz = rw (hz, hy, hx, hw, sections a b c d) (simp append_assoc)
 
-pub sections-few : (a b c : List (List ℕ)) (d : List ℕ) → length (flat_map ended a) ≤ 120 → length (flat_map ended b) ≤ 572 → length (flat_map ended c) ≤ 680
+pub sections-few : (a b c : List (List ℕ)) (d : List ℕ) → length (flat_map ended a) ≤ 147 → length (flat_map ended b) ≤ 572 → length (flat_map ended c) ≤ 680
     → length (ended d) ≤ 271 → length (flat_map ended (a ++ b ++ c ++ d ∷ [])) ≤ 1700
 sections-few a b c d first second third last =
     rw (sections a b c d)

@@ -27,6 +27,11 @@ state_line false = codes "STATE P"
 abbrev pub count_line : List ℕ → ℕ → List ℕ
 count_line name count = name ++ codes " " ++ decimal count
 
+-- the edition that the day's means go by: the first, of the whole day, or the second, of a least cover in minutes
+abbrev pub edition_line : Option ℕ → List ℕ
+edition_line None = codes "EDITION 1"
+edition_line (Some least) = codes "EDITION 2 LEAST " ++ decimal least
+
 -- the readings that have no discharge, by the reason
 unfoldable pub missing_line : Counts → List ℕ
 missing_line counts =
@@ -69,10 +74,10 @@ estimate_mark false = []
 unfoldable pub published_line : Option Published → Bool → List ℕ
 published_line value estimated = codes "PUBLISHED " ++ published_or_dash value ++ estimate_mark estimated
 
--- the lines of a day with figures: its length and its readings, its means, its extremes, and what is published for it
-unfoldable pub counts_lines : ℕ → Counts → List (List ℕ)
-counts_lines seconds counts =
-    count_line (codes "LENGTH") seconds ∷ count_line (codes "READINGS") counts.readings ∷ missing_line counts ∷ []
+-- the lines of a day with figures: its length, its edition and its readings, its means, its extremes, and what is published for it
+unfoldable pub counts_lines : ℕ → Option ℕ → Counts → List (List ℕ)
+counts_lines seconds least counts =
+    count_line (codes "LENGTH") seconds ∷ edition_line least ∷ count_line (codes "READINGS") counts.readings ∷ missing_line counts ∷ []
 
 unfoldable pub means_lines : DayFigures → List (List ℕ)
 means_lines figures =
@@ -86,7 +91,7 @@ extremes_lines extremes =
 
 abbrev pub figures_lines : DayFigures → List (List ℕ)
 figures_lines figures =
-    counts_lines figures.length figures.counts ++ means_lines figures ++ extremes_lines figures.extremes
+    counts_lines figures.length figures.least figures.counts ++ means_lines figures ++ extremes_lines figures.extremes
     ++ published_line (published_discharge figures) (is_some figures.estimate) ∷ []
 
 abbrev pub value_lines : DayValue → List (List ℕ)

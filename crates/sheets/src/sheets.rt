@@ -2,7 +2,7 @@
 
 ghost use Rattle.std.specs.Prelude.{◌≡◌, ◌++◌, ◌∷◌, ◌+◌, ◌≤◌, [], codes, length, decimal, OnOk, IfOk};
 ghost use Rattle.std.specs.List.{flat_map};
-ghost use Rattle.sheets.specs.Sheets.{IsSheetSize, counts_lines, ended, estimate_mark, extremes_lines, figures_lines, means_lines, missing_line, published_line, published_or_dash, sheet, state_line, title_line, unit_or_dash, value_lines};
+ghost use Rattle.sheets.specs.Sheets.{IsSheetSize, counts_lines, edition_line, ended, estimate_mark, extremes_lines, figures_lines, means_lines, missing_line, published_line, published_or_dash, sheet, state_line, title_line, unit_or_dash, value_lines};
 
 use crate::parts::{write_count, write_published_or_dash, write_unit_or_dash};
 use civil_days::write_day;
@@ -71,21 +71,38 @@ fn write_figures(figures: &Figures, out: &mut Text) -> Result<(), NoMemory>
     ensures ok { OnOk result (out.new ≡ out.old ++ flat_map ended (figures_lines figures.now)) }
     ensures size { OnOk result (length (flat_map ended (figures_lines figures.now)) ≤ 1700) }
 {
-    write_counts(figures.length(), &figures.counts(), out)?;
+    write_counts(figures.length(), figures.least(), &figures.counts(), out)?;
     write_means(figures, out)?;
     write_extremes(&figures.extremes(), out)?;
     write_published_line(figures.discharge_text(), figures.estimate().is_some(), out)
 }
 
-/// Adds the lines of the length and of the readings.
+/// Adds the lines of the length, of the edition and of the readings.
 #[tactic(auto, unfolding(crate::specs::Sheets::counts_lines))]
-fn write_counts(seconds: u32, counts: &Counts, out: &mut Text) -> Result<(), NoMemory>
-    ensures ok { OnOk result (out.new ≡ out.old ++ flat_map ended (counts_lines seconds counts.now)) }
-    ensures size { OnOk result (length (flat_map ended (counts_lines seconds counts.now)) ≤ 120) }
+fn write_counts(
+    seconds: u32,
+    least: Option<u32>,
+    counts: &Counts,
+    out: &mut Text,
+) -> Result<(), NoMemory>
+    ensures ok { OnOk result (out.new ≡ out.old ++ flat_map ended (counts_lines seconds least counts.now)) }
+    ensures size { OnOk result (length (flat_map ended (counts_lines seconds least counts.now)) ≤ 147) }
 {
     write_count_line(b"LENGTH ", seconds, out)?;
+    write_edition_line(least, out)?;
     write_count_line(b"READINGS ", counts.readings, out)?;
     write_missing_line(counts, out)
+}
+
+/// Adds the line of the edition that the means go by: the first, of the whole day, or the second, of a least cover.
+fn write_edition_line(least: Option<u32>, out: &mut Text) -> Result<(), NoMemory>
+    ensures ok { OnOk result (out.new ≡ out.old ++ ended (edition_line least)) }
+    ensures size { OnOk result (length (ended (edition_line least)) ≤ 27) }
+{
+    match least {
+        Some(minutes) => write_count_line(b"EDITION 2 LEAST ", minutes, out),
+        None => out.push_slice(b"EDITION 1\n"),
+    }
 }
 
 /// Adds the line of a number behind its name.

@@ -16,7 +16,7 @@ use Rattle.day_inputs.specs.Equality.{same_inputs}
 use Rattle.day_inputs.specs.declared.day_inputs.DayInputs.{DayInputs}
 use Rattle.day_inputs.specs.declared.day_inputs.DayInputs.TheVariants.{Empty, Day}
 use Rattle.station_inputs.specs.Series.{corrections_with, entries_in, shifts_with}
-use Rattle.station_inputs.specs.Stations.{StationState, estimated_discharge, series_of, station_day, station_window, day_start, with_series, with_entry, without_entry}
+use Rattle.station_inputs.specs.Stations.{StationState, estimated_discharge, least_cover, series_of, station_day, station_window, day_start, with_series, with_entry, without_entry}
 use Rattle.station_inputs.specs.declared.series.StationSeries.{StationSeries}
 use Rattle.station_inputs.specs.declared.series.StationSeries.TheVariants.{Correction, Shift}
 use Rattle.station_inputs.proofs.SeriesLemmas.{nothing_taken}
@@ -41,13 +41,13 @@ in_shifts Empty = []
 in_shifts (Day p) = p.shifts
 
 -- the inputs of a day that has this window
-module _ (gap : ℕ) (stages discharges : List ℕ) (from until : ℤ) (w : List Reading) (estimate : Option ℤ) (lo hi : ℤ) (ratings : StationRatings) where
+module _ (gap : ℕ) (stages discharges : List ℕ) (from until : ℤ) (w : List Reading) (estimate : Option ℤ) (least : Option ℕ) (lo hi : ℤ) (ratings : StationRatings) where
   -- with these entries of its series
   abbrev bearing_day : List Entry → List Entry → List Entry → List Entry → DayInputs
-  bearing_day one two three four = carrying gap stages discharges from until w estimate one two three four (parts lo hi ratings.tables ratings.periods)
+  bearing_day one two three four = carrying gap stages discharges from until w estimate least one two three four (parts lo hi ratings.tables ratings.periods)
 
   abbrev day_with : Corrections → List Entry → DayInputs
-  day_with c sh = carried gap stages discharges from until w estimate lo hi c sh ratings
+  day_with c sh = carried gap stages discharges from until w estimate least lo hi c sh ratings
 
   -- with one of the sets changed
   abbrev set_in : Bool → Bool → Corrections → List Entry
@@ -101,12 +101,13 @@ series_told s day which change lo hi e =
     let b = day_start s (day +ℤ pos 1) in
     let w = station_window s day in
     let q = estimated_discharge s day in
+    let m = least_cover s day in
     let c = corrections_with which change s.corrections in
     let sh = shifts_with which change s.shifts in
-    series_step s.gap s.stage_array s.discharge_array a b w q lo hi s.ratings which change s.corrections s.shifts
-    ∙ ap (λ (x : DayInputs). same_inputs x (day_with s.gap s.stage_array s.discharge_array a b w q lo hi s.ratings c sh))
-    (sym (with_ends s.gap s.stage_array s.discharge_array a b w q lo hi s.corrections s.shifts s.ratings e))
-    ∙ ap (λ (x : DayInputs). same_inputs (station_day s day) x) (sym (with_ends s.gap s.stage_array s.discharge_array a b w q lo hi c sh s.ratings e))
+    series_step s.gap s.stage_array s.discharge_array a b w q m lo hi s.ratings which change s.corrections s.shifts
+    ∙ ap (λ (x : DayInputs). same_inputs x (day_with s.gap s.stage_array s.discharge_array a b w q m lo hi s.ratings c sh))
+    (sym (with_ends s.gap s.stage_array s.discharge_array a b w q m lo hi s.corrections s.shifts s.ratings e))
+    ∙ ap (λ (x : DayInputs). same_inputs (station_day s day) x) (sym (with_ends s.gap s.stage_array s.discharge_array a b w q m lo hi c sh s.ratings e))
 
 -- the window of a day goes from one instant to another, not before it
 pub record IsSpanned (s : StationState) (day lo hi : ℤ) : Type 0 where

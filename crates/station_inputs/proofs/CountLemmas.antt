@@ -18,10 +18,11 @@ use Rattle.ratings.specs.Numbered as numbered
 use Rattle.ratings.specs.Numbered.{Numbered, period_from, rating_of, with_period, with_rating, with_table, without_period}
 use Rattle.ratings.specs.Periods.{begin}
 use Rattle.ratings.specs.Spans.{Span}
-use Rattle.station_inputs.specs.Counts.{passed_count, passes, passes_a_series, most_ratings, most_entries, most_periods, most_measurements}
+use Rattle.station_inputs.specs.Counts.{passed_count, passes, passes_a_series, most_ratings, most_editions, most_entries, most_periods, most_measurements}
 use Rattle.station_inputs.specs.KeptStation.{IsStation}
 use Rattle.station_inputs.specs.Series.{IsOfStation, all_series}
-use Rattle.station_inputs.specs.Stations.{StationState, measurement_of, number_of, series_of, station_after, with_entry, with_measurements, with_ratings, with_series, without_entry}
+use Rattle.station_inputs.specs.Stations.{StationState, edition_day, measurement_of, number_of, series_of, station_after, with_editions, with_entry, with_measurements, with_ratings, with_series, without_entry}
+use Rattle.station_inputs.specs.declared.station_editions.Edition.{Edition}
 use Rattle.station_inputs.specs.declared.counts.Counted.{Counted}
 use Rattle.station_inputs.specs.declared.counts.Counted.TheVariants as counts
 use Rattle.station_inputs.specs.declared.series.StationSeries.{StationSeries}
@@ -105,20 +106,21 @@ kept_series s =
     any_series (λ which. passes most_entries (length (series_of which s)) (length (series_of which s))) false false false false
     (few s.corrections.first) (few s.corrections.second) (few s.corrections.third) (few s.shifts)
 
--- the first count that is passed, by the four tests
-abbrev in_order : Bool → Bool → Bool → Bool → Option Counted
-in_order a b c d = cond a (Some counts.Ratings) (cond b (Some counts.Entries) (cond c (Some counts.Periods) (cond d (Some counts.Measurements) None)))
+-- the first count that is passed, by the five tests
+abbrev in_order : Bool → Bool → Bool → Bool → Bool → Option Counted
+in_order a b c d e =
+    cond a (Some counts.Ratings) (cond b (Some counts.Entries) (cond c (Some counts.Periods) (cond d (Some counts.Measurements) (cond e (Some counts.Editions) None))))
 
-order_same : (a b c d a' b' c' d' : Bool) → a ≡ a' → b ≡ b' → c ≡ c' → d ≡ d' → in_order a b c d ≡ in_order a' b' c' d'
-order_same a b c d a' b' c' d' e f g h = rw (e, f, g, h) refl
+order_same : (a b c d e a' b' c' d' e' : Bool) → a ≡ a' → b ≡ b' → c ≡ c' → d ≡ d' → e ≡ e' → in_order a b c d e ≡ in_order a' b' c' d' e'
+order_same a b c d e a' b' c' d' e' f g h i j = rw (f, g, h, i, j) refl
 
-by_tests : (s t : StationState) (a b c d : Bool) → passes most_ratings (length s.ratings.tables) (length t.ratings.tables) ≡ a → passes_a_series s t ≡ b
+by_tests : (s t : StationState) (a b c d e : Bool) → passes most_ratings (length s.ratings.tables) (length t.ratings.tables) ≡ a → passes_a_series s t ≡ b
     → passes most_periods (length s.ratings.periods) (length t.ratings.periods) ≡ c → passes most_measurements (length s.measurements) (length t.measurements) ≡ d
-    → passed_count s t ≡ in_order a b c d
-by_tests s t a b c d e f g h =
+    → passes most_editions (length s.editions) (length t.editions) ≡ e → passed_count s t ≡ in_order a b c d e
+by_tests s t a b c d e f g h i j =
     order_same (passes most_ratings (length s.ratings.tables) (length t.ratings.tables)) (passes_a_series s t)
     (passes most_periods (length s.ratings.periods) (length t.ratings.periods)) (passes most_measurements (length s.measurements) (length t.measurements))
-    a b c d e f g h
+    (passes most_editions (length s.editions) (length t.editions)) a b c d e f g h i j
 
 few_ratings : (s : StationState) → passes most_ratings (length s.ratings.tables) (length s.ratings.tables) ≡ false
 few_ratings s = as_many most_ratings (length s.ratings.tables)
@@ -129,6 +131,9 @@ few_periods s = as_many most_periods (length s.ratings.periods)
 few_measurements : (s : StationState) → passes most_measurements (length s.measurements) (length s.measurements) ≡ false
 few_measurements s = as_many most_measurements (length s.measurements)
 
+few_editions : (s : StationState) → passes most_editions (length s.editions) (length s.editions) ≡ false
+few_editions s = as_many most_editions (length s.editions)
+
 -- the refusal where one more passes, and none where not
 abbrev pub raised_past : Counted → ℕ → Bool → ℕ → Option Counted
 raised_past which limit there count = if one_more limit there count then Some which else None
@@ -138,52 +143,59 @@ pub rating_count : (s : StationState) (x : Numbered) → IsStation s
     → passed_count s (with_ratings (with_rating x) s) ≡ raised_past counts.Ratings most_ratings (is_some (rating_of x.number s.ratings.tables)) (length s.ratings.tables)
 rating_count s x k =
     let there = is_some (rating_of x.number s.ratings.tables) in
-    by_tests s (with_ratings (with_rating x) s) (one_more most_ratings there (length s.ratings.tables)) false false false
-    (table_passes most_ratings x s.ratings.tables (rating_of x.number s.ratings.tables) k.ratings_are.rising refl) (kept_series s) (few_periods s) (few_measurements s)
+    by_tests s (with_ratings (with_rating x) s) (one_more most_ratings there (length s.ratings.tables)) false false false false
+    (table_passes most_ratings x s.ratings.tables (rating_of x.number s.ratings.tables) k.ratings_are.rising refl) (kept_series s) (few_periods s) (few_measurements s) (few_editions s)
 
 pub entry_count : (s : StationState) (which : StationSeries) (entry : Entry) → IsStation s → IsOfStation which
     → passed_count s (with_entry which entry s) ≡ raised_past counts.Entries most_entries (entries.stands_at entry.at (series_of which s)) (length (series_of which s))
 entry_count s which entry k i =
     let es = series_of which s in
     let there = entries.stands_at entry.at es in
-    by_tests s (with_entry which entry s) false (one_more most_entries there (length es)) false false (few_ratings s)
+    by_tests s (with_entry which entry s) false (one_more most_entries there (length es)) false false false (few_ratings s)
     (one_series s which (entries.put entry) (one_more most_entries there (length es)) i
-    (put_passes entries.instant_of most_entries entry es (series_are s which k i).series.rising)) (few_periods s) (few_measurements s)
+    (put_passes entries.instant_of most_entries entry es (series_are s which k i).series.rising)) (few_periods s) (few_measurements s) (few_editions s)
 
 pub period_count : (s : StationState) (p : Span) → IsStation s
     → passed_count s (with_ratings (with_period p) s) ≡ raised_past counts.Periods most_periods (is_some (period_from p.from s.ratings.periods)) (length s.ratings.periods)
 period_count s p k =
     let there = is_some (period_from p.from s.ratings.periods) in
-    by_tests s (with_ratings (with_period p) s) false false (one_more most_periods there (length s.ratings.periods)) false (few_ratings s) (kept_series s)
-    (put_passes begin most_periods p s.ratings.periods k.ratings_are.apart.rising) (few_measurements s)
+    by_tests s (with_ratings (with_period p) s) false false (one_more most_periods there (length s.ratings.periods)) false false (few_ratings s) (kept_series s)
+    (put_passes begin most_periods p s.ratings.periods k.ratings_are.apart.rising) (few_measurements s) (few_editions s)
 
 pub measurement_count : (s : StationState) (m : Measurement) → IsStation s
     → passed_count s (with_measurements (put number_of m) s) ≡ raised_past counts.Measurements most_measurements (is_some (measurement_of m.number s)) (length s.measurements)
 measurement_count s m k =
     let there = is_some (measurement_of m.number s) in
-    by_tests s (with_measurements (put number_of m) s) false false false (one_more most_measurements there (length s.measurements)) (few_ratings s) (kept_series s)
-    (few_periods s) (put_passes number_of most_measurements m s.measurements k.measurements_are.rising)
+    by_tests s (with_measurements (put number_of m) s) false false false (one_more most_measurements there (length s.measurements)) false (few_ratings s) (kept_series s)
+    (few_periods s) (put_passes number_of most_measurements m s.measurements k.measurements_are.rising) (few_editions s)
+
+pub edition_count : (s : StationState) (e : Edition) → IsStation s
+    → passed_count s (with_editions (put edition_day e) s) ≡ raised_past counts.Editions most_editions (is_some (at edition_day e.day s.editions)) (length s.editions)
+edition_count s e k =
+    let there = is_some (at edition_day e.day s.editions) in
+    by_tests s (with_editions (put edition_day e) s) false false false false (one_more most_editions there (length s.editions)) (few_ratings s) (kept_series s)
+    (few_periods s) (few_measurements s) (put_passes edition_day most_editions e s.editions k.editions_are.rising)
 
 -- what is taken out raises none
 no_entry_count : (s : StationState) (which : StationSeries) (at : ℤ) → IsStation s → IsOfStation which → passed_count s (without_entry which at s) ≡ None
 no_entry_count s which at k i =
-    by_tests s (without_entry which at s) false false false false (few_ratings s)
+    by_tests s (without_entry which at s) false false false false false (few_ratings s)
     (one_series s which (entries.without at) false i (without_passes entries.instant_of most_entries at (series_of which s) (series_are s which k i).series.rising))
-    (few_periods s) (few_measurements s)
+    (few_periods s) (few_measurements s) (few_editions s)
 
 no_period_count : (s : StationState) (from : ℤ) → IsStation s → passed_count s (with_ratings (without_period from) s) ≡ None
 no_period_count s from k =
-    by_tests s (with_ratings (without_period from) s) false false false false (few_ratings s) (kept_series s)
-    (without_passes begin most_periods from s.ratings.periods k.ratings_are.apart.rising) (few_measurements s)
+    by_tests s (with_ratings (without_period from) s) false false false false false (few_ratings s) (kept_series s)
+    (without_passes begin most_periods from s.ratings.periods k.ratings_are.apart.rising) (few_measurements s) (few_editions s)
 
 no_measurement_count : (s : StationState) (number : ℕ) → IsStation s → passed_count s (with_measurements (without number_of (pos number)) s) ≡ None
 no_measurement_count s number k =
-    by_tests s (with_measurements (without number_of (pos number)) s) false false false false (few_ratings s) (kept_series s) (few_periods s)
-    (without_passes number_of most_measurements (pos number) s.measurements k.measurements_are.rising)
+    by_tests s (with_measurements (without number_of (pos number)) s) false false false false false (few_ratings s) (kept_series s) (few_periods s)
+    (without_passes number_of most_measurements (pos number) s.measurements k.measurements_are.rising) (few_editions s)
 
 -- nor does what keeps all that is counted
 pub same_count : (s : StationState) → passed_count s s ≡ None
-same_count s = by_tests s s false false false false (few_ratings s) (kept_series s) (few_periods s) (few_measurements s)
+same_count s = by_tests s s false false false false false (few_ratings s) (kept_series s) (few_periods s) (few_measurements s) (few_editions s)
 
 -- the edits that raise no count are these
 abbrev pub RaisesNone : What → Type 0

@@ -12,7 +12,7 @@ use Rattle.day_inputs.specs.declared.day_inputs.DayInputs.TheVariants.{Empty, Da
 use Rattle.day_inputs.specs.declared.day_inputs.DayParts.{DayParts}
 use Rattle.day_inputs.proofs.RulesLemmas.{rules_told, rules_are}
 use Rattle.day_inputs.proofs.WindowEnds.{by_ends, no_inputs, parts_with}
-use Rattle.station_inputs.specs.Stations.{StationState, estimated_discharge, station_day, station_window, day_start}
+use Rattle.station_inputs.specs.Stations.{StationState, estimated_discharge, least_cover, station_day, station_window, day_start}
 use Rattle.station_inputs.specs.Held.{HasBounds, HasContents, HasSettings}
 use Rattle.station_inputs.specs.KeptStation.{KeptStation}
 
@@ -34,9 +34,9 @@ parts_are s day p h =
     let w = station_window s day in
     let q = estimated_discharge s day in
     let some : (is_none (window_ends w) && is_none q) ≡ false = rw (sym h.contents.1, sym h.contents.0) (not_true _ h.some) in
-    ap Day (rules_are s.gap s.stage_array s.discharge_array (day_start s day) (day_start s (day +ℤ pos 1)) s.corrections s.shifts s.ratings q p w
+    ap Day (rules_are s.gap s.stage_array s.discharge_array (day_start s day) (day_start s (day +ℤ pos 1)) s.corrections s.shifts s.ratings q (least_cover s day) p w
     (sym h.frame.0.0) (sym h.frame.0.1) (sym h.frame.0.2) h.frame.1.0 h.frame.1.1 h.contents.1 h.contents.0 h.contents.2)
-    ∙ by_ends s.gap s.stage_array s.discharge_array (day_start s day) (day_start s (day +ℤ pos 1)) s.corrections s.shifts s.ratings q w some
+    ∙ by_ends s.gap s.stage_array s.discharge_array (day_start s day) (day_start s (day +ℤ pos 1)) s.corrections s.shifts s.ratings q (least_cover s day) w some
 
 -- and back: a day that has inputs has a window or an estimate
 abbrev is_bare : StationState → ℤ → Bool
@@ -45,7 +45,7 @@ is_bare s day = is_none (window_ends (station_window s day)) && is_none (estimat
 abbrev parts_of : StationState → ℤ → DayParts
 parts_of s day =
     parts_with s.gap s.stage_array s.discharge_array (day_start s day) (day_start s (day +ℤ pos 1)) s.corrections s.shifts s.ratings
-    (estimated_discharge s day) (station_window s day) (window_ends (station_window s day))
+    (estimated_discharge s day) (least_cover s day) (station_window s day) (window_ends (station_window s day))
 
 none_of : {A B : Type 0} (o : Option A) (q : Option B) → (is_none o && is_none q) ≡ true → (o ≡ None) × (q ≡ None)
 none_of None None h = (refl, refl)
@@ -60,11 +60,11 @@ not_day q e = absurd (cc)
 
 held_step : (s : StationState) (day : ℤ) (p : DayParts) (bare : Bool) → is_bare s day ≡ bare → Day p ≡ station_day s day → (p ≡ parts_of s day) × (is_bare s day ≡ false)
 held_step s day p false n e =
-    let k = by_ends s.gap s.stage_array s.discharge_array (day_start s day) (day_start s (day +ℤ pos 1)) s.corrections s.shifts s.ratings (estimated_discharge s day) (station_window s day) n in
+    let k = by_ends s.gap s.stage_array s.discharge_array (day_start s day) (day_start s (day +ℤ pos 1)) s.corrections s.shifts s.ratings (estimated_discharge s day) (least_cover s day) (station_window s day) n in
     (day_back p (parts_of s day) (e ∙ sym k), n)
 held_step s day p true n e =
     let both = none_of (window_ends (station_window s day)) (estimated_discharge s day) n in
-    let k = no_inputs s.gap s.stage_array s.discharge_array (day_start s day) (day_start s (day +ℤ pos 1)) s.corrections s.shifts s.ratings (estimated_discharge s day) (station_window s day) both.0 both.1 in
+    let k = no_inputs s.gap s.stage_array s.discharge_array (day_start s day) (day_start s (day +ℤ pos 1)) s.corrections s.shifts s.ratings (estimated_discharge s day) (least_cover s day) (station_window s day) both.0 both.1 in
     absurd (not_day p (e ∙ sym k))
 
 pub parts_held : (s : StationState) (day : ℤ) (p : DayParts) → Day p ≡ station_day s day → HasParts s day p
@@ -80,7 +80,7 @@ parts_held s day p e =
       contents = (
         ap (λ (x : DayParts). x.estimate) k,
         ap (λ (x : DayParts). x.window) k,
-        rules_told s.gap s.stage_array s.discharge_array (day_start s day) (day_start s (day +ℤ pos 1)) s.corrections s.shifts s.ratings (estimated_discharge s day) p (station_window s day) k,
+        rules_told s.gap s.stage_array s.discharge_array (day_start s day) (day_start s (day +ℤ pos 1)) s.corrections s.shifts s.ratings (estimated_discharge s day) (least_cover s day) p (station_window s day) k,
       );
     }
 

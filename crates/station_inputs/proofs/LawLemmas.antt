@@ -4,7 +4,7 @@ use Rattle.std.proofs.Common.{refl, ap, sym, inl, inr, ◌∙◌}
 use Rattle.edits.specs.Lawful.{IsLawful}
 use Rattle.edits.specs.declared.content.What.{What}
 use Rattle.edits.specs.declared.decisions.Decision.{Decision}
-use Rattle.edits.specs.declared.content.What.TheVariants.{AddStation, SetStation, PutReadings, DropReadings, FlagReadings, PutCorrection, DropCorrection, PutShift, DropShift, AddRating, PutPeriod, DropPeriod, PutEstimate, DropEstimate, PutMeasurement, DropMeasurement, Review, Decide}
+use Rattle.edits.specs.declared.content.What.TheVariants.{AddStation, SetStation, PutReadings, DropReadings, FlagReadings, PutCorrection, DropCorrection, PutShift, DropShift, AddRating, PutPeriod, DropPeriod, PutEstimate, DropEstimate, PutMeasurement, DropMeasurement, Review, Decide, SetEdition}
 use Rattle.curves.specs.Entries.{entry_of}
 use Rattle.edits.specs.declared.measurements.Measurement.{Measurement}
 use Rattle.rating_tables.specs.Table.{Row}
@@ -16,50 +16,18 @@ use Rattle.ratings.specs.Numbered.{Numbered, rating_of}
 use Rattle.ratings.specs.Periods.{overlap}
 use Rattle.station_inputs.specs.KeptStation.{IsStation}
 use Rattle.station_inputs.specs.Obstacles.{obstacle, period_obstacle, rating_obstacle}
-use Rattle.station_inputs.specs.Stations.{StationState, day_start, station_after, station_day}
+use Rattle.station_inputs.specs.Stations.{StationState, day_start, edition_of, station_after, station_day}
 use Rattle.station_inputs.specs.declared.series.StationSeries.TheVariants.{Correction, Shift}
-use Rattle.station_inputs.proofs.KeptLemmas.{described_is, readings_put, readings_dropped, readings_flagged, rating_added, period_put, period_dropped, estimate_put, estimate_dropped, measurement_put, measurement_dropped}
+use Rattle.station_inputs.proofs.KeptLemmas.{described_is, readings_put, readings_dropped, readings_flagged, rating_added, period_put, period_dropped, edition_put, estimate_put, estimate_dropped, measurement_put, measurement_dropped}
 use Rattle.station_inputs.proofs.SeriesLemmas.{put_station, without_station}
 
 pub same_site : (what : What) (s : StationState) → (station_after what s).site ≡ s.site
 same_site (AddStation name zone gap stages discharges) s = refl
-same_site (SetStation name gap stages discharges) s = refl
-same_site (PutReadings readings) s = refl
-same_site (DropReadings from to) s = refl
-same_site (FlagReadings from to flag) s = refl
-same_site (PutCorrection set at curve prorate) s = refl
-same_site (DropCorrection set at) s = refl
-same_site (PutShift at curve prorate) s = refl
-same_site (DropShift at) s = refl
-same_site (AddRating rating table) s = refl
-same_site (PutPeriod period) s = refl
-same_site (DropPeriod from) s = refl
-same_site (PutEstimate estimate) s = refl
-same_site (DropEstimate own) s = refl
-same_site (PutMeasurement measurement) s = refl
-same_site (DropMeasurement number) s = refl
-same_site (Review from to) s = refl
-same_site (Decide from to decision) s = refl
+same_site _ s = refl
 
 pub same_days : (what : What) (s : StationState) (day : ℤ) → day_start (station_after what s) day ≡ day_start s day
 same_days (AddStation name zone gap stages discharges) s day = refl
-same_days (SetStation name gap stages discharges) s day = refl
-same_days (PutReadings readings) s day = refl
-same_days (DropReadings from to) s day = refl
-same_days (FlagReadings from to flag) s day = refl
-same_days (PutCorrection set at curve prorate) s day = refl
-same_days (DropCorrection set at) s day = refl
-same_days (PutShift at curve prorate) s day = refl
-same_days (DropShift at) s day = refl
-same_days (AddRating rating table) s day = refl
-same_days (PutPeriod period) s day = refl
-same_days (DropPeriod from) s day = refl
-same_days (PutEstimate estimate) s day = refl
-same_days (DropEstimate own) s day = refl
-same_days (PutMeasurement measurement) s day = refl
-same_days (DropMeasurement number) s day = refl
-same_days (Review from to) s day = refl
-same_days (Decide from to decision) s day = refl
+same_days _ s day = refl
 
 -- what nothing that stands in the way tells of the ratings
 pub is_free : (o : Option Numbered) → rating_obstacle (is_some o) ≡ None → o ≡ None
@@ -93,6 +61,7 @@ still_station (PutMeasurement measurement) s k l e = measurement_put s measureme
 still_station (DropMeasurement number) s k l e = measurement_dropped s number _ k refl
 still_station (Review from to) s k l e = k
 still_station (Decide from to decision) s k l e = k
+still_station (SetEdition day least) s k l e = edition_put s (edition_of day least) _ k l refl
 
 -- the edits that change no inputs of a day are these
 abbrev pub ChangesNone : What → Type 0

@@ -2,6 +2,8 @@ pub mod BearingDays
 pub mod CountLemmas
 pub mod DayCounts
 pub mod DayWalk
+pub mod EditionDays
+pub mod EditionLemmas
 pub mod EstimateDays
 pub mod HeldInputs
 pub mod KeptLemmas

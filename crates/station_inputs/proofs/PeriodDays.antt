@@ -15,7 +15,7 @@ use Rattle.ratings.specs.Parts.{Part, parts}
 use Rattle.ratings.proofs.PartEqualityLemmas.{lists_decide}
 use Rattle.ratings.proofs.PeriodChangeLemmas.{rating_changes_none}
 use Rattle.station_inputs.specs.KeptStation.{IsStation, KeptStation}
-use Rattle.station_inputs.specs.Stations.{StationState, day_start, estimated_discharge, station_day, station_window, with_ratings}
+use Rattle.station_inputs.specs.Stations.{StationState, day_start, estimated_discharge, least_cover, station_day, station_window, with_ratings}
 use Rattle.station_inputs.proofs.StationLemmas.{same_of, told_by}
 use Rattle.station_inputs.proofs.WindowDays.{carrying, with_ends, without_window}
 
@@ -24,11 +24,11 @@ abbrev parts_in : DayInputs → List Part
 parts_in Empty = []
 parts_in (Day p) = p.periods
 
-module _ (gap : ℕ) (stages discharges : List ℕ) (from until : ℤ) (c : Corrections) (sh : List Entry) (before after : StationRatings) (w : List Reading) (estimate : Option ℤ) where
+module _ (gap : ℕ) (stages discharges : List ℕ) (from until : ℤ) (c : Corrections) (sh : List Entry) (before after : StationRatings) (w : List Reading) (estimate : Option ℤ) (least : Option ℕ) where
   -- the inputs of a day whose window has these ends, with these parts
   abbrev with_parts : ℤ → ℤ → List Part → DayInputs
   with_parts lo hi periods =
-      carrying gap stages discharges from until w estimate (bearing lo hi c.first) (bearing lo hi c.second) (bearing lo hi c.third) (bearing lo hi sh) periods
+      carrying gap stages discharges from until w estimate least (bearing lo hi c.first) (bearing lo hi c.second) (bearing lo hi c.third) (bearing lo hi sh) periods
 
   -- a day keeps its inputs where the parts stay
   parts_step : (lo hi : ℤ) (ps qs : List Part) → same_parts ps qs ≡ same_inputs (with_parts lo hi ps) (with_parts lo hi qs)
@@ -38,31 +38,31 @@ module _ (gap : ℕ) (stages discharges : List ℕ) (from until : ℤ) (c : Corr
 
   window_told : (lo hi : ℤ) → window_ends w ≡ Some (lo, hi)
       → same_parts (parts lo hi before.tables before.periods) (parts lo hi after.tables after.periods)
-      ≡ same_inputs (with_window gap stages discharges from until c sh before w estimate) (with_window gap stages discharges from until c sh after w estimate)
+      ≡ same_inputs (with_window gap stages discharges from until c sh before w estimate least) (with_window gap stages discharges from until c sh after w estimate least)
   window_told lo hi e =
       let old = parts lo hi before.tables before.periods in
       let new = parts lo hi after.tables after.periods in
       parts_step lo hi old new
-      ∙ ap (λ (x : DayInputs). same_inputs x (with_parts lo hi new)) (sym (with_ends gap stages discharges from until w estimate lo hi c sh before e))
-      ∙ ap (λ (x : DayInputs). same_inputs (with_window gap stages discharges from until c sh before w estimate) x)
-      (sym (with_ends gap stages discharges from until w estimate lo hi c sh after e))
+      ∙ ap (λ (x : DayInputs). same_inputs x (with_parts lo hi new)) (sym (with_ends gap stages discharges from until w estimate least lo hi c sh before e))
+      ∙ ap (λ (x : DayInputs). same_inputs (with_window gap stages discharges from until c sh before w estimate least) x)
+      (sym (with_ends gap stages discharges from until w estimate least lo hi c sh after e))
 
 -- and so does each day where the parts of all times stay
-always_same : (gap : ℕ) (stages discharges : List ℕ) (from until : ℤ) (c : Corrections) (sh : List Entry) (before after : StationRatings) (w : List Reading) (estimate : Option ℤ)
+always_same : (gap : ℕ) (stages discharges : List ℕ) (from until : ℤ) (c : Corrections) (sh : List Entry) (before after : StationRatings) (w : List Reading) (estimate : Option ℤ) (least : Option ℕ)
     → ((lo hi : ℤ) → parts lo hi after.tables after.periods ≡ parts lo hi before.tables before.periods)
-    → with_window gap stages discharges from until c sh before w estimate ≡ with_window gap stages discharges from until c sh after w estimate
-always_same gap stages discharges from until c sh before after [] estimate h = without_window gap stages discharges from until [] estimate c c sh sh before after refl
-always_same gap stages discharges from until c sh before after (r ∷ rs) estimate h =
+    → with_window gap stages discharges from until c sh before w estimate least ≡ with_window gap stages discharges from until c sh after w estimate least
+always_same gap stages discharges from until c sh before after [] estimate least h = without_window gap stages discharges from until [] estimate least least c c sh sh before after refl
+always_same gap stages discharges from until c sh before after (r ∷ rs) estimate least h =
     let a = r.at in
     let b = last_at r rs in
-    ap (with_parts gap stages discharges from until c sh before after (r ∷ rs) estimate a b) (sym (h a b))
+    ap (with_parts gap stages discharges from until c sh before after (r ∷ rs) estimate least a b) (sym (h a b))
 
 pub no_window_told : (s : StationState) (day : ℤ) (change : StationRatings → StationRatings) → window_ends (station_window s day) ≡ None
     → true ≡ same_inputs (station_day s day) (station_day (with_ratings change s) day)
 no_window_told s day change e =
     sym (same_of (station_day s day) (station_day (with_ratings change s) day)
     (without_window s.gap s.stage_array s.discharge_array (day_start s day) (day_start s (day +ℤ pos 1)) (station_window s day) (estimated_discharge s day)
-    s.corrections s.corrections s.shifts s.shifts s.ratings (change s.ratings) e))
+    (least_cover s day) (least_cover s day) s.corrections s.corrections s.shifts s.shifts s.ratings (change s.ratings) e))
 
 -- a rating more
 pub rating_told : (s : StationState) (day : ℤ) (x : Numbered) → IsStation s
@@ -70,7 +70,7 @@ pub rating_told : (s : StationState) (day : ℤ) (x : Numbered) → IsStation s
 rating_told s day x k =
     sym (same_of (station_day s day) (station_day (with_ratings (with_rating x) s) day)
     (always_same s.gap s.stage_array s.discharge_array (day_start s day) (day_start s (day +ℤ pos 1)) s.corrections s.shifts s.ratings (with_rating x s.ratings)
-    (station_window s day) (estimated_discharge s day) (λ lo hi. rating_changes_none lo hi x s.ratings k.ratings_are)))
+    (station_window s day) (estimated_discharge s day) (least_cover s day) (λ lo hi. rating_changes_none lo hi x s.ratings k.ratings_are)))
 
 -- periods changed
 pub periods_told : (s : StationState) (day : ℤ) (change : StationRatings → StationRatings) (lo hi : ℤ) → window_ends (station_window s day) ≡ Some (lo, hi)
@@ -78,7 +78,7 @@ pub periods_told : (s : StationState) (day : ℤ) (change : StationRatings → S
     ≡ same_inputs (station_day s day) (station_day (with_ratings change s) day)
 periods_told s day change lo hi e =
     window_told s.gap s.stage_array s.discharge_array (day_start s day) (day_start s (day +ℤ pos 1)) s.corrections s.shifts s.ratings (change s.ratings)
-    (station_window s day) (estimated_discharge s day) lo hi e
+    (station_window s day) (estimated_discharge s day) (least_cover s day) lo hi e
 
 -- the same of a station that is kept with room
 abbrev Told : ℤ → (StationRatings → StationRatings) → ℤ → ℤ → Bool → KeptStation → KeptStation → Type 0

@@ -78,8 +78,8 @@ changed_station : (s : StationState) (which : StationSeries) (change : List Entr
     → AreEntries (change (series_of which s)) → IsStation (with_series which change s)
 changed_station s which change k i h =
     let all = changed_are s which change k i h in
-    inputs_are (corrections_with which change s.corrections) (shifts_with which change s.shifts) s.ratings s.measurements s.estimates s.readings s k
-    all.0 all.1.0 all.1.1 k.ratings_are k.periods_are k.measurements_are k.estimates_are k.readings_are
+    inputs_are (corrections_with which change s.corrections) (shifts_with which change s.shifts) s.ratings s.measurements s.estimates s.editions s.readings s k
+    all.0 all.1.0 all.1.1 k.ratings_are k.periods_are k.measurements_are k.estimates_are k.editions_are k.readings_are
 
 pub put_station : (s : StationState) (which : StationSeries) (e : Entry) → IsStation s → IsOfStation which → IsPutCurve e.curve → IsStamp e.at
     → IsStation (with_entry which e s)
@@ -90,10 +90,10 @@ without_station s which at k i = changed_station s which (without at) k i (witho
 
 -- the same with the entries that its sets, or its shifts, end with
 abbrev with_sets : StationState → Corrections → StationState
-with_sets s sets = with_inputs sets s.shifts s.ratings s.measurements s.estimates s.readings s
+with_sets s sets = with_inputs sets s.shifts s.ratings s.measurements s.estimates s.editions s.readings s
 
 abbrev with_shifts : StationState → List Entry → StationState
-with_shifts s shifts = with_inputs s.corrections shifts s.ratings s.measurements s.estimates s.readings s
+with_shifts s shifts = with_inputs s.corrections shifts s.ratings s.measurements s.estimates s.editions s.readings s
 
 pub set_put : (s : StationState) (set : ℕ) (e : Entry) (new : Corrections) → IsStation s → IsSetNumber set → IsPutCurve e.curve → IsStamp e.at
     → new ≡ with_set_changed set (put e) s.corrections → IsStation (with_sets s new)

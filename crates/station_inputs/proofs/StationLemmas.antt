@@ -1,8 +1,8 @@
 -- The inputs of a day of a station: whether there are any, what they keep to, and what leaves them as they are.
-use Rattle.std.specs.Prelude.{◌≡◌, ◌≢◌, ◌≤◌, ◌*◌, ◌||◌, ℕ, Bool, true, false, not, cond, Result, Ok, Err, IfOk, IfSome, List, [], ◌∷◌, filter, find, is_some, Option, Some, None, option_map, All, ℤ, pos, ◌+ℤ◌}
+use Rattle.std.specs.Prelude.{◌≡◌, ◌≢◌, ◌≤◌, ◌*◌, ◌||◌, ℕ, Bool, true, false, not, cond, Result, Ok, Err, IfOk, IfSome, List, [], ◌∷◌, filter, find, is_some, Option, Some, None, option_and_then, option_map, All, ℤ, pos, ◌+ℤ◌, int_le}
 use Rattle.std.specs.Ordering.{int_eq}
 use Rattle.std.proofs.Common.{refl, ap, sym, subst, ◌∙◌}
-use Rattle.std.proofs.lemmas.List.Elements.{All-head, All-tail}
+use Rattle.std.proofs.lemmas.List.Elements.{All-filter, All-head, All-tail}
 use Rattle.fixed_units.specs.Quantities.{IsDischarge, IsStage, IsStamp, most_gap}
 use Rattle.fixed_units.specs.declared.readings.Reading.{Reading}
 use Rattle.readings.specs.Readings.{IsRising, is_used}
@@ -25,9 +25,13 @@ use Rattle.day_inputs.specs.declared.day_inputs.DayInputs.{DayInputs}
 use Rattle.day_inputs.specs.declared.day_inputs.DayInputs.TheVariants.{Empty, Day}
 use Rattle.edits.specs.Lawful.{IsPutEstimate}
 use Rattle.edits.specs.declared.estimates.Estimate.{Estimate}
+use Rattle.editions.specs.Covers.{IsLeastCover}
+use Rattle.rising.specs.Ends.{last}
 use Rattle.rising.specs.Lists as lists
-use Rattle.station_inputs.specs.Stations.{StationState, estimated_day, estimated_discharge, station_day, station_window, day_start, described, with_estimates, with_readings}
-use Rattle.station_inputs.specs.KeptStation.{AreReadings, IsStation, KeptStation}
+use Rattle.rising.proofs.Ends.{last-kept}
+use Rattle.station_inputs.specs.Stations.{StationState, edition_day, estimated_day, estimated_discharge, least_cover, station_day, station_window, day_start, described, with_estimates, with_readings}
+use Rattle.station_inputs.specs.KeptStation.{AreReadings, IsKeptEdition, IsStation, KeptStation}
+use Rattle.station_inputs.specs.declared.station_editions.Edition.{Edition}
 use Rattle.station_inputs.specs.Touched.{has_inputs, has_used_reading}
 
 -- what is found is of the list, and passes
@@ -57,15 +61,32 @@ pub kept_estimate : (kept view : KeptStation) → view ≡ kept → IsStation vi
 kept_estimate kept view e k day estimate =
     subst (IsEstimateKept day estimate) e (λ d. subst (λ (q : Option ℤ). IfSome q IsDischarge) (sym d) (estimate_kept view.station day k))
 
+-- the least cover in force is one, where there is one
+least_step : (o : Option Edition) → ((e : Edition) → o ≡ Some e → IsKeptEdition e) → IfSome (option_and_then (λ (e : Edition). e.least) o) IsLeastCover
+least_step None k = tt
+least_step (Some e) k = (k e refl).cover
+
+pub least_kept : (s : StationState) (day : ℤ) → IsStation s → IfSome (least_cover s day) IsLeastCover
+least_kept s day k =
+    least_step (last (lists.up_to edition_day day s.editions))
+    (λ e. last-kept IsKeptEdition (lists.up_to edition_day day s.editions) e (All-filter (λ (x : Edition). int_le x.day day) IsKeptEdition s.editions k.editions_are.each))
+
+abbrev IsLeastKept : ℤ → Option ℕ → KeptStation → Type 0
+IsLeastKept day least kept = least ≡ least_cover kept.station day → IfSome least IsLeastCover
+
+pub kept_least : (kept view : KeptStation) → view ≡ kept → IsStation view.station → (day : ℤ) (least : Option ℕ) → IsLeastKept day least kept
+kept_least kept view e k day least =
+    subst (IsLeastKept day least) e (λ d. subst (λ (m : Option ℕ). IfSome m IsLeastCover) (sym d) (least_kept view.station day k))
+
 -- the inputs of a day keep to what they must, where the station does
 pub day_kept : (r : Result DayInputs NoMemory) (gap : ℕ) (stages discharges : List ℕ) (from until : ℤ) (sets : Corrections) (shifts : List Entry) (ratings : StationRatings)
-    (readings items : List Reading) (estimate : Option ℤ) → IfOk r (λ i. i ≡ with_window gap stages discharges from until sets shifts ratings items estimate)
-    → 1 ≤ gap → gap ≤ most_gap → IsDayLength from until → AreCorrections sets → IsSeries shifts → AreRatings ratings → AreReadings readings → IfSome estimate IsDischarge
+    (readings items : List Reading) (estimate : Option ℤ) (least : Option ℕ) → IfOk r (λ i. i ≡ with_window gap stages discharges from until sets shifts ratings items estimate least)
+    → 1 ≤ gap → gap ≤ most_gap → IsDayLength from until → AreCorrections sets → IsSeries shifts → AreRatings ratings → AreReadings readings → IfSome estimate IsDischarge → IfSome least IsLeastCover
     → items ≡ window from until (pos (60 * gap)) readings → IfOk r AreInputs
-day_kept (Err e) gap stages discharges from until sets shifts ratings readings items estimate k low high l c t q h d w = tt
-day_kept (Ok i) gap stages discharges from until sets shifts ratings readings items estimate k low high l c t q h d w =
+day_kept (Err e) gap stages discharges from until sets shifts ratings readings items estimate least k low high l c t q h d m w = tt
+day_kept (Ok i) gap stages discharges from until sets shifts ratings readings items estimate least k low high l c t q h d m w =
     subst AreInputs (sym k)
-    (inputs_kept gap stages discharges from until sets shifts ratings estimate low high l.shortest l.longest c t q d items
+    (inputs_kept gap stages discharges from until sets shifts ratings estimate least low high l.shortest l.longest c t q d m items
     (subst IsRising (sym w) (window_rises from until (pos (60 * gap)) readings h.rising))
     (subst (λ (rs : List Reading). All (λ r. IsStage r.raw) rs) (sym w)
     (window_keeps (λ r. IsStage r.raw) from until (pos (60 * gap)) readings h.stages)))
@@ -124,9 +145,9 @@ discharges_of : DayInputs → List ℕ
 discharges_of Empty = []
 discharges_of (Day p) = p.discharge_array
 
-module _ (gap : ℕ) (stages discharges : List ℕ) (from until : ℤ) (sets : Corrections) (shifts : List Entry) (ratings : StationRatings) where
+module _ (gap : ℕ) (stages discharges : List ℕ) (from until : ℤ) (sets : Corrections) (shifts : List Entry) (ratings : StationRatings) (least : Option ℕ) where
   abbrev inputs : List Reading → Option ℤ → DayInputs
-  inputs w estimate = with_window gap stages discharges from until sets shifts ratings w estimate
+  inputs w estimate = with_window gap stages discharges from until sets shifts ratings w estimate least
 
   inputs_any : (w : List Reading) (estimate : Option ℤ) → has_inputs (inputs w estimate) ≡ (is_any w || is_some estimate)
   unfolding is_any
@@ -158,7 +179,7 @@ day_any : (s : StationState) (day : ℤ) → has_inputs (station_day s day) ≡ 
 day_any s day =
     let a = day_start s day in
     let b = day_start s (day +ℤ pos 1) in
-    inputs_any s.gap s.stage_array s.discharge_array a b s.corrections s.shifts s.ratings (station_window s day) (estimated_discharge s day)
+    inputs_any s.gap s.stage_array s.discharge_array a b s.corrections s.shifts s.ratings (least_cover s day) (station_window s day) (estimated_discharge s day)
     ∙ ap (λ (x : Bool). x || is_some (estimated_discharge s day))
     (neighbours_any (neighbour_before a (pos (60 * s.gap)) s.readings) (inner a b s.readings) (neighbour_after b (pos (60 * s.gap)) s.readings))
 
@@ -201,18 +222,18 @@ told_by p q true there back = sym (same_of p q (there refl))
 told_by p q false there back = sym (other_of p q (λ d. absurd (let t = back d in cc)))
 
 -- the inputs of a day stay where its window does
-window_same : (gap : ℕ) (stages discharges : List ℕ) (from until : ℤ) (sets : Corrections) (shifts : List Entry) (ratings : StationRatings) (estimate : Option ℤ) (old new : List Reading)
-    → same_readings old new ≡ same_inputs (inputs gap stages discharges from until sets shifts ratings old estimate) (inputs gap stages discharges from until sets shifts ratings new estimate)
-window_same gap stages discharges from until sets shifts ratings estimate old new =
-    let day : List Reading → DayInputs = λ w. inputs gap stages discharges from until sets shifts ratings w estimate in
+window_same : (gap : ℕ) (stages discharges : List ℕ) (from until : ℤ) (sets : Corrections) (shifts : List Entry) (ratings : StationRatings) (least : Option ℕ) (estimate : Option ℤ) (old new : List Reading)
+    → same_readings old new ≡ same_inputs (inputs gap stages discharges from until sets shifts ratings least old estimate) (inputs gap stages discharges from until sets shifts ratings least new estimate)
+window_same gap stages discharges from until sets shifts ratings least estimate old new =
+    let day : List Reading → DayInputs = λ w. inputs gap stages discharges from until sets shifts ratings least w estimate in
     told_by (day old) (day new) (same_readings old new) (λ e. ap day ((lists_decide old new).0 e))
     (λ f. (lists_decide old new).1
-    (sym (window_told gap stages discharges from until sets shifts ratings old estimate) ∙ ap window_of f ∙ window_told gap stages discharges from until sets shifts ratings new estimate))
+    (sym (window_told gap stages discharges from until sets shifts ratings least old estimate) ∙ ap window_of f ∙ window_told gap stages discharges from until sets shifts ratings least new estimate))
 
 pub readings_told : (s : StationState) (day : ℤ) (change : List Reading → List Reading)
     → same_readings (station_window s day) (station_window (with_readings change s) day) ≡ same_inputs (station_day s day) (station_day (with_readings change s) day)
 readings_told s day change =
-    window_same s.gap s.stage_array s.discharge_array (day_start s day) (day_start s (day +ℤ pos 1)) s.corrections s.shifts s.ratings (estimated_discharge s day)
+    window_same s.gap s.stage_array s.discharge_array (day_start s day) (day_start s (day +ℤ pos 1)) s.corrections s.shifts s.ratings (least_cover s day) (estimated_discharge s day)
     (station_window s day) (station_window (with_readings change s) day)
 
 -- the same as it is asked at the instants of a day, of a station that is kept with room
@@ -239,18 +260,18 @@ altered_kept kept view e day change from until altered =
     subst (λ (k : KeptStation). AlteredDay day change from until altered view k) e (altered_here view.station day change from until altered)
 
 -- the inputs of a day stay where its estimate does
-estimate_same : (gap : ℕ) (stages discharges : List ℕ) (from until : ℤ) (sets : Corrections) (shifts : List Entry) (ratings : StationRatings) (w : List Reading) (old new : Option ℤ)
-    → same_estimate old new ≡ same_inputs (inputs gap stages discharges from until sets shifts ratings w old) (inputs gap stages discharges from until sets shifts ratings w new)
-estimate_same gap stages discharges from until sets shifts ratings w old new =
-    let day : Option ℤ → DayInputs = λ q. inputs gap stages discharges from until sets shifts ratings w q in
+estimate_same : (gap : ℕ) (stages discharges : List ℕ) (from until : ℤ) (sets : Corrections) (shifts : List Entry) (ratings : StationRatings) (least : Option ℕ) (w : List Reading) (old new : Option ℤ)
+    → same_estimate old new ≡ same_inputs (inputs gap stages discharges from until sets shifts ratings least w old) (inputs gap stages discharges from until sets shifts ratings least w new)
+estimate_same gap stages discharges from until sets shifts ratings least w old new =
+    let day : Option ℤ → DayInputs = λ q. inputs gap stages discharges from until sets shifts ratings least w q in
     told_by (day old) (day new) (same_estimate old new) (λ e. ap day ((estimates_decide old new).0 e))
     (λ f. (estimates_decide old new).1
-    (sym (estimate_told gap stages discharges from until sets shifts ratings w old) ∙ ap estimate_in f ∙ estimate_told gap stages discharges from until sets shifts ratings w new))
+    (sym (estimate_told gap stages discharges from until sets shifts ratings least w old) ∙ ap estimate_in f ∙ estimate_told gap stages discharges from until sets shifts ratings least w new))
 
 pub estimates_told : (s : StationState) (day : ℤ) (change : List Estimate → List Estimate)
     → same_estimate (estimated_discharge s day) (estimated_discharge (with_estimates change s) day) ≡ same_inputs (station_day s day) (station_day (with_estimates change s) day)
 estimates_told s day change =
-    estimate_same s.gap s.stage_array s.discharge_array (day_start s day) (day_start s (day +ℤ pos 1)) s.corrections s.shifts s.ratings (station_window s day)
+    estimate_same s.gap s.stage_array s.discharge_array (day_start s day) (day_start s (day +ℤ pos 1)) s.corrections s.shifts s.ratings (least_cover s day) (station_window s day)
     (estimated_discharge s day) (estimated_discharge (with_estimates change s) day)
 
 -- a station described as it is keeps each day
@@ -268,25 +289,25 @@ empty_is : (i : DayInputs) → has_inputs i ≡ false → i ≡ Empty
 empty_is Empty h = refl
 empty_is (Day p) h = absurd (cc)
 
-described_step : (g g' : ℕ) (s s' d d' : List ℕ) (a b : ℤ) (sets : Corrections) (shifts : List Entry) (ratings : StationRatings) (w w' : List Reading) (estimate : Option ℤ) (filled : Bool)
-    → is_any w ≡ is_any w' → Differs g s d g' s' d' → has_inputs (inputs g s d a b sets shifts ratings w estimate) ≡ filled
-    → not filled ≡ same_inputs (inputs g s d a b sets shifts ratings w estimate) (inputs g' s' d' a b sets shifts ratings w' estimate)
-described_step g g' s s' d d' a b sets shifts ratings w w' estimate filled same n h =
-    let old = inputs g s d a b sets shifts ratings w estimate in
-    let new = inputs g' s' d' a b sets shifts ratings w' estimate in
+described_step : (g g' : ℕ) (s s' d d' : List ℕ) (a b : ℤ) (sets : Corrections) (shifts : List Entry) (ratings : StationRatings) (least : Option ℕ) (w w' : List Reading) (estimate : Option ℤ) (filled : Bool)
+    → is_any w ≡ is_any w' → Differs g s d g' s' d' → has_inputs (inputs g s d a b sets shifts ratings least w estimate) ≡ filled
+    → not filled ≡ same_inputs (inputs g s d a b sets shifts ratings least w estimate) (inputs g' s' d' a b sets shifts ratings least w' estimate)
+described_step g g' s s' d d' a b sets shifts ratings least w w' estimate filled same n h =
+    let old = inputs g s d a b sets shifts ratings least w estimate in
+    let new = inputs g' s' d' a b sets shifts ratings least w' estimate in
     let also : has_inputs new ≡ filled =
-    inputs_any g' s' d' a b sets shifts ratings w' estimate ∙ ap (λ (x : Bool). x || is_some estimate) (sym same) ∙ sym (inputs_any g s d a b sets shifts ratings w estimate) ∙ h in
+    inputs_any g' s' d' a b sets shifts ratings least w' estimate ∙ ap (λ (x : Bool). x || is_some estimate) (sym same) ∙ sym (inputs_any g s d a b sets shifts ratings least w estimate) ∙ h in
     by filled h also
   where
-    by : (f : Bool) → has_inputs (inputs g s d a b sets shifts ratings w estimate) ≡ f → has_inputs (inputs g' s' d' a b sets shifts ratings w' estimate) ≡ f
-        → not f ≡ same_inputs (inputs g s d a b sets shifts ratings w estimate) (inputs g' s' d' a b sets shifts ratings w' estimate)
+    by : (f : Bool) → has_inputs (inputs g s d a b sets shifts ratings least w estimate) ≡ f → has_inputs (inputs g' s' d' a b sets shifts ratings least w' estimate) ≡ f
+        → not f ≡ same_inputs (inputs g s d a b sets shifts ratings least w estimate) (inputs g' s' d' a b sets shifts ratings least w' estimate)
     by false e f =
-        sym (same_of (inputs g s d a b sets shifts ratings w estimate) (inputs g' s' d' a b sets shifts ratings w' estimate)
-        (empty_is (inputs g s d a b sets shifts ratings w estimate) e ∙ sym (empty_is (inputs g' s' d' a b sets shifts ratings w' estimate) f)))
+        sym (same_of (inputs g s d a b sets shifts ratings least w estimate) (inputs g' s' d' a b sets shifts ratings least w' estimate)
+        (empty_is (inputs g s d a b sets shifts ratings least w estimate) e ∙ sym (empty_is (inputs g' s' d' a b sets shifts ratings least w' estimate) f)))
     by true e f =
-        let one = settings_told g s d a b sets shifts ratings w estimate e in
-        let two = settings_told g' s' d' a b sets shifts ratings w' estimate f in
-        sym (other_of (inputs g s d a b sets shifts ratings w estimate) (inputs g' s' d' a b sets shifts ratings w' estimate) (λ q.
+        let one = settings_told g s d a b sets shifts ratings least w estimate e in
+        let two = settings_told g' s' d' a b sets shifts ratings least w' estimate f in
+        sym (other_of (inputs g s d a b sets shifts ratings least w estimate) (inputs g' s' d' a b sets shifts ratings least w' estimate) (λ q.
         n (sym one.0 ∙ ap gap_of q ∙ two.0) (sym one.1.0 ∙ ap stages_of q ∙ two.1.0) (sym one.1.1 ∙ ap discharges_of q ∙ two.1.1)))
 
 pub described_other : (s : StationState) (day : ℤ) (name : List ℕ) (gap : ℕ) (stages discharges : List ℕ)
@@ -299,5 +320,5 @@ described_other s day name gap stages discharges n =
     let same : is_any (station_window s day) ≡ is_any (window a b (pos (60 * gap)) s.readings) =
     neighbours_any (neighbour_before a (pos (60 * s.gap)) s.readings) own (neighbour_after b (pos (60 * s.gap)) s.readings)
     ∙ sym (neighbours_any (neighbour_before a (pos (60 * gap)) s.readings) own (neighbour_after b (pos (60 * gap)) s.readings)) in
-    described_step s.gap gap s.stage_array stages s.discharge_array discharges a b s.corrections s.shifts s.ratings (station_window s day)
+    described_step s.gap gap s.stage_array stages s.discharge_array discharges a b s.corrections s.shifts s.ratings (least_cover s day) (station_window s day)
     (window a b (pos (60 * gap)) s.readings) (estimated_discharge s day) (has_inputs (station_day s day)) same n refl

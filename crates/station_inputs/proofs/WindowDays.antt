@@ -11,7 +11,7 @@ use Rattle.day_inputs.specs.DayInputs.{last_at, window_ends, with_window}
 use Rattle.day_inputs.specs.declared.day_inputs.DayInputs.{DayInputs}
 use Rattle.day_inputs.specs.declared.day_inputs.DayInputs.TheVariants.{Day}
 
-module _ (gap : ℕ) (stages discharges : List ℕ) (from until : ℤ) (w : List Reading) (estimate : Option ℤ) where
+module _ (gap : ℕ) (stages discharges : List ℕ) (from until : ℤ) (w : List Reading) (estimate : Option ℤ) (least : Option ℕ) where
   -- the inputs of a day that has this window, with these entries of its series and these parts of its periods
   abbrev pub carrying : List Entry → List Entry → List Entry → List Entry → List Part → DayInputs
   carrying first second third shifts periods = Day (record {
@@ -27,6 +27,7 @@ module _ (gap : ℕ) (stages discharges : List ℕ) (from until : ℤ) (w : List
     shifts = shifts;
     periods = periods;
     estimate = estimate;
+    least = least;
   })
 
   -- they are those that bear on the time between the window's ends
@@ -34,19 +35,19 @@ module _ (gap : ℕ) (stages discharges : List ℕ) (from until : ℤ) (w : List
   carried lo hi c sh ratings =
       carrying (bearing lo hi c.first) (bearing lo hi c.second) (bearing lo hi c.third) (bearing lo hi sh) (parts lo hi ratings.tables ratings.periods)
 
-pub with_ends : (gap : ℕ) (stages discharges : List ℕ) (from until : ℤ) (w : List Reading) (estimate : Option ℤ) (lo hi : ℤ) (c : Corrections) (sh : List Entry) (ratings : StationRatings)
-    → window_ends w ≡ Some (lo, hi) → with_window gap stages discharges from until c sh ratings w estimate ≡ carried gap stages discharges from until w estimate lo hi c sh ratings
-with_ends gap stages discharges from until [] estimate lo hi c sh ratings e = absurd (cc)
-with_ends gap stages discharges from until (r ∷ rs) estimate lo hi c sh ratings e =
+pub with_ends : (gap : ℕ) (stages discharges : List ℕ) (from until : ℤ) (w : List Reading) (estimate : Option ℤ) (least : Option ℕ) (lo hi : ℤ) (c : Corrections) (sh : List Entry) (ratings : StationRatings)
+    → window_ends w ≡ Some (lo, hi) → with_window gap stages discharges from until c sh ratings w estimate least ≡ carried gap stages discharges from until w estimate least lo hi c sh ratings
+with_ends gap stages discharges from until [] estimate least lo hi c sh ratings e = absurd (cc)
+with_ends gap stages discharges from until (r ∷ rs) estimate least lo hi c sh ratings e =
     let p : ◌≡◌ {A = ℤ × ℤ} (r.at, last_at r rs) (lo, hi) = cc in
     let f : lo ≡ r.at = sym (ap (λ (x : ℤ × ℤ). x.0) p) in
     let g : hi ≡ last_at r rs = sym (ap (λ (x : ℤ × ℤ). x.1) p) in
     rw (f, g) refl
 
 -- a day without a window has the same inputs whatever else is changed
-pub without_window : (gap : ℕ) (stages discharges : List ℕ) (from until : ℤ) (w : List Reading) (estimate : Option ℤ) (c d : Corrections) (sh th : List Entry) (before after : StationRatings)
+pub without_window : (gap : ℕ) (stages discharges : List ℕ) (from until : ℤ) (w : List Reading) (estimate : Option ℤ) (least more : Option ℕ) (c d : Corrections) (sh th : List Entry) (before after : StationRatings)
     → window_ends w ≡ None
-    → with_window gap stages discharges from until c sh before w estimate ≡ with_window gap stages discharges from until d th after w estimate
-without_window gap stages discharges from until [] None c d sh th before after e = refl
-without_window gap stages discharges from until [] (Some discharge) c d sh th before after e = refl
-without_window gap stages discharges from until (r ∷ rs) estimate c d sh th before after e = absurd (cc)
+    → with_window gap stages discharges from until c sh before w estimate least ≡ with_window gap stages discharges from until d th after w estimate more
+without_window gap stages discharges from until [] None least more c d sh th before after e = refl
+without_window gap stages discharges from until [] (Some discharge) least more c d sh th before after e = refl
+without_window gap stages discharges from until (r ∷ rs) estimate least more c d sh th before after e = absurd (cc)

@@ -6,7 +6,7 @@ use Rattle.readings.specs.Window.{of_day}
 use Rattle.station_inputs.specs.Series.{all_series}
 use Rattle.station_inputs.specs.Stations.{StationState, day_start, series_of}
 use Rattle.station_inputs.specs.declared.counts.Counted.{Counted}
-use Rattle.station_inputs.specs.declared.counts.Counted.TheVariants.{Ratings, Entries, Periods, Measurements}
+use Rattle.station_inputs.specs.declared.counts.Counted.TheVariants.{Ratings, Entries, Periods, Measurements, Editions}
 
 -- a count that was raised passes its limit
 abbrev pub passes : ℕ → ℕ → ℕ → Bool
@@ -20,7 +20,7 @@ day_count s day = length (of_day (day_start s day) (day_start s (day +ℤ pos 1)
 abbrev pub passes_a_day : ℕ → StationState → StationState → Bool
 passes_a_day limit before after = list_any (λ day. passes limit (day_count before day) (day_count after day)) calendar
 
--- how many ratings a station has at most, entries in one series, periods, and measurements
+-- how many ratings a station has at most, entries in one series, periods, measurements, and editions
 abbrev pub most_ratings : ℕ
 most_ratings = 200
 
@@ -33,6 +33,9 @@ most_periods = 1_000
 abbrev pub most_measurements : ℕ
 most_measurements = 10_000
 
+abbrev pub most_editions : ℕ
+most_editions = 100
+
 -- some series of the station has too many entries
 abbrev pub passes_a_series : StationState → StationState → Bool
 passes_a_series before after = list_any (λ which. passes most_entries (length (series_of which before)) (length (series_of which after))) all_series
@@ -44,4 +47,5 @@ passed_count before after =
     else (if passes_a_series before after then Some Entries
     else (if passes most_periods (length before.ratings.periods) (length after.ratings.periods) then Some Periods
     else (if passes most_measurements (length before.measurements) (length after.measurements) then Some Measurements
-    else None)))
+    else (if passes most_editions (length before.editions) (length after.editions) then Some Editions
+    else None))))

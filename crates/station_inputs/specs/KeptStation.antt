@@ -7,13 +7,14 @@ use Rattle.curves.specs.declared.entries.Entry.{Entry}
 use Rattle.curves.specs.Entries.{IsSeries}
 use Rattle.curves.specs.Corrections.{Corrections, AreCorrections}
 use Rattle.civil_days.specs.Starts.{IsZone}
-use Rattle.edits.specs.Lawful.{IsPutEstimate, IsPutMeasurement, IsPutPeriod}
+use Rattle.edits.specs.Lawful.{IsPutEstimate, IsPutMeasurement, IsPutPeriod, IsSetEdition}
 use Rattle.edits.specs.declared.estimates.Estimate.{Estimate}
 use Rattle.edits.specs.declared.measurements.Measurement.{Measurement}
 use Rattle.ratings.specs.Numbered.{AreRatings}
 use Rattle.rising.specs.Lists as lists
 use Rattle.station_inputs.specs.Series.{SeriesRoom}
-use Rattle.station_inputs.specs.Stations.{StationState, estimated_day, number_of}
+use Rattle.station_inputs.specs.Stations.{StationState, edition_day, estimated_day, number_of}
+use Rattle.station_inputs.specs.declared.station_editions.Edition.{Edition}
 
 -- readings in force: stages at stamps, rising by instant
 pub record AreReadings (readings : List Reading) : Type 0 where
@@ -38,6 +39,14 @@ pub record AreEstimates (estimates : List Estimate) : Type 0 where
   pub rising : lists.IsRising estimated_day estimates
   pub each : All IsPutEstimate estimates
 
+-- editions rise by day, and each is one that may be set
+abbrev pub IsKeptEdition : Edition → Type 0
+IsKeptEdition edition = IsSetEdition edition.day edition.least
+
+pub record AreEditions (editions : List Edition) : Type 0 where
+  pub rising : lists.IsRising edition_day editions
+  pub each : All IsKeptEdition editions
+
 -- what each station keeps to
 pub record IsStation (station : StationState) : Type 0 where
   pub site_range : IsSite station.site
@@ -51,10 +60,11 @@ pub record IsStation (station : StationState) : Type 0 where
   pub periods_are : All IsPutPeriod station.ratings.periods
   pub measurements_are : AreMeasurements station.measurements
   pub estimates_are : AreEstimates station.estimates
+  pub editions_are : AreEditions station.editions
   pub readings_are : AreReadings station.readings
 
--- a station that is kept, and for how many more readings, entries of each series, ratings, periods, measurements and estimates it has
--- room
+-- a station that is kept, and for how many more readings, entries of each series, ratings, periods, measurements, estimates and
+-- editions it has room
 pub record KeptStation : Type 0 where
   pub station : StationState
   pub spare : ℕ
@@ -63,3 +73,4 @@ pub record KeptStation : Type 0 where
   pub period_room : ℕ
   pub measurement_room : ℕ
   pub estimate_room : ℕ
+  pub edition_room : ℕ

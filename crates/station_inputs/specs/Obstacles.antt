@@ -2,7 +2,7 @@
 use Rattle.std.specs.Prelude.{Bool, is_some, Option, Some, None, option_map, if◌then◌else◌, ℤ}
 use Rattle.curves.specs.Entries.{stands_at}
 use Rattle.edits.specs.declared.content.What.{What}
-use Rattle.edits.specs.declared.content.What.TheVariants.{AddStation, SetStation, PutReadings, DropReadings, FlagReadings, PutCorrection, DropCorrection, PutShift, DropShift, AddRating, PutPeriod, DropPeriod, PutEstimate, DropEstimate, PutMeasurement, DropMeasurement, Review, Decide}
+use Rattle.edits.specs.declared.content.What.TheVariants.{DropReadings, FlagReadings, DropCorrection, DropShift, AddRating, PutPeriod, DropPeriod, DropEstimate, DropMeasurement}
 use Rattle.ratings.specs.Numbered.{period_from, rating_of}
 use Rattle.ratings.specs.Periods.{overlap}
 use Rattle.readings.specs.Readings.{in_span}
@@ -27,21 +27,13 @@ period_obstacle rated overlapped = if rated then option_map PeriodOverlap overla
 -- what stands in the way of an edit of each kind: of a drop or a flagging that nothing stands where it would act, of a rating that
 -- one has its number, and of a period that its rating is not there, or else the first period of another start that shares an instant
 abbrev pub obstacle : StationState → What → Option Obstacle
-obstacle s (AddStation name zone gap stage_array discharge_array) = None
-obstacle s (SetStation name gap stage_array discharge_array) = None
-obstacle s (PutReadings readings) = None
 obstacle s (DropReadings from to) = unless_there (is_some (first (in_span from to s.readings)))
 obstacle s (FlagReadings from to flag) = unless_there (is_some (first (in_span from to s.readings)))
-obstacle s (PutCorrection set at curve prorate) = None
 obstacle s (DropCorrection set at) = unless_there (stands_at at (series_of (Correction set) s))
-obstacle s (PutShift at curve prorate) = None
 obstacle s (DropShift at) = unless_there (stands_at at (series_of Shift s))
 obstacle s (AddRating rating table) = rating_obstacle (is_some (rating_of rating s.ratings.tables))
 obstacle s (PutPeriod period) = period_obstacle (is_some (rating_of period.rating s.ratings.tables)) (overlap period s.ratings.periods)
 obstacle s (DropPeriod from) = unless_there (is_some (period_from from s.ratings.periods))
-obstacle s (PutEstimate estimate) = None
 obstacle s (DropEstimate day) = unless_there (is_some (estimate_of day s))
-obstacle s (PutMeasurement measurement) = None
 obstacle s (DropMeasurement number) = unless_there (is_some (measurement_of number s))
-obstacle s (Review from to) = None
-obstacle s (Decide from to decision) = None
+obstacle s _ = None

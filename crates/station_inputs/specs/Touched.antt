@@ -1,6 +1,6 @@
 -- What an edit touches of a station's days.
 use Rattle.rising.specs.Ends.{first, last}
-use Rattle.std.specs.Prelude.{◌≡◌, Bool, true, false, if◌then◌else◌, List, find, is_some, Option, Some, None, ℤ, pos, ◌+ℤ◌, ◌≤ℤ◌}
+use Rattle.std.specs.Prelude.{◌≡◌, Bool, true, false, if◌then◌else◌, List, find, is_some, Option, Some, None, ℤ, pos, ◌+ℤ◌, ◌-ℤ◌, ◌≤ℤ◌}
 use Rattle.std.specs.Int.{int_max, int_min}
 use Rattle.fixed_units.specs.Quantities.{IsDay, last_stamp}
 use Rattle.fixed_units.specs.declared.readings.Reading.{Reading}
@@ -9,12 +9,13 @@ use Rattle.curves.specs.Entries.{entry_after, entry_before}
 use Rattle.day_inputs.specs.declared.day_inputs.DayInputs.{DayInputs}
 use Rattle.day_inputs.specs.declared.day_inputs.DayInputs.TheVariants.{Empty, Day}
 use Rattle.edits.specs.declared.content.What.{What}
-use Rattle.edits.specs.declared.content.What.TheVariants.{AddStation, SetStation, PutReadings, DropReadings, FlagReadings, PutCorrection, DropCorrection, PutShift, DropShift, AddRating, PutPeriod, DropPeriod, PutEstimate, DropEstimate, PutMeasurement, DropMeasurement, Review, Decide}
+use Rattle.edits.specs.declared.content.What.TheVariants.{SetStation, PutReadings, DropReadings, FlagReadings, PutCorrection, DropCorrection, PutShift, DropShift, PutPeriod, DropPeriod, PutEstimate, DropEstimate, SetEdition}
 use Rattle.ratings.specs.Numbered.{period_from}
 use Rattle.readings.specs.Readings.{in_span, is_used}
 use Rattle.readings.specs.Window.{of_day}
 use Rattle.ratings.specs.Spans.{Span}
-use Rattle.station_inputs.specs.Stations.{StationState, day_start, series_of}
+use Rattle.station_inputs.specs.Stations.{StationState, day_start, edition_after, series_of}
+use Rattle.station_inputs.specs.declared.station_editions.Edition.{Edition}
 use Rattle.station_inputs.specs.declared.series.StationSeries.TheVariants.{Correction, Shift}
 use Rattle.station_inputs.specs.declared.touched.Touched.{Touched}
 use Rattle.station_inputs.specs.declared.touched.Touched.TheVariants.{Nothing, One, Between, Cells}
@@ -85,9 +86,17 @@ abbrev pub about_dropped_period : Option Span → Touched
 about_dropped_period None = Nothing
 about_dropped_period (Some kept) = about_period kept.from (period_end kept)
 
+-- the last second before the day of the next edition, or the last stamp where there is none
+abbrev pub edition_end : StationState → Option Edition → ℤ
+edition_end s None = last_stamp
+edition_end s (Some next) = day_start s next.day -ℤ pos 1
+
+-- the time in which an edition of a day is in force: only days that have inputs can change
+abbrev pub about_edition : StationState → ℤ → Touched
+about_edition s day = Between (day_start s day) (edition_end s (edition_after day s.editions)) true
+
 -- what an edit touches of the station as it was before
 abbrev pub touched_at : StationState → What → Touched
-touched_at s (AddStation name zone gap stage_array discharge_array) = Nothing
 touched_at s (SetStation name gap stage_array discharge_array) = Cells
 touched_at s (PutReadings readings) = between_readings (first readings) (last readings)
 touched_at s (DropReadings from to) = about_span from to s.readings
@@ -96,12 +105,9 @@ touched_at s (PutCorrection set at curve prorate) = about_entry at (series_of (C
 touched_at s (DropCorrection set at) = about_entry at (series_of (Correction set) s)
 touched_at s (PutShift at curve prorate) = about_entry at (series_of Shift s)
 touched_at s (DropShift at) = about_entry at (series_of Shift s)
-touched_at s (AddRating rating table) = Nothing
 touched_at s (PutPeriod period) = about_period period.from (later_end period (period_from period.from s.ratings.periods))
 touched_at s (DropPeriod from) = about_dropped_period (period_from from s.ratings.periods)
 touched_at s (PutEstimate estimate) = One estimate.day
 touched_at s (DropEstimate day) = One day
-touched_at s (PutMeasurement measurement) = Nothing
-touched_at s (DropMeasurement number) = Nothing
-touched_at s (Review from to) = Nothing
-touched_at s (Decide from to decision) = Nothing
+touched_at s (SetEdition day least) = about_edition s day
+touched_at s _ = Nothing

@@ -9,6 +9,7 @@ ghost use Rattle.station_inputs.specs.Stations.{station_after};
 
 use crate::series::StationSeries;
 use crate::staged::Staged;
+use crate::station_editions::Edition;
 use crate::stations::Station;
 use curves::Entry;
 use edits::What;
@@ -38,6 +39,7 @@ impl Station {
             What::PutPeriod { .. } => self.reserve_period()?,
             What::PutEstimate { .. } => self.reserve_estimate()?,
             What::PutMeasurement { .. } => self.reserve_measurement()?,
+            What::SetEdition { .. } => self.reserve_edition()?,
             What::AddStation { .. }
             | What::DropReadings { .. }
             | What::FlagReadings { .. }
@@ -96,6 +98,10 @@ impl Station {
             What::DropEstimate { day } => self.drop_estimate(*day),
             What::PutMeasurement { measurement } => self.put_measurement(*measurement),
             What::DropMeasurement { number } => self.drop_measurement(*number),
+            What::SetEdition { day, least } => {
+                let (day, least) = (*day, *least);
+                self.put_edition(Edition { day, least })
+            }
         }
     }
 }

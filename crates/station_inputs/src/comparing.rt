@@ -5,6 +5,7 @@ ghost use Rattle.edits.specs.Lawful.{IsLawful};
 ghost use Rattle.station_inputs.specs.Changes.{keeps_station_day};
 
 use crate::series::StationSeries;
+use crate::station_editions::Edition;
 use crate::stations::Station;
 use chronicle::Steps;
 use curves::Entry;
@@ -71,6 +72,10 @@ impl Station {
                 self.keeps_day_estimated(estimate.day, Some(estimate.discharge), day)
             }
             What::DropEstimate { day: own } => self.keeps_day_estimated(*own, None, day),
+            What::SetEdition { day: own, least } => {
+                let (own, least) = (*own, *least);
+                self.keeps_day_with_edition(&Edition { day: own, least }, day)
+            }
             What::AddStation { .. }
             | What::AddRating { .. }
             | What::PutMeasurement { .. }

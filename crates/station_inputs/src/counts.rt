@@ -14,10 +14,11 @@ ghost use Rattle.rising.specs.Lists as lists;
 ghost use Rattle.station_inputs.specs.Counts.{day_count, passed_count, passes, passes_a_day};
 ghost use Rattle.station_inputs.specs.Obstacles.{obstacle, period_obstacle, rating_obstacle, unless_there};
 ghost use Rattle.station_inputs.specs.Series.{IsOfStation};
-ghost use Rattle.station_inputs.specs.Stations.{day_start, measurement_of, number_of, station_after, with_entry, with_measurements, with_ratings, with_readings};
+ghost use Rattle.station_inputs.specs.Stations.{day_start, edition_day, measurement_of, number_of, station_after, with_editions, with_entry, with_measurements, with_ratings, with_readings};
 
 use crate::obstacles::Obstacle;
 use crate::series::StationSeries;
+use crate::station_editions::Edition;
 use crate::stations::Station;
 use edits::{Measurement, What};
 use fixed_units::{Day, Reading, Second};
@@ -36,6 +37,9 @@ pub const MOST_PERIODS: usize = 1_000;
 /// How many measurements a station has at most.
 pub const MOST_MEASUREMENTS: usize = 10_000;
 
+/// How many editions a station has at most.
+pub const MOST_EDITIONS: usize = 100;
+
 /// Which count of one station has a limit, in the order in which they are asked.
 #[derive(Clone, Copy, Debug, PartialEq, Eq)]
 pub enum Counted {
@@ -47,6 +51,8 @@ pub enum Counted {
     Periods,
     /// The measurements.
     Measurements,
+    /// The editions.
+    Editions,
 }
 
 impl Station {
@@ -65,6 +71,10 @@ impl Station {
             What::PutShift { at, .. } => self.entry_limit(StationSeries::Shift, *at),
             What::PutPeriod { period } => self.period_limit(period),
             What::PutMeasurement { measurement } => self.measurement_limit(measurement),
+            What::SetEdition { day, least } => {
+                let (day, least) = (*day, *least);
+                self.edition_limit(&Edition { day, least })
+            }
             What::AddStation { .. }
             | What::SetStation { .. }
             | What::PutReadings { .. }
@@ -109,7 +119,8 @@ impl Station {
             | What::PutEstimate { .. }
             | What::PutMeasurement { .. }
             | What::Review { .. }
-            | What::Decide { .. } => None,
+            | What::Decide { .. }
+            | What::SetEdition { .. } => None,
         }
     }
 
@@ -188,6 +199,16 @@ impl Station {
         limited(Counted::Measurements, count, MOST_MEASUREMENTS, there)
     }
 
+    /// Whether an edition would raise their count past the limit: it raises nothing where one is of its day.
+    fn edition_limit(&self, edition: &Edition) -> Option<Counted>
+        ensures { result ≡ passed_count self.now.station (with_editions (lists.put edition_day edition.now) self.now.station) }
+    {
+        let _site = self.site();
+        let count = self.editions.as_slice().len();
+        let there = self.has_edition(edition.day);
+        limited(Counted::Editions, count, MOST_EDITIONS, there)
+    }
+
     /// What stands in the way of a rating of a number: that one has it.
     fn rating_obstacle(&self, rating: u32) -> Option<Obstacle>
         ensures { result ≡ rating_obstacle (is_some (rating_of rating self.now.station.ratings.tables)) }
@@ -221,6 +242,13 @@ impl Station {
         ensures { result ≡ is_some (period_from from self.now.station.ratings.periods) }
     {
         self.ratings.period_from(from).is_some()
+    }
+
+    /// Whether an edition of a day is there.
+    fn has_edition(&self, day: Day) -> bool
+        ensures { result ≡ is_some (lists.at edition_day day self.now.station.editions) }
+    {
+        self.editions.get(day).is_some()
     }
 
     /// Whether a measurement of a number is there.

@@ -13,13 +13,15 @@ ghost use Rattle.readings.specs.Window.{with_neighbours};
 ghost use Rattle.day_inputs.specs.DayInputs.{AreInputs, window_ends};
 ghost use Rattle.day_inputs.specs.Equality.{same_estimate, same_inputs};
 ghost use Rattle.day_inputs.specs.declared.day_inputs.DayInputs.TheVariants as DayInputs;
+ghost use Rattle.rising.specs.Lists as lists;
 ghost use Rattle.station_inputs.specs.Held.{HasBounds, HasContents, HasSettings};
 ghost use Rattle.station_inputs.specs.Series.{IsOfStation};
 ghost use Rattle.ratings.specs.Numbered.{with_period, without_period};
-ghost use Rattle.station_inputs.specs.Stations.{described, estimated_discharge, with_ratings, with_readings, with_entry, without_entry, station_day, station_window, day_start};
+ghost use Rattle.station_inputs.specs.Stations.{described, edition_day, estimated_discharge, with_editions, with_ratings, with_readings, with_entry, without_entry, station_day, station_window, day_start};
 ghost use Rattle.station_inputs.specs.Touched.{has_inputs, has_used_reading, IsSpanOf, joined_spans};
 
 use crate::series::StationSeries;
+use crate::station_editions::Edition;
 use crate::stations::Station;
 use curves::{Entry, Series, is_found};
 use day_inputs::{DayInputs, DayParts, Settings, has_rules, with_window};
@@ -80,6 +82,7 @@ impl Station {
             &self.ratings,
             window,
             self.estimated_discharge(day),
+            self.least_cover(day),
         )
     }
 
@@ -108,13 +111,20 @@ impl Station {
             && self.has_bounds(day, parts.from, parts.until)
     }
 
-    /// Whether a day's inputs have the estimate and the window of the day, and the entries and rating periods that count for it.
+    /// Whether a day's inputs have the estimate and the window of the day, and the entries, the rating periods and the least cover that
+    /// count for it.
     fn has_contents(&self, day: Day, parts: &DayParts) -> bool
         ensures { result ≡ true ↔ HasContents self.now.station day parts.now }
     {
         self.estimated_discharge(day) == parts.estimate
             && self.has_window(day, parts.window.as_slice())
-            && has_rules(&self.corrections, &self.shifts, &self.ratings, parts)
+            && has_rules(
+                &self.corrections,
+                &self.shifts,
+                &self.ratings,
+                self.least_cover(day),
+                parts,
+            )
     }
 
     /// Whether a day begins and ends there.
@@ -207,6 +217,17 @@ impl Station {
     {
         match self.window_span(day) {
             Some(span) => self.ratings.keeps_parts_without(from, span.0, span.1),
+            None => true,
+        }
+    }
+
+    /// Whether an edition put in place of the one of its day keeps the inputs of a day: the day has no window, or the least cover in
+    /// force on it stays.
+    pub(crate) fn keeps_day_with_edition(&self, edition: &Edition, day: Day) -> bool
+        ensures { result ≡ same_inputs (station_day self.now.station day) (station_day (with_editions (lists.put edition_day edition.now) self.now.station) day) }
+    {
+        match self.window_span(day) {
+            Some(_) => self.least_cover(day) == self.least_cover_with(edition, day),
             None => true,
         }
     }

@@ -11,12 +11,16 @@ mod measured;
 pub mod obstacles;
 pub mod series;
 pub mod staged;
+pub mod station_editions;
 pub mod stations;
 pub mod touched;
 
-pub use counts::{Counted, MOST_ENTRIES, MOST_MEASUREMENTS, MOST_PERIODS, MOST_RATINGS};
+pub use counts::{
+    Counted, MOST_EDITIONS, MOST_ENTRIES, MOST_MEASUREMENTS, MOST_PERIODS, MOST_RATINGS,
+};
 pub use obstacles::Obstacle;
 pub use series::StationSeries;
 pub use staged::Staged;
+pub use station_editions::Edition;
 pub use stations::Station;
 pub use touched::Touched;

@@ -1,5 +1,5 @@
-//! A station that is kept: what is said of it, its corrections and shifts, its ratings, its measurements, its estimates, and its
-//! readings.
+//! A station that is kept: what is said of it, its corrections and shifts, its ratings, its measurements, its estimates, its
+//! editions, and its readings.
 
 ghost use Rattle.std.specs.Prelude.{◌≡◌, ◌≤◌, ◌+◌, length, IfOk, OnOk};
 ghost use Rattle.std.specs.Arc.{arc_value};
@@ -10,6 +10,7 @@ ghost use Rattle.edits.specs.Lawful.{ArePutReadings};
 ghost use Rattle.station_inputs.specs.Stations.{new_station, described, with_readings};
 ghost use Rattle.station_inputs.specs.KeptStation.{IsStation};
 
+use crate::station_editions::Edition;
 use civil_days::StationZone;
 use curves::{CorrectionSets, Shifts};
 use edits::{Estimate, Measurement, Name};
@@ -22,7 +23,7 @@ use std::marker::Model;
 use std::sync::Arc;
 
 /// A station in force. Contracts see its state, and for how many more readings, entries of each series, ratings, periods,
-/// measurements and estimates there is room beside it.
+/// measurements, estimates and editions there is room beside it.
 pub struct Station {
     site: Site,
     name: Name,
@@ -35,6 +36,7 @@ pub struct Station {
     pub(crate) ratings: Ratings,
     pub(crate) measurements: RisingList<Measurement>,
     pub(crate) estimates: RisingList<Estimate>,
+    pub(crate) editions: RisingList<Edition>,
     pub(crate) readings: Readings,
 }
 
@@ -47,16 +49,17 @@ impl Model for Station {
     ghost Value = { KeptStation };
 
     ghost view = { λ s. record {
-      station = record { site = s.site; name = s.name; zone = arc_value s.zone; gap = s.gap; stage_array = s.stage_array; discharge_array = s.discharge_array; corrections = entries_of s.corrections; shifts = s.shifts.series.entries; ratings = s.ratings.ratings; measurements = s.measurements.list; estimates = s.estimates.list; readings = s.readings.list };
+      station = record { site = s.site; name = s.name; zone = arc_value s.zone; gap = s.gap; stage_array = s.stage_array; discharge_array = s.discharge_array; corrections = entries_of s.corrections; shifts = s.shifts.series.entries; ratings = s.ratings.ratings; measurements = s.measurements.list; estimates = s.estimates.list; editions = s.editions.list; readings = s.readings.list };
       spare = s.readings.spare;
       entry_room = room_of s.corrections s.shifts;
       rating_room = s.ratings.rating_room;
       period_room = s.ratings.period_room;
       measurement_room = s.measurements.spare;
       estimate_room = s.estimates.spare;
+      edition_room = s.editions.spare;
     } };
 
-    ghost invariant = { λ s. IsStation (record { site = s.site; name = s.name; zone = arc_value s.zone; gap = s.gap; stage_array = s.stage_array; discharge_array = s.discharge_array; corrections = entries_of s.corrections; shifts = s.shifts.series.entries; ratings = s.ratings.ratings; measurements = s.measurements.list; estimates = s.estimates.list; readings = s.readings.list }) };
+    ghost invariant = { λ s. IsStation (record { site = s.site; name = s.name; zone = arc_value s.zone; gap = s.gap; stage_array = s.stage_array; discharge_array = s.discharge_array; corrections = entries_of s.corrections; shifts = s.shifts.series.entries; ratings = s.ratings.ratings; measurements = s.measurements.list; estimates = s.estimates.list; editions = s.editions.list; readings = s.readings.list }) };
 }
 
 /// By hand, so that a drop is one call wherever a station is dropped.
@@ -74,6 +77,7 @@ impl Drop for Station {
             ratings: _ratings,
             measurements: _measurements,
             estimates: _estimates,
+            editions: _editions,
             readings: _readings,
         } = self;
     }
@@ -161,7 +165,7 @@ impl Station {
 }
 
 impl Station {
-    /// A station without corrections, shifts, ratings, measurements, estimates and readings, which takes no memory of its own.
+    /// A station without corrections, shifts, ratings, measurements, estimates, editions and readings, which takes no memory of its own.
     pub fn new(
         alloc: Global,
         site: Site,
@@ -189,6 +193,7 @@ impl Station {
             ratings: Ratings::new(alloc),
             measurements: RisingList::new(alloc),
             estimates: RisingList::new(alloc),
+            editions: RisingList::new(alloc),
             readings: Readings::new(alloc),
         }
     }

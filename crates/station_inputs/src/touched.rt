@@ -1,12 +1,15 @@
 //! What an edit touches of a station's days.
 
-ghost use Rattle.std.specs.Prelude.{◌≡◌, option_map};
+ghost use Rattle.std.specs.Prelude.{◌≡◌, option_map, pos, ◌-ℤ◌};
+ghost use Rattle.civil_days.specs.Starts.{day_start_of};
 ghost use Rattle.edits.specs.Lawful.{IsLawful};
-ghost use Rattle.station_inputs.specs.Touched.{about_dropped_period, about_entry, about_period, between_readings, later_end, period_end, says_from, says_until, touched_at};
+ghost use Rattle.station_inputs.specs.Stations.{edition_after};
+ghost use Rattle.station_inputs.specs.Touched.{about_dropped_period, about_edition, about_entry, about_period, between_readings, edition_end, later_end, period_end, says_from, says_until, touched_at};
 ghost use Rattle.rising.specs.Ends.{first, last};
 
 use crate::series::StationSeries;
 use crate::stations::Station;
+use civil_days::StationZone;
 use curves::{Entry, Series};
 use edits::What;
 use fixed_units::{Day, LAST_STAMP, Reading, Second};
@@ -60,6 +63,7 @@ impl Station {
             What::DropPeriod { from } => about_dropped_period(self.ratings.period_from(*from)),
             What::PutEstimate { estimate } => Touched::One(estimate.day),
             What::DropEstimate { day } => Touched::One(*day),
+            What::SetEdition { day, .. } => self.about_edition(*day),
             What::AddStation { .. }
             | What::AddRating { .. }
             | What::PutMeasurement { .. }
@@ -68,6 +72,37 @@ impl Station {
             | What::Decide { .. } => Touched::Nothing,
         }
     }
+}
+
+impl Station {
+    /// The time in which an edition of a day is in force: only days that have inputs can change.
+    fn about_edition(&self, day: Day) -> Touched
+        ensures { result ≡ about_edition self.now.station day }
+    {
+        Touched::Between {
+            first: self.zone.day_start(day),
+            last: self.edition_end(day),
+            cells_only: true,
+        }
+    }
+
+    /// The last second before the day of the next edition, or the last stamp where there is none.
+    fn edition_end(&self, day: Day) -> Second
+        ensures { result ≡ edition_end self.now.station (edition_after day self.now.station.editions) }
+    {
+        match self.edition_after(day) {
+            Some(next) => second_before(&self.zone, next.day),
+            None => Second::of_seconds(LAST_STAMP),
+        }
+    }
+}
+
+/// The last second before a day.
+fn second_before(zone: &StationZone, day: Day) -> Second
+    ensures { result ≡ day_start_of zone.now day -ℤ pos 1 }
+{
+    let _number = day.get();
+    Second::of_seconds(zone.day_start(day).get() - 1)
 }
 
 /// The time between the first and the last of some readings.

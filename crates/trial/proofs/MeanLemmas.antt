@@ -1,10 +1,10 @@
 -- The mean discharge of a day.
-use Rattle.std.proofs.Common.{◌≡◌, ℕ, ◌+◌, ◌*◌, ◌/◌, ◌<◌, ◌≤◌, true, false, refl, arith, eq-eqb, ◌==◌, ◌≢◌}
-use Rattle.std.specs.Prelude.{ℤ, pos, negsuc, ◌≤ℤ◌, unsigned_abs}
+use Rattle.std.proofs.Common.{◌≡◌, ℕ, ◌+◌, ◌*◌, ◌/◌, ◌<◌, ◌≤◌, true, false, refl, arith}
+use Rattle.std.specs.Prelude.{ℤ, pos, negsuc, nat_le, ◌≤ℤ◌, unsigned_abs}
 use Rattle.std.proofs.lemmas.Int.{ints}
 use Rattle.std.proofs.Math.Nat.{div-lt_iff_lt-mul}
 use Rattle.std.proofs.lemmas.Bool.Decides.{nat_tests}
-use Rattle.daily_values.specs.Figures.{DayFigures}
+use Rattle.daily_values.specs.Figures.{DayFigures, needed}
 use Rattle.fixed_units.specs.Quantities.{most_discharge}
 use Rattle.fixed_units.specs.Rounding.{round}
 use Rattle.trial.specs.Figures.{mean_of}
@@ -22,11 +22,13 @@ unfolding round
 mean_few (pos n) seconds some low high = quotient_few n seconds most_discharge some (omega (arith, ints, high))
 mean_few (negsuc n) seconds some low high = absurd (omega (arith, ints, low))
 
-pub mean_covered : (figures : DayFigures) (mean : ℕ) → figures.discharge.covered ≡ figures.length
-    → mean ≡ unsigned_abs (round figures.discharge.twice (pos (2 * figures.length))) → mean ≡ mean_of figures
+pub mean_covered : (figures : DayFigures) (mean : ℕ) → needed figures ≤ figures.discharge.covered
+    → mean ≡ unsigned_abs (round figures.discharge.twice (pos (2 * figures.discharge.covered))) → mean ≡ mean_of figures
 unfolding mean_of
-mean_covered figures mean e h = let test : (figures.discharge.covered == figures.length) ≡ true = eq-eqb _ _ e in rw test h
+mean_covered figures mean e h =
+    let test : nat_le (needed figures) figures.discharge.covered ≡ true = grind (arith, nat_tests, e) in rw test h
 
-pub mean_uncovered : (figures : DayFigures) → figures.discharge.covered ≢ figures.length → 0 ≡ mean_of figures
+pub mean_uncovered : (figures : DayFigures) → figures.discharge.covered < needed figures → 0 ≡ mean_of figures
 unfolding mean_of
-mean_uncovered figures e = let test : (figures.discharge.covered == figures.length) ≡ false = grind (arith, nat_tests) in rw test refl
+mean_uncovered figures e =
+    let test : nat_le (needed figures) figures.discharge.covered ≡ false = grind (arith, nat_tests, e) in rw test refl

@@ -1,8 +1,8 @@
 -- What a trial comes to: six figures, each a line of text.
-use Rattle.std.specs.Prelude.{◌≡◌, ℕ, ◌+◌, ◌*◌, ◌%◌, ◌==◌, Bool, if◌then◌else◌, List, [], ◌∷◌, ◌++◌, length, codes, decimal, is_some, ℤ, pos, unsigned_abs}
+use Rattle.std.specs.Prelude.{◌≡◌, ℕ, ◌+◌, ◌*◌, ◌%◌, Bool, if◌then◌else◌, List, [], ◌∷◌, ◌++◌, length, nat_le, codes, decimal, is_some, ℤ, pos, unsigned_abs}
 use Rattle.std.specs.List.{sum_by}
 use Rattle.approval.specs.Statuses.{approved_days}
-use Rattle.daily_values.specs.Figures.{DayFigures}
+use Rattle.daily_values.specs.Figures.{DayFigures, needed}
 use Rattle.daily_values.specs.declared.day_values.DayValue.{DayValue}
 use Rattle.daily_values.specs.declared.day_values.DayValue.TheVariants as values
 use Rattle.depend.specs.Compared.{days_within}
@@ -46,10 +46,12 @@ approved_of events site = approved_days (status_at events site)
 unfoldable pub approved : Trial → ℕ
 approved t = over_stations (approved_of t.history.events)
 
--- the mean discharge of a day in whole millionths, half away from zero, where its discharges cover it, none of which is below 0; else 0
+-- the mean discharge of a day in whole millionths, half away from zero, where its discharges cover what a mean needs, none of which is
+-- below 0; else 0
 unfoldable pub mean_of : DayFigures → ℕ
 mean_of figures =
-    if figures.discharge.covered == figures.length then unsigned_abs (round figures.discharge.twice (pos (2 * figures.length))) else 0
+    let sum = figures.discharge in
+    if nat_le (needed figures) sum.covered then unsigned_abs (round sum.twice (pos (2 * sum.covered))) else 0
 
 abbrev pub mean_of_value : DayValue → ℕ
 mean_of_value values.Empty = 0

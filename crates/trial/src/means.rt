@@ -20,13 +20,13 @@ pub(crate) fn mean_of_value(value: &DayValue) -> u64
     }
 }
 
-/// The mean discharge of a day's figures, half away from zero, or 0 where the discharges do not cover the day.
+/// The mean discharge of a day's figures, half away from zero, or 0 where the discharges cover less than a mean needs.
 fn mean_of(figures: &Figures) -> u64
     ensures mean { result ≡ means.mean_of figures.now }
     ensures few { result ≤ most_discharge }
 {
     let sum = figures.discharge();
-    if sum.covered != figures.length() {
+    if sum.covered < figures.need() {
         return 0;
     }
     rounded_mean(&sum)

@@ -25,4 +25,5 @@ new-requires c =
       stage = c.in_ok-sum_stages.ensures.within;
       discharge = c.in_ok-sum_discharges.ensures.within;
       estimate = are.estimate;
+      least = are.least;
     }

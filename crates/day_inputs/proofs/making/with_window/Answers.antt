@@ -4,7 +4,7 @@ use Rattle.std.proofs.Common.{refl, ap, sym, ◌∙◌}
 use Rattle.curves.specs.declared.entries.Entry.{Entry}
 use Rattle.curves.specs.Series.{Contents}
 use Rattle.curves.specs.Corrections.{entries_of}
-use Rattle.day_inputs.specs.DayInputs.{bearing_on, parts_on, window_ends}
+use Rattle.day_inputs.specs.DayInputs.{bearing_on, least_on, parts_on, window_ends}
 use Rattle.day_inputs.proofs.WindowEnds.{and_false, end_stamp, made}
 use Rattle.day_inputs.proofs.making.with_window.Goals.{else-is_none-via-then-is_none+else-is_none-2, else-is_none-via-else-is_none}
 use Rattle.day_inputs.proofs.making.with_window.Goals as goal
@@ -34,7 +34,7 @@ returns c =
     let shifts = c.args.shifts.now.series.entries in
     let ratings = c.args.ratings.now.ratings in
     let count = λ (e : List Entry). ap (λ (o : Option (ℤ × ℤ)). bearing_on o e) found in
-    made c.args.settings.gap c.args.settings.stage_array c.args.settings.discharge_array c.args.from c.args.until corrections shifts ratings c.args.estimate
+    made c.args.settings.gap c.args.settings.stage_array c.args.settings.discharge_array c.args.from c.args.until corrections shifts ratings c.args.estimate c.args.least
     c.args.window.items _ (ap (λ (o : Option (ℤ × ℤ)). is_none o && is_none c.args.estimate) (sym found) ∙ some) (
       refl,
       (
@@ -55,7 +55,7 @@ returns c =
                       c.in_ok-bearing_list-3.ensures ∙ on_set span c.set-3.ensures ∙ count corrections.third,
                       (
                         c.in_ok-bearing_list-4.ensures ∙ on_set span c.series.ensures ∙ count shifts,
-                        (c.in_ok-cut_parts.ensures ∙ ap (λ (o : Option (ℤ × ℤ)). parts_on o ratings) found, refl),
+                        (c.in_ok-cut_parts.ensures ∙ ap (λ (o : Option (ℤ × ℤ)). parts_on o ratings) found, (refl, c.least_of.ensures ∙ ap (λ (o : Option (ℤ × ℤ)). least_on o c.args.least) found)),
                       ),
                     ),
                   ),

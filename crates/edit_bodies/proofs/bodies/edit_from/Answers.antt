@@ -6,7 +6,7 @@ use Rattle.edit_bodies.specs.Bodies.{Parts, edit_row}
 use Rattle.edit_bodies.specs.Grammars.{by_of, reference_of, site_of}
 use Rattle.edit_bodies.specs.Kinds.{kind_of, row}
 use Rattle.edit_bodies.specs.Members.{Reader, ◌>>=◌, done, required}
-use Rattle.edit_bodies.specs.declared.kinds.Kind.{Kind}
+use Rattle.edits.specs.declared.kinds.Kind.{Kind}
 use Rattle.edit_bodies.specs.declared.members.Member.TheVariants as named
 use Rattle.edits.specs.declared.content.What.{What}
 use Rattle.fixed_units.specs.Quantities.{SiteNumber}

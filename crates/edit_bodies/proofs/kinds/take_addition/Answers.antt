@@ -4,7 +4,7 @@ use Rattle.edit_bodies.proofs.kinds.take_addition.Goals as goal
 use Rattle.edit_bodies.specs.Grammars.{name_of, zone_of, gap_of, array_of}
 use Rattle.edit_bodies.specs.Kinds.{row}
 use Rattle.edit_bodies.specs.Members.{Reader, ◌>>=◌, done, required}
-use Rattle.edit_bodies.specs.declared.kinds.Kind.TheVariants as kinds
+use Rattle.edits.specs.declared.kinds.Kind.TheVariants as kinds
 use Rattle.edit_bodies.specs.declared.members.Member.TheVariants.{Name, Zone, Gap, StageArray, DischargeArray}
 use Rattle.edits.specs.declared.content.What.{What}
 use Rattle.edits.specs.declared.content.What.TheVariants.{AddStation}

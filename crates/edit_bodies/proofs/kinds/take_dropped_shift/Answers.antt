@@ -5,7 +5,7 @@ use Rattle.edit_bodies.specs.Grammars.{instant_of}
 use Rattle.edit_bodies.specs.Kinds.{row}
 use Rattle.edit_bodies.specs.Members.{Reader, done, required}
 use Rattle.edit_bodies.specs.Trees.{left}
-use Rattle.edit_bodies.specs.declared.kinds.Kind.TheVariants as kinds
+use Rattle.edits.specs.declared.kinds.Kind.TheVariants as kinds
 use Rattle.edit_bodies.specs.declared.members.Member.TheVariants.{At}
 use Rattle.edits.specs.declared.content.What.{What}
 use Rattle.edits.specs.declared.content.What.TheVariants.{DropShift}

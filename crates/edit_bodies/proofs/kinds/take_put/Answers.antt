@@ -4,7 +4,7 @@ use Rattle.edit_bodies.proofs.kinds.take_put.Goals as goal
 use Rattle.edit_bodies.specs.Grammars.{readings_of}
 use Rattle.edit_bodies.specs.Kinds.{row}
 use Rattle.edit_bodies.specs.Members.{Reader, done, required}
-use Rattle.edit_bodies.specs.declared.kinds.Kind.TheVariants as kinds
+use Rattle.edits.specs.declared.kinds.Kind.TheVariants as kinds
 use Rattle.edit_bodies.specs.declared.members.Member.TheVariants.{Readings}
 use Rattle.edits.specs.declared.content.What.{What}
 use Rattle.edits.specs.declared.content.What.TheVariants.{PutReadings}

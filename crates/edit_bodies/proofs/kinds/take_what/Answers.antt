@@ -108,3 +108,9 @@ returns-in-Decide-clause-read c = rw c.in-Decide.is c.take_decided.ensures.read
 
 pub returns-in-Decide-clause-lawful : goal.returns-in-Decide-clause-lawful
 returns-in-Decide-clause-lawful c = c.take_decided.ensures.lawful
+
+pub returns-in-SetEdition-clause-read : goal.returns-in-SetEdition-clause-read
+returns-in-SetEdition-clause-read c = rw c.in-SetEdition.is c.take_edition.ensures.read
+
+pub returns-in-SetEdition-clause-lawful : goal.returns-in-SetEdition-clause-lawful
+returns-in-SetEdition-clause-lawful c = c.take_edition.ensures.lawful

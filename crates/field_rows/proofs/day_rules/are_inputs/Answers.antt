@@ -26,4 +26,5 @@ returns c = λ h.
       shifts = c.are_rules.ensures.shifts h;
       periods = c.are_rules.ensures.periods h;
       estimate = c.are_rules.ensures.estimate h;
+      least = c.are_rules.ensures.least h;
     })

@@ -1,7 +1,7 @@
 -- Points that may be put are a curve.
-use Rattle.std.specs.Prelude.{◌≡◌, true, cond, List, [], ◌∷◌, length, Option, Some, None, IfNone, IfSome, Result, Ok, ℤ, ◌<ℤ◌, int_lt}
+use Rattle.std.specs.Prelude.{◌≡◌, true, cond, List, [], ◌∷◌, Option, Some, None, IfNone, Ok, ℤ, ◌<ℤ◌, int_lt}
 use Rattle.std.specs.Result.{result_ok}
-use Rattle.std.proofs.Common.{arith, refl, ap, sym, ◌∙◌}
+use Rattle.std.proofs.Common.{arith, refl, ap, ◌∙◌}
 use Rattle.std.proofs.lemmas.Int.{ints}
 use Rattle.curves.specs.Curve.{curve_of, unless_falling}
 use Rattle.edits.specs.Lawful.{IsPutCurve}

@@ -50,6 +50,7 @@ KINDS = {
     "DropMeasurement": {"number": 7},
     "Review": {"from": "2024-01-05", "to": "2024-01-06"},
     "Decide": {"from": "2024-01-05", "to": "2024-01-06", "decision": "approve"},
+    "SetEdition": {"day": "2024-01-05", "least": 720},
 }
 TARGETS = [f"/stations/{SITE}", f"/stations/{SITE}/days/2024-01-05", f"/stations/{SITE}/days/2024-01-05/sheet",
            f"/stations/{SITE}/daily/2024-01-01/2024-01-31", f"/stations/{SITE}/measurements/7", "/status", "/turns/3", "/settle", "/edits",

@@ -104,7 +104,7 @@ def person(number):
 
 def sheet(number):
     """The computation sheet that is stored with the approval of the day of an edit's hundred: of an estimate and no reading."""
-    lines = [f"PRIMARY COMPUTATION 01646500 {reviewed_day_text(number)}", "STATE A", "LENGTH 86400", "READINGS 0"]
+    lines = [f"PRIMARY COMPUTATION 01646500 {reviewed_day_text(number)}", "STATE A", "LENGTH 86400", "EDITION 1", "READINGS 0"]
     lines += ["MISSING AFFECTED 0 NORATING 0 BELOW 0 ABOVE 0", "STAGE - COVERED 0", "DISCHARGE - COVERED 0"]
     lines += ["MAX STAGE -", "MIN STAGE -", "MAX DISCHARGE -", "MIN DISCHARGE -", "PUBLISHED 12.40 e"]
     return "".join(line + "\n" for line in lines).encode()

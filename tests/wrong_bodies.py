@@ -13,11 +13,11 @@ A line a crate, with each edit that was not refused, could not be applied or rea
 name away that a proof cites, which says little of the contract; the last line is `N of M refused`. The status is 1 where one was not.
 
 `--keep FOLDER` works in that folder and leaves it, so that libraries which had to be built are there the next time; `--named WORD` tries
-those alone in whose name the word stands; `--long` says what refused each. `--together` checks the edited functions and what they call,
-and nothing else of the crate, with edits of different functions in one check, which takes a small part of the time: the contracts are those
-of before, so one edit says nothing of another function. An edit counts there as refused only by what its own functions lack, not by a
-call of one that another edit makes wrong; one that lies in no function needs the other way. `--look` proves nothing: it says at once which of them, and of
-those in the gate, can no longer be applied, since a line that they name has changed.
+those alone in whose name the word stands, and may be given several times; `--long` says what refused each. `--together` checks the edited
+functions and what they call, and nothing else of the crate, with edits of different functions in one check, which takes a small part of
+the time: the contracts are those of before, so one edit says nothing of another function. An edit counts there as refused only by what its
+own functions lack, not by a call of one that another edit makes wrong; one that lies in no function needs the other way. `--look` proves
+nothing: it says at once which of them, and of those in the gate, can no longer be applied, since a line that they name has changed.
 """
 import argparse
 import pathlib
@@ -127,23 +127,38 @@ def function_at(text, end):
 
 
 def functions(crate, edit):
-    """The paths of the functions that an edit changes, or of their modules; nothing where it changes more than functions."""
-    found, texts = set(), {}
+    """The paths of the functions that an edit changes, or of their modules, each with its file; nothing where it changes more than functions."""
+    found, texts = {}, {}
     for line in edit.read_text().splitlines():
         if line.startswith("file: "):
             file = line[len("file: ") :].strip()
             if not file.startswith("src/"):
                 return None
             texts.setdefault(file, (copies.TOP / "crates" / crate / file).read_text())
-            module = [it for it in file[len("src/") : -len(".rt")].split("/") if it not in ("lib", "mod")]
         elif line.startswith("old: "):
             old, text = line[len("old: ") :], texts[file]
             its = function_at(text, text.index(old) + len(old)) or []
             # (a method's path has the module of its type, which may be another, so the end of the path is named)
-            found.add("::".join(its if len(its) == 2 else module + its))
+            found["::".join(its if len(its) == 2 else module_of(file) + its)] = file
         elif line.startswith("new:"):
             texts[file] = texts[file].replace(old, line[len("new:") :].removeprefix(" "))
     return found if all(found) else None
+
+
+def module_of(file):
+    """The words of the path of the module that a file of src/ is."""
+    return [it for it in file[len("src/") : -len(".rt")].split("/") if it not in ("lib", "mod")]
+
+
+def meet(some, others):
+    """Whether two edits change one function, or one of them a module and the other what stands in it."""
+    for one, file in some.items():
+        for other, its_file in others.items():
+            # (the path of a method names no module)
+            whole = "::".join(module_of(file)) in (one, other) and file == its_file
+            if one == other or one.startswith(f"{other}::") or other.startswith(f"{one}::") or whole:
+                return True
+    return False
 
 
 def rounds(crate, edits):
@@ -155,7 +170,7 @@ def rounds(crate, edits):
             print(f"{crate}: {edit.stem} changes more than functions, and is not tried together with others", flush=True)
             continue
         for group in groups:
-            if not any(one == other or one.startswith(f"{other}::") or other.startswith(f"{one}::") for _, of in group for one in of for other in its):
+            if not any(meet(of, its) for _, of in group):
                 group.append((edit, its))
                 break
         else:
@@ -179,7 +194,7 @@ LOST = re.compile(r"has no field|is not in scope|has no `|was not admitted|that 
 
 def lacks(path, said):
     """What a function, or one of a module, lacks by itself, and whether that is more than names which are gone; nothing where it is proved."""
-    goals = [found[1] for found in re.finditer(rf"(?m)^fn \w+::(?:\w+::)*{re.escape(path)}(?:::\S+)?: (?:no proof|not proved).*?(`search` did not prove [^;]*)", said)]
+    goals = [found[1] for found in re.finditer(rf"(?m)^fn \w+::(?:\w+::)*{re.escape(path)}(?:::\S+)?: (?:no proof|not proved).*?(`search` did not prove [^;\n]*)", said)]
     errors = re.findall(rf"(?m)^(?:\./)?(?:proofs/(?:\w+/)*{re.escape(path.replace('::', '/'))}/\S+: error: .*)$", said)
     return [*goals, *errors], bool(goals) or any(not LOST.search(it) for it in errors)
 
@@ -195,14 +210,19 @@ def tried_together(crate, edits, top, is_long):
         only = [word for its in (its for _, its in group) for path in sorted(its) for word in ("--only", path)]
         said = copies.ran(["rt", "check", "--jobs", "1", *only], top / "crates" / crate).stdout
         if not re.search(r"(?m)^only=\d+ proved=\d+", said):
-            lines += [f"  {edit.stem}: NOT TRIED: the check of its group came to no end" for edit, _ in group] + [said[-2000:]]
+            # (one that is no code ends the check: the others without those of the files that are told, and these alone)
+            told = [(edit, its) for edit, its in group if any(re.search(rf"(?m)^\S*{re.escape(file)}:.*error", said) for file in its.values())]
+            if len(group) > 1 and told:
+                groups += [[it] for it in told] + [[it for it in group if it not in told]] * (len(told) < len(group))
+                continue
+            lines += [f"  {edit.stem}: NOT TRIED: the check came to no end" for edit, _ in group] + [said[-2000:]]
             continue
         for edit, its in group:
             told = [lacks(path, said) for path in sorted(its)]
             why = next((reasons[0] for reasons, counts in told if counts), None) or next((reasons[0] for reasons, _ in told if reasons), None)
             is_refused, is_named = any(counts for _, counts in told), why is not None
-            if not is_named and len(group) > 1:
-                # (a function that calls another one which is wrong too is not judged: once more, alone)
+            if not is_refused and len(group) > 1:
+                # (of a function that calls another one which is wrong too not all is told: once more, alone)
                 groups.append([(edit, its)])
                 continue
             refused += is_named
@@ -220,7 +240,7 @@ def main():
     words = argparse.ArgumentParser(description=__doc__.splitlines()[0])
     words.add_argument("crates", metavar="CRATE", nargs="*")
     words.add_argument("--keep", metavar="FOLDER", type=pathlib.Path, help="work in this folder, and leave it")
-    words.add_argument("--named", metavar="WORD", default="", help="only the edits in whose name the word stands")
+    words.add_argument("--named", metavar="WORD", action="append", help="only the edits in whose name the word stands, or another that is given so")
     words.add_argument("--long", action="store_true", help="say what refused each")
     words.add_argument("--together", action="store_true", help="check the edited functions alone, several edits at once")
     words.add_argument("--look", action="store_true", help="prove nothing: say which can't be applied")
@@ -231,7 +251,7 @@ def main():
         sys.exit(f"{unknown[0]} is no crate with wrong bodies in {EDITS.name}/")
     if given.look:
         return 1 if look(stand) else 0
-    chosen = {it: [edit for edit in stand[it] if given.named in edit.stem] for it in given.crates or stand}
+    chosen = {it: [edit for edit in stand[it] if any(word in edit.stem for word in given.named or [""])] for it in given.crates or stand}
     refused, number = 0, sum(map(len, chosen.values()))
     with tempfile.TemporaryDirectory(prefix="wrong-") as folder:
         top = given.keep.resolve() if given.keep else pathlib.Path(folder)

@@ -1,0 +1,9 @@
+pub mod Bringing
+pub mod Digests
+pub mod Fields
+pub mod Lines
+pub mod Profiles
+pub mod Reasons
+pub mod Requests
+pub mod Rows
+pub mod Times

@@ -29,7 +29,7 @@ use Rattle.commands.specs.Beside.{ServedBesideWorkers, WorksBeside, ends_told}
 use Rattle.commands.specs.Opening.{Carries, LeadsTo, RunsOver, WorksUnder, ending_over}
 use Rattle.commands.specs.Ready.{CabinetIsWell, IsWellFormed}
 use Rattle.commands.specs.Runs.{Runs}
-use Rattle.commands.specs.Serving.{AreServedBeside, ServesBetween, failed_beside, serving_ending}
+use Rattle.commands.specs.Serving.{AreServedBeside, IsUnserved, ServesBetween, failed_beside, serving_ending}
 use Rattle.commands.specs.Statuses.{status_of}
 use Rattle.commands.specs.Worlds.{Shelf, Told, World}
 
@@ -54,6 +54,15 @@ serve_done (Err opening.Fault) is = absurd (cc is)
 serve_done (Err opening.NotAJournal) is = absurd (cc is)
 serve_done (Err (opening.Damaged at)) is = absurd (cc is)
 serve_done (Err opening.NoMemory) is = absurd (cc is)
+
+doors_failed : (end : Result ServeEnd OpenFault) → status_of (ending_over serving_ending end) ≡ 7 → end ≡ Ok ends.DoorFault
+doors_failed (Ok ends.End) is = absurd (cc is)
+doors_failed (Ok ends.DoorFault) is = refl
+doors_failed (Ok ends.NoMemory) is = absurd (cc is)
+doors_failed (Err opening.Fault) is = absurd (cc is)
+doors_failed (Err opening.NotAJournal) is = absurd (cc is)
+doors_failed (Err (opening.Damaged at)) is = absurd (cc is)
+doors_failed (Err opening.NoMemory) is = absurd (cc is)
 
 module _ {S K E C L P D : Type 0} (g : Ghosts D) (tell : World S K E C L P → Told D) where
   -- what came of a run, from some records to some history
@@ -96,11 +105,16 @@ module _ {S K E C L P D : Type 0} (g : Ghosts D) (tell : World S K E C L P → T
       (subst (λ (e : Result SessionEnd OpenFault). RepliesOver g name workers e (tell before) (tell after)) is did.2.over))
       run.did
 
-  all_served : (name : List ℕ) (workers connections : ℕ) (before after : Told D) → CabinetIsWell before after
-      → RunsOver g name (LeadsTo g) (ServesBetween g workers connections before.doors after.doors) (Ok ends.End) before.cabinet after.cabinet
-      → IsOver (AreServedWell g workers after.doors.told)
-  all_served name workers connections before after well w =
-      let none = no_fault name (LeadsTo g) (ServesBetween g workers connections before.doors after.doors ends.End) before.cabinet after.cabinet well w in
+  -- all that was let in was served well, or nobody was let in
+  abbrev IsServedOver : ServeEnd → ℕ → Told D → Told D → Type 0
+  IsServedOver end workers before after =
+      IsOver (λ h last. AreServedWell g workers after.doors.told h last ⊎ IsUnserved end before.doors after.doors h last)
+
+  all_served : (name : List ℕ) (workers connections : ℕ) (end : ServeEnd) (before after : Told D) → CabinetIsWell before after
+      → RunsOver g name (LeadsTo g) (ServesBetween g workers connections before.doors after.doors) (Ok end) before.cabinet after.cabinet
+      → IsServedOver end workers before after
+  all_served name workers connections end before after well w =
+      let none = no_fault name (LeadsTo g) (ServesBetween g workers connections before.doors after.doors end) before.cabinet after.cabinet well w in
       ⊎_elim
       (λ (s : AreServedBeside g workers after.doors.told (reopen usual w.pieces) w.last).
       let few = serve_fails g workers after.doors.told (reopen usual w.pieces) w.last s in
@@ -108,18 +122,33 @@ module _ {S K E C L P D : Type 0} (g : Ghosts D) (tell : World S K E C L P → T
       (λ nobody. (w.pieces, w.last, inr nobody))
       w.worked.served
 
+  -- the end of a run whose status is known
+  served_by : (name : List ℕ) (port workers connections status : ℕ) (end : ServeEnd) (before after : World S K E C L P)
+      → ((found : Result ServeEnd OpenFault) → status_of (ending_over serving_ending found) ≡ status → found ≡ Ok end)
+      → ¬ (status ≡ 6) → Runs g tell (Serve name port workers connections) status before after → CabinetIsWell (tell before) (tell after)
+      → IsServedOver end workers (tell before) (tell after)
+  served_by name port workers connections status end before after ends_so asked run well =
+      ⊎_elim
+      (λ none. absurd (asked (run.told.status_is ∙ ap status_of none.0)))
+      (λ did.
+      let is = ends_so did.0 (sym (run.told.status_is ∙ ap status_of did.1)) in
+      all_served name workers connections end (tell before) (tell after) well
+      (subst (λ (e : Result ServeEnd OpenFault). RunsOver g name (LeadsTo g) (ServesBetween g workers connections (tell before).doors (tell after).doors) e
+      (tell before).cabinet (tell after).cabinet) is did.2.over))
+      run.did
+
   pub serve_answers : (name : List ℕ) (port workers connections : ℕ) (before after : World S K E C L P)
       → Runs g tell (Serve name port workers connections) 0 before after → CabinetIsWell (tell before) (tell after)
       → IsOver (AreServedWell g workers (tell after).doors.told)
   serve_answers name port workers connections before after run well =
-      ⊎_elim
-      (λ none. absurd (cc (run.told.status_is ∙ ap status_of none.0)))
-      (λ did.
-      let is = serve_done did.0 (sym (run.told.status_is ∙ ap status_of did.1)) in
-      all_served name workers connections (tell before) (tell after) well
-      (subst (λ (e : Result ServeEnd OpenFault). RunsOver g name (LeadsTo g) (ServesBetween g workers connections (tell before).doors (tell after).doors) e
-      (tell before).cabinet (tell after).cabinet) is did.2.over))
-      run.did
+      let over = served_by name port workers connections 0 ends.End before after serve_done (λ e. cc e) run well in
+      (over.0, over.1, ⊎_elim (λ served. served) (λ nobody. absurd nobody) over.2)
+
+  pub serve_answers_before : (name : List ℕ) (port workers connections : ℕ) (before after : World S K E C L P)
+      → Runs g tell (Serve name port workers connections) 7 before after → CabinetIsWell (tell before) (tell after)
+      → IsServedOver ends.DoorFault workers (tell before) (tell after)
+  serve_answers_before name port workers connections before after run well =
+      served_by name port workers connections 7 ends.DoorFault before after doors_failed (λ e. cc e) run well
 
 -- a connection that fails nowhere, of an input that is well formed, is served to its end, unless there was no memory to begin
 pub connection_ends : (fixed : Fixed) (came went : Ends) (start : ℕ) (list : List Entry) (places : List ℕ) (served : Served fixed came went start list places)

@@ -20,17 +20,27 @@ use Rattle.commands.proofs.OpeningLemmas.{sound_opens, unopened_cause}
 use Rattle.commands.proofs.SharingLemmas.{list_goes_on, same_history}
 use Rattle.commands.specs.Opening.{ending_over}
 use Rattle.commands.specs.Ready.{CabinetIsWell, DoorsAreWell, HasSound, IsDone}
-use Rattle.commands.specs.Serving.{ServesBetween, ServesConnections, serving_ending}
+use Rattle.commands.specs.Serving.{IsUnserved, NobodyWasServed, ServesBetween, ServesConnections, serving_ending}
 use Rattle.commands.specs.Sharing.{IsSharedBy, begun}
 use Rattle.commands.specs.Statuses.{status_of}
 use Rattle.commands.specs.Worlds.{Doorway, Told, World}
+
+-- nobody was let in, for one of two reasons
+unserved_by : (end : ServeEnd) (before after : Doorway) (h last : History)
+    → (end ≡ ends.NoMemory) ⊎ ((end ≡ ends.DoorFault) × (after.listens ≡ before.listens))
+    → NobodyWasServed after.told h last → IsUnserved end before after h last
+unserved_by end before after h last why nobody =
+    ⊎_elim
+    (λ memory. subst (λ (e : ServeEnd). IsUnserved e before after h last) (sym memory) nobody)
+    (λ deaf. subst (λ (e : ServeEnd). IsUnserved e before after h last) (sym deaf.0) (nobody, deaf.1))
+    why
 
 -- what was served behind a lock is told of the histories
 pub serves_between : {D : Type 0} {g : Ghosts D} (workers connections : ℕ) (before after : Doorway) (end : ServeEnd) (h last : History)
     (lock : Lock D g) (given back : PassTo D g) → IsSharedBy h lock given → IsPrefix (seen given) (seen back)
     → IsServeEnd end connections after.told.given before.faults after.faults
     → ServedBeside lock workers (seen given) (seen back) (tally given) (tally back) after.told.given after.told.back
-    ⊎ ((after.told.given ≡ []) × (back ≡ given))
+    ⊎ (((end ≡ ends.NoMemory) ⊎ ((end ≡ ends.DoorFault) × (after.listens ≡ before.listens))) × (after.told.given ≡ []) × (back ≡ given))
     → (end ≡ ends.NoMemory → (after.told.given ≡ []) × (back ≡ given))
     → (after.listens ≡ false → (after.told.given ≡ []) × (back ≡ given))
     → last ≡ history_of (fixed_in lock) (seen back)
@@ -61,7 +71,7 @@ serves_between {D} {g} workers connections before after end h last lock given ba
                 (subst (λ (l : List Entry). ServedBeside lock workers l list (tally given) (tally back) after.told.given after.told.back) s.seen_is
                 beside);
           }))
-          (λ nobody. inr (nobody.0, none nobody.1))
+          (λ nobody. inr (unserved_by end before after h last nobody.0 (nobody.1, none nobody.2)))
           served;
       unserved = λ memory. let nobody = unserved memory in (nobody.0, none nobody.1);
       unlistened = λ deaf. let nobody = unlistened deaf in (nobody.0, none nobody.1);

@@ -47,13 +47,19 @@ failed_beside {D} {g} {workers} {told} {h} {last} served =
 abbrev pub NobodyWasServed : Connections → History → History → Type 0
 NobodyWasServed told h last = (told.given ≡ []) × (last ≡ h)
 
+-- Nobody was let in, since there was no memory to begin, or the port could not be had: then the doors listen as they did before.
+abbrev pub IsUnserved : ServeEnd → Doorway → Doorway → History → History → Type 0
+IsUnserved ends.End before after h last = ⊥
+IsUnserved ends.DoorFault before after h last = NobodyWasServed after.told h last × (after.listens ≡ before.listens)
+IsUnserved ends.NoMemory before after h last = NobodyWasServed after.told h last
+
 -- What was done for the connections beside so many workers at an end of serving, from one history to another: `End` exactly where as many
--- were given as were asked for, and each that was given was served; where there was no memory to begin, or the doors do not listen then, since
--- the port could not be had, nobody was let in and nothing has happened.
+-- were given as were asked for, and each that was given was served; where there was no memory to begin, or the port could not be had, and only
+-- there, nobody was let in and nothing has happened. So it is wherever the doors do not listen then.
 pub record ServesBetween {D : Type 0} (g : Ghosts D) (workers connections : ℕ) (before after : Doorway) (end : ServeEnd) (h last : History) : Type 0 where
   pub ended : IsServeEnd end connections after.told.given before.faults after.faults
   pub goes_on : (since : List Event) × (last ≡ go_on h since)
-  pub served : AreServedBeside g workers after.told h last ⊎ NobodyWasServed after.told h last
+  pub served : AreServedBeside g workers after.told h last ⊎ IsUnserved end before after h last
   pub unserved : end ≡ ends.NoMemory → NobodyWasServed after.told h last
   pub unlistened : after.listens ≡ false → NobodyWasServed after.told h last
 

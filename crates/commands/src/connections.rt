@@ -165,7 +165,9 @@ fn serve_behind<
     ensures begins { IsPrefix (seen pass) (seen result.0) }
     ensures ends { IsServeEnd result.1 options.connections (L.told doors.new).given (L.faults doors.old) (L.faults doors.new) }
     ensures served { ServedBeside lock.now.value options.workers (seen pass) (seen result.0) (tally pass) (tally result.0)
-        (L.told doors.new).given (L.told doors.new).back ⊎ (((L.told doors.new).given ≡ []) × (result.0 ≡ pass)) }
+        (L.told doors.new).given (L.told doors.new).back
+        ⊎ (((result.1 ≡ ServeEnd.NoMemory) ⊎ ((result.1 ≡ ServeEnd.DoorFault) × (L.listens doors.new ≡ L.listens doors.old)))
+        × ((L.told doors.new).given ≡ []) × (result.0 ≡ pass)) }
     ensures unserved { result.1 ≡ ServeEnd.NoMemory → ((L.told doors.new).given ≡ []) × (result.0 ≡ pass) × (spawner.new ≡ spawner.old) }
     ensures unlistened { L.listens doors.new ≡ false → ((L.told doors.new).given ≡ []) × (result.0 ≡ pass) }
 {

@@ -9,9 +9,9 @@ ghost use Rattle.commands.specs.Joined.{AreOneBehindAnother, AreOneCourse, Behin
 ghost use Rattle.commands.specs.Opening.{Carries, LeadsTo};
 ghost use Rattle.commands.specs.Ready.{IsWellFormed};
 ghost use Rattle.commands.specs.Runs.{Runs};
-ghost use Rattle.commands.specs.Serving.{AreServedBeside, failed_beside};
+ghost use Rattle.commands.specs.Serving.{AreServedBeside, IsUnserved, failed_beside};
 ghost use Rattle.commands.specs.Sharing.{begun};
-ghost use Rattle.commands.specs.Worlds.{DoorsStay, StreamsStay, World, shelf, sink_told, source_told, told_by};
+ghost use Rattle.commands.specs.Worlds.{DoorsStay, StreamsStay, World, doorway, shelf, sink_told, source_told, told_by};
 ghost use Rattle.desk.specs.Courses.{Asks, IsCourse, TellsDay, TellsDays};
 ghost use Rattle.desk.specs.Replies.{AreReplies, tells_fault};
 ghost use Rattle.desk.specs.Serving.{Served};
@@ -33,6 +33,7 @@ ghost use Rattle.records.specs.Sheets.{Record};
 ghost use Rattle.register.specs.Registered.{NoneOut, Registered};
 ghost use Rattle.serving.specs.Crews.{IsWorkIn};
 ghost use Rattle.serving.specs.Failing.{failed_in};
+ghost use Rattle.serving.specs.declared.whole.ServeEnd.TheVariants as serving;
 ghost use Rattle.shared_office.specs.Passages.{RoseBy};
 ghost use Rattle.shared_office.specs.declared.entries.Entry.{Entry};
 ghost use Rattle.shared_office.specs.declared.entries.Fixed.{Fixed};
@@ -224,7 +225,8 @@ pub fn runs_are_one_course()
 
 /// Where a run of `batch` or of `serve` is done and no fault of the cabinet was counted, no reply tells that the journal failed. An input of
 /// `batch` was read to its end then, and each of its messages has its reply, that of the office, or beside workers that which its holdings
-/// tell; and so was that of each connection which is well formed and met no fault of its own, unless there was no memory to begin with it.
+/// tell; and so was that of each connection which is well formed and met no fault of its own, unless there was no memory to begin with it. Where
+/// the doors failed the same holds of the connections that they had given before; there were none where the port could not be had.
 pub fn where_no_fault_is_counted_each_request_is_answered<
     S: Source,
     K: Sink,
@@ -243,6 +245,11 @@ pub fn where_no_fault_is_counted_each_request_is_answered<
         → Runs C.Disk.Disk (told_by S.Source K.Sink E.Sink C.Cabinet L.Doors P.Spawner) (Serve name port workers connections) 0 before after
         → ¬ (Rose (C.faults before.cabinet) (C.faults after.cabinet))
         → (pieces : List Record) × (last : History) × AreServedWell C.Disk.Disk workers (L.told after.doors) (reopen usual pieces) last }
+    ensures doors_failed { (name : List ℕ) (port workers connections : ℕ) (before after : World S K E C L P)
+        → Runs C.Disk.Disk (told_by S.Source K.Sink E.Sink C.Cabinet L.Doors P.Spawner) (Serve name port workers connections) 7 before after
+        → ¬ (Rose (C.faults before.cabinet) (C.faults after.cabinet))
+        → (pieces : List Record) × (last : History) × (AreServedWell C.Disk.Disk workers (L.told after.doors) (reopen usual pieces) last
+        ⊎ IsUnserved serving.DoorFault (doorway L.Doors before.doors) (doorway L.Doors after.doors) (reopen usual pieces) last) }
     ensures connection { (fixed : Fixed) (came went : Ends) (start : ℕ) (list : List Entry) (places : List ℕ)
         (served : Served fixed came went start list places) → IsSomeAnd came.left IsWellFormed → IsSome came.written
         → ¬ (Rose came.input_faults went.input_faults) → ¬ (Rose came.output_faults went.output_faults)

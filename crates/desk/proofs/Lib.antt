@@ -10,6 +10,7 @@ pub mod EndLemmas
 pub mod FaultLemmas
 pub mod GrowthLemmas
 pub mod HeldStepLemmas
+pub mod KeptEditLemmas
 pub mod OneReplyLemmas
 pub mod PendingOrderLemmas
 pub mod RepliesLemmas

@@ -1,39 +1,54 @@
 -- What is told of a day in a course of steps is true.
-use Rattle.std.specs.Prelude.{◌≡◌, ◌⊎◌, ℕ, ◌+◌, List, [], ◌∷◌, ◌++◌, length, Result, Ok, Err, ℤ}
+use Rattle.std.specs.Prelude.{◌≡◌, ◌⊎◌, ℕ, ◌+◌, Bool, true, false, if◌then◌else◌, List, [], ◌∷◌, ◌++◌, length, Option, Some, None, is_some, Result, Ok, Err, ℤ}
 use Rattle.std.proofs.Common.{refl, ap, sym, subst, ◌∙◌, inl, inr, arith, append-nil, append_assoc}
+use Rattle.daily_values.specs.declared.day_values.DayValue.{DayValue}
 use Rattle.depend.specs.Compared.{days_within}
 use Rattle.desk.proofs.CourseLemmas.{coming, course_over}
-use Rattle.desk.specs.Courses.{AnswersInSteps, AreTrueOf, Asks, Coming, IsCourse, IsTrueOf, TellsDay, TellsDays, status_of, table_told}
+use Rattle.desk.specs.Courses.{AnswersInSteps, AreTrueOf, Asks, Coming, IsCourse, IsTrueIn, IsTrueOf, TellsDay, TellsDays, TellsEdit, edit_told, is_of_kept, status_of, table_told}
 use Rattle.desk.specs.Replies.{IsAnswered, day_reply}
 use Rattle.desk.specs.Replying.{AreReplies, IsAnsweredBy, IsReplied, memory_reply}
 use Rattle.edits.specs.declared.content.Edit.{Edit}
 use Rattle.fixed_units.specs.Quantities.{SiteNumber}
-use Rattle.history.specs.Accepted.{edits_of}
-use Rattle.history.specs.Awaited.{Computed, DayAnswer, NoStation, Pending, answer_at}
+use Rattle.history.specs.Accepted.{edits_of, stations_at}
+use Rattle.history.specs.Awaited.{Computed, DayAnswer, NoStation, Pending, answer_at, answer_by, awaited, value_at}
 use Rattle.history.specs.Events.{History}
+use Rattle.history.specs.Legal.{IsLegal}
 use Rattle.http_api.proofs.AskLemmas.{are_told}
 use Rattle.http_api.specs.Asks.{Question, ask_of}
 use Rattle.http_api.specs.declared.asks.Ask.{Ask}
 use Rattle.http_api.specs.declared.asks.Ask.TheVariants as asks
 use Rattle.http_api.specs.declared.asks.Denied.{Denied}
-use Rattle.office.proofs.CourseLemmas.{computed_from_scratch, edits_after, not_kept_where_missing, pending_names_last}
-use Rattle.office.specs.Steps.{Step, AnAnswer, GoesOver, added}
+use Rattle.office.proofs.CourseLemmas.{computed_from_scratch, edits_after, joined, pending_names_last, told_ever_after, told_next}
+use Rattle.office.specs.Steps.{Step, AnAnswer, AnEdit, GoesOver, added}
+use Rattle.office.specs.declared.offices.Accepted.{Accepted}
+use Rattle.office_inputs.specs.Stations.{station_of, stations_of}
+use Rattle.office_inputs.specs.declared.refusals.Refusal.{Refusal}
 use Rattle.register.specs.Registered.{Registered}
 use Rattle.wire.specs.declared.messages.Message.{Message}
 use Rattle.wire.specs.declared.messages.Message.TheVariants as messages
 
 -- an answer of an office is true of the edits that it has accepted
 by_answer : (office : Registered) (site : SiteNumber) (day : ℤ) (told : DayAnswer)
-    → GoesOver office (AnAnswer site day told ∷ []) office → IsTrueOf (edits_of office.history.events ++ added []) site day told
+    → GoesOver office (AnAnswer site day told ∷ []) office → IsTrueIn (edits_of office.history.events ++ added []) site day told
 by_answer office site day (Computed value) g = computed_from_scratch office office [] [] site day value g
 by_answer office site day (Pending number) g = pending_names_last office office [] [] site day number g
-by_answer office site day NoStation g = not_kept_where_missing office office [] [] site day g
+by_answer office site day NoStation g = tt
+
+-- an answer is one for a station that is kept exactly where the station is
+kept_where : (kept : Bool) (awaited : Option ℕ) (value : DayValue) → kept ≡ is_of_kept (if kept then answer_by awaited value else NoStation)
+kept_where true None value = refl
+kept_where true (Some edit) value = refl
+kept_where false awaited value = refl
 
 answer_is_true : (office : Registered) (site : SiteNumber) (day : ℤ) (told : DayAnswer) (edits : List Edit)
     → edits_of office.history.events ≡ edits → told ≡ answer_at office.history.events site day → IsTrueOf edits site day told
 answer_is_true office site day told edits are is =
-    subst (λ (l : List Edit). IsTrueOf l site day told) (append-nil (edits_of office.history.events) ∙ are)
-    (by_answer office site day told (office, (is, record { history = refl; claims = λ s d. refl }), refl))
+    let events = office.history.events in (
+      ap (λ (l : List Edit). is_some (station_of (stations_of l) site)) (sym are)
+          ∙ kept_where (is_some (station_of (stations_at events) site)) (awaited events site day) (value_at events site day) ∙ ap is_of_kept (sym is),
+      subst (λ (l : List Edit). IsTrueIn l site day told) (append-nil (edits_of events) ∙ are)
+          (by_answer office site day told (office, (is, record { history = refl; claims = λ s d. refl }), refl)),
+    )
 
 answers_are_true : (office : Registered) (site : SiteNumber) (edits : List Edit) → edits_of office.history.events ≡ edits → (days : List ℤ)
     → AreTrueOf edits site days (answer_at office.history.events site)
@@ -210,5 +225,46 @@ module _ (old new : Registered) (steps : List Step) (before behind : List Messag
               days_told p.at.office site from to reply (edits_of old.history.events ++ added b.mine) p.next.office.history (edits_so_far p b)
               is.answered
           | inr none ↦ inr none
+        ],
+      )
+
+  -- and what the reply to an edit tells, whatever steps come behind the course
+  tells_edit : (edit : Edit) (further : List Step) (later : Registered) → IsLegal old.history → GoesOver new further later
+      → (p : Parted (coming old steps) before told message reply) (b : Begun (coming old steps) p.at before told)
+      → (answered : Result Accepted Refusal) → p.at.steps ≡ AnEdit edit answered ∷ p.next.steps → reply ≡ edit_told answered
+      → TellsEdit (edits_of old.history.events ++ added b.mine) edit reply later.history
+  tells_edit edit further later legal goes p b (Ok taken) splits is =
+      let after : List Step = p.next.steps ++ further in
+      let all : steps ++ further ≡ b.mine ++ AnEdit edit (Ok taken) ∷ after =
+      ap (λ (l : List Step). l ++ further) (b.splits ∙ ap (λ (l : List Step). b.mine ++ l) splits)
+      ∙ append_assoc b.mine (AnEdit edit (Ok taken) ∷ p.next.steps) further in
+      let over : GoesOver old (b.mine ++ AnEdit edit (Ok taken) ∷ after) later =
+      subst (λ (l : List Step). GoesOver old l later) all
+      (joined old steps further new later (course_over old steps (before ++ message ∷ behind) (told ++ reply ∷ more) new course).0 goes) in
+      inl (
+        taken,
+        is,
+        told_ever_after old later b.mine after edit taken legal over,
+        λ first. told_next old later b.mine after edit taken first over,
+      )
+  tells_edit edit further later legal goes p b (Err refusal) splits is = inr (inl (refusal, is))
+
+  pub edit_stays : (edit : Edit) (further : List Step) (later : Registered) → IsLegal old.history → GoesOver new further later
+      → Asks message (asks.Edit edit)
+      → (mid : Registered) × (first rest : List Step) × (steps ≡ first ++ rest) × IsCourse old first before told mid
+      × TellsEdit (edits_of old.history.events ++ added first) edit reply later.history
+  edit_stays edit further later legal goes its =
+      let p = there in
+      let b = so_far p in (
+        p.at.office,
+        b.mine,
+        p.at.steps,
+        b.splits,
+        b.course,
+        elim (asked_by p.at p.next message (asks.Edit edit) reply its p.here) [
+          | inl is ↦
+              tells_edit edit further later legal goes p b is.told.0
+              (is.splits ∙ ap (λ (l : List Step). l ++ p.next.steps) is.told.1) is.told.2
+          | inr none ↦ inr (inr none)
         ],
       )

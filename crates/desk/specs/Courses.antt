@@ -1,5 +1,5 @@
 -- The steps of an office in which messages are replied to.
-use Rattle.std.specs.Prelude.{◌≡◌, ◌⊎◌, ℕ, false, Bool, List, [], ◌∷◌, ◌++◌, map, All, Option, None, Result, Ok, Err, is_some, ℤ, ⊤}
+use Rattle.std.specs.Prelude.{◌≡◌, ◌⊎◌, ℕ, ◌+◌, true, false, Bool, List, [], ◌∷◌, ◌++◌, length, map, All, Option, None, Result, Ok, Err, is_some, ℤ, ⊤}
 use Rattle.std.specs.List.{AllByRecursion, flat_map}
 use Rattle.approval.specs.declared.status.Status.{Status}
 use Rattle.daily_values.specs.DayValue.{day_value}
@@ -10,8 +10,10 @@ use Rattle.edits.specs.declared.content.Edit.{Edit}
 use Rattle.fixed_units.specs.Quantities.{SiteNumber}
 use Rattle.fixed_units.specs.declared.texts.NoMemory.{NoMemory}
 use Rattle.history.specs.Awaited.{Computed, DayAnswer, NoStation, Pending}
+use Rattle.history.specs.Events.{History}
 use Rattle.history.specs.LastChanges.{ChangedLast}
 use Rattle.history.specs.Statuses.{standing_of}
+use Rattle.history.specs.Verdicts.{Repeats, verdict}
 use Rattle.http_api.specs.Asks.{ask_of, question}
 use Rattle.http_api.specs.Replies.{bytes_of}
 use Rattle.http_api.specs.declared.asks.Ask.{Ask}
@@ -91,12 +93,22 @@ abbrev pub IsCourse : Registered → List Step → List Message → List (List �
 IsCourse old steps messages replies new =
     AreReplies AnswersInSteps (record { office = old; steps = steps }) messages replies (record { office = new; steps = [] })
 
+-- the answer is one for a station that is kept
+abbrev pub is_of_kept : DayAnswer → Bool
+is_of_kept NoStation = false
+is_of_kept (Pending edit) = true
+is_of_kept (Computed value) = true
+
+-- the value is that of computing from scratch, or the edit that is named is the last one that changed the day
+abbrev pub IsTrueIn : List Edit → SiteNumber → ℤ → DayAnswer → Type 0
+IsTrueIn edits site day (Computed value) = value ≡ day_value (inputs_of_day (stations_of edits) site day)
+IsTrueIn edits site day (Pending number) = ChangedLast edits site day number
+IsTrueIn edits site day NoStation = ⊤
+
 -- What is answered for a day is true where these are the edits that were accepted so far: a value is that of computing from scratch, and any
--- other answer names the last edit that changed the day, or says that none of them added the station.
+-- other answer names the last edit that changed the day, or says that none of them added the station, which is said exactly where none did.
 abbrev pub IsTrueOf : List Edit → SiteNumber → ℤ → DayAnswer → Type 0
-IsTrueOf edits site day (Computed value) = value ≡ day_value (inputs_of_day (stations_of edits) site day)
-IsTrueOf edits site day (Pending number) = ChangedLast edits site day number
-IsTrueOf edits site day NoStation = is_some (station_of (stations_of edits) site) ≡ false
+IsTrueOf edits site day told = (is_some (station_of (stations_of edits) site) ≡ is_of_kept told) × IsTrueIn edits site day told
 
 -- The same of each day from one to another, whose answers these are.
 abbrev pub AreTrueOf : List Edit → SiteNumber → List ℤ → (ℤ → DayAnswer) → Type 0
@@ -124,6 +136,14 @@ abbrev pub TellsDays : List Edit → SiteNumber → ℤ → ℤ → List ℕ →
 TellsDays edits site from to reply =
     ((told : ℤ → DayAnswer) × (reply ≡ table_told edits site from to told) × AreTrueOf edits site (days_within from to) told)
     ⊎ (reply ≡ memory_reply)
+
+-- What a reply to an edit tells where these edits were accepted before it: the number of the edit, under which it comes again by the last
+-- history, the next one if it is told as new; or why it was refused; or that there was no memory to read it.
+abbrev pub TellsEdit : List Edit → Edit → List ℕ → History → Type 0
+TellsEdit edits edit reply last =
+    ((told : Accepted) × (reply ≡ edit_told (Ok told)) × (verdict last edit ≡ Repeats told.number)
+    × (told.repeated ≡ false → told.number ≡ length edits + 1))
+    ⊎ (((refusal : Refusal) × (reply ≡ edit_told (Err refusal))) ⊎ (reply ≡ memory_reply))
 
 -- the edit whose call a stop cuts off before these steps: that of the first of them, where it is the call of one
 abbrev pub cut_before : List Step → Option Edit

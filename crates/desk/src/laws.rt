@@ -5,7 +5,7 @@ ghost use Rattle.std.specs.List.{AllByRecursion};
 ghost use mathlib.Core.List.{IsPrefix};
 ghost use Rattle.desk.specs.Behind as behind;
 ghost use Rattle.desk.specs.Behind.{Touch, Uses, faults_added};
-ghost use Rattle.desk.specs.Courses.{Asks, IsCourse, IsHeldInSteps, TellsDay, TellsDays, cut_before};
+ghost use Rattle.desk.specs.Courses.{Asks, IsCourse, IsHeldInSteps, TellsDay, TellsDays, TellsEdit, cut_before};
 ghost use Rattle.shared_office.specs.Passages.{Passes, RoseBy};
 ghost use Rattle.desk.specs.Replies.{AreReplies, IsAnswered, IsOwn, tells_fault};
 ghost use Rattle.desk.specs.Replying as replying;
@@ -131,6 +131,22 @@ pub fn days_are_told_truly()
         → IsCourse old steps (before ++ message ∷ behind) (told ++ reply ∷ more) new → Asks message (asks.Daily site from to)
         → (mid : Registered) × (first rest : List Step) × (steps ≡ first ++ rest) × IsCourse old first before told mid
         × TellsDays (edits_of old.history.events ++ added first) site from to reply }
+{}
+
+/// What is replied to an edit in a course stands. An edit of which a reply tells a number has that number ever after, whatever steps come
+/// behind, with stops and openings among them: under it the edit comes again. One that is told as new has the next number behind the edits that
+/// were accepted before, which are those that the course began with and those that were acknowledged in its first steps, in which just the
+/// messages before were replied to. So it is behind a lock too, over each later list, where what had happened before the holding was legal.
+pub fn acknowledged_edits_stay()
+    ensures alone { (old new later : Registered) (steps further : List Step) (before behind : List Message) (message : Message) (told more : List (List ℕ))
+        (reply : List ℕ) (edit : Edit) → length told ≡ length before → IsLegal old.history
+        → IsCourse old steps (before ++ message ∷ behind) (told ++ reply ∷ more) new → GoesOver new further later → Asks message (asks.Edit edit)
+        → (mid : Registered) × (first rest : List Step) × (steps ≡ first ++ rest) × IsCourse old first before told mid
+        × TellsEdit (edits_of old.history.events ++ added first) edit reply later.history }
+    ensures behind { (fixed : Fixed) (edit : Edit) (reply : List ℕ) (holdings : List (Holding (List Entry)))
+        → behind.IsAnswered fixed (asks.Edit edit) reply holdings
+        → (x : Holding (List Entry)) × (holdings ≡ x ∷ []) × ((later : List Entry) → IsLegal (history_of fixed x.from) → IsPrefix x.to later
+        → TellsEdit (edits_of (events_in x.from)) edit reply (history_of fixed later)) }
 {}
 
 /// Whatever a stop leaves at any point of a course of calls is opened in a course of steps: the first of these calls and a stop, which cuts

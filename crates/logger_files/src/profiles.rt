@@ -3,6 +3,7 @@
 ghost use Rattle.std.specs.Prelude.{◌≡◌, ◌+◌, ◌≤◌, codes, None, Some, Err, pos, ◌<ℤ◌, IfOk, IfErr, IfSome, length, option_and_then, option_map, string_bytes};
 ghost use Rattle.std.specs.BTreeMap.{keys};
 ghost use Rattle.std.specs.List.{list_all};
+ghost use Rattle.std.specs.Str.{IsUtf8};
 ghost use Rattle.edits.specs.Texts.{AreInitials};
 ghost use Rattle.civil_days.specs.Starts.{two_digits};
 ghost use Rattle.civil_days.specs.Starts as zones;
@@ -125,6 +126,7 @@ impl TableFault {
 /// [`TableFault::NoTable`] exactly where they are no text in TOML, and [`TableFault::NoMemory`].
 pub fn read_table(alloc: Global, bytes: &[u8]) -> Result<Table, TableFault>
     ensures table { IfOk result (λ table. parse_document bytes.now ≡ Some (table_view table)) }
+    ensures none { result ≡ Err TableFault.NoTable → IsUtf8 bytes.now → parse_document bytes.now ≡ None }
 {
     let Ok(text) = str::from_utf8(bytes) else {
         return Err(TableFault::NoTable);

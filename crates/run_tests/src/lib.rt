@@ -1,4 +1,4 @@
-//! Small tests of whole runs, of what no row of data can tell: workers that are held at their gate, and a client of this machine.
+//! Small tests of whole runs, of what no row of data can tell: workers that are held at their gate, a client of this machine, and stops.
 #![tactic(auto)]
 
 #[cfg(test)]
@@ -9,5 +9,7 @@ mod loopback;
 mod meetings;
 #[cfg(test)]
 mod runs;
+#[cfg(test)]
+mod stops;
 #[cfg(test)]
 mod streams;

@@ -186,5 +186,5 @@ review_compact text a from b to end sender e f g h =
 pub review_made : (sender : Sender) (from to by reference : List ℕ) (site : SiteNumber) (first last : ℤ)
     → by_of (string sender.by.now) ≡ Some by → reference_of (string sender.reference.now) ≡ Some reference → site_of (string sender.site.now) ≡ Some site
     → day_of (string from) ≡ Some first → last_day_of first (string to) ≡ Some last
-    → edit_of_value (Some (data_of (review_json sender from to))) ≡ Ok (record { by = by; reference = reference; site = site; what = Review first last })
+    → edit_of_value (Some (data_of (review_json sender from to))) ≡ Ok (record { by = by; reference = reference; site = site; comment = []; what = Review first last })
 review_made sender from to by reference site first last b r s d e = rw (b, r, s, d, e) refl

@@ -3,7 +3,7 @@ use Rattle.std.proofs.Common.{◌≡◌, ℕ, List, Option, Some, None, option_a
 use Rattle.std.specs.Option.{ok_or}
 use Rattle.edit_bodies.specs.Answers.{IsFound, IsRead, text_of}
 use Rattle.edit_bodies.specs.Grammars.{string_of}
-use Rattle.edit_bodies.specs.Members.{without, found_or, required, member_text}
+use Rattle.edit_bodies.specs.Members.{without, found_or, optional, read_or, required, member_text}
 use Rattle.edit_bodies.specs.declared.faults.BodyFault.{BodyFault}
 use Rattle.edit_bodies.specs.declared.faults.BodyFault.TheVariants.{Json, Body, NoMemory}
 use Rattle.edit_bodies.specs.declared.members.Member.{Member}
@@ -18,6 +18,16 @@ module _ {A : Type 0} (which : Member) (grammar : Data → Option A) (before aft
   pub taken : (found : Option A) → found ≡ there → IsRead (required which grammar) before (ok_or found (Body which)) after
   taken None is = ap (λ (o : Option A). found_or which o (without (member_text which) before)) (sym is)
   taken (Some x) is = ap (λ (o : Option A). found_or which o (without (member_text which) before)) (sym is) ∙ ap (λ (ms : Members). Ok (x, ms)) (sym rest)
+
+-- and one that may be missing is read as it is found
+pub optional_taken : {A : Type 0} (which : Member) (missing : A) (grammar : Data → Option A) (before after : Members) → after ≡ without (member_text which) before
+    → (result : Result A BodyFault) → IsFound which (read_or missing grammar (get_member (member_text which) before)) result → IsRead (optional which missing grammar) before result after
+optional_taken which missing grammar before after rest (Ok x) is =
+    ap (λ o. found_or which o (without (member_text which) before)) is ∙ ap (λ (ms : Members). Ok (x, ms)) (sym rest)
+optional_taken which missing grammar before after rest (Err (Body other)) is =
+    ap (λ o. found_or which o (without (member_text which) before)) is.0 ∙ ap Err (sym is.1)
+optional_taken which missing grammar before after rest (Err Json) is = is
+optional_taken which missing grammar before after rest (Err NoMemory) is = tt
 
 -- a string likewise
 pub text_taken : (which : Member) (before after : Members) → after ≡ without (member_text which) before → (found : Option (Bor (List ℕ)))

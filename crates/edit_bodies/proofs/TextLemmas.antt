@@ -7,13 +7,13 @@ use Rattle.std.specs.Option.{ok_or}
 use Rattle.edit_bodies.specs.Answers.{IsFound}
 use Rattle.edit_bodies.specs.Grammars.{kept_if}
 use Rattle.edit_bodies.proofs.ZoneLemmas.{zone-told}
-use Rattle.edit_bodies.specs.Texts.{is_text_of, are_initials, is_array, is_reference, is_name}
+use Rattle.edit_bodies.specs.Texts.{is_text_of, are_initials, is_array, is_reference, is_name, is_comment}
 use Rattle.edit_bodies.specs.Zones.{is_zone}
 use Rattle.edit_bodies.specs.declared.faults.BodyFault.{BodyFault}
 use Rattle.edit_bodies.specs.declared.faults.BodyFault.TheVariants.{Body}
 use Rattle.edit_bodies.specs.declared.members.Member.{Member}
 use Rattle.edits.specs.Lawful.{IsStationZone}
-use Rattle.edits.specs.Texts.{AreInitials, IsReference, IsName}
+use Rattle.edits.specs.Texts.{AreInitials, IsComment, IsReference, IsName}
 use Rattle.fixed_units.specs.RoundingArray.{IsRoundingArray}
 
 module _ (fewest most : ℕ) (kind : ℕ → Bool) (text : List ℕ) where
@@ -42,6 +42,12 @@ pub name-told : (text : List ℕ) → is_name text ≡ true ↔ IsName text
 name-told text = (
   λ e. let p = text-true _ _ _ text e in record { shortest = p.0; longest = p.1.0; codes = AllPass-from_list_all _ text p.1.1 },
   λ a. text-from _ _ _ text a.shortest a.longest (list_all-from_AllPass _ text a.codes),
+)
+
+pub comment-told : (text : List ℕ) → is_comment text ≡ true ↔ IsComment text
+comment-told text = (
+  λ e. let p = text-true _ _ _ text e in record { longest = p.1.0; codes = AllPass-from_list_all _ text p.1.1 },
+  λ a. text-from _ _ _ text (omega arith) a.longest (list_all-from_AllPass _ text a.codes),
 )
 
 pub array-told : (text : List ℕ) → is_array text ≡ true ↔ IsRoundingArray text

@@ -112,5 +112,5 @@ module _ (row : List (List ℕ)) where
 
 pub put_made : (sender : Sender) (rows : List (List (List ℕ))) (by reference : List ℕ) (site : SiteNumber) (readings : List Reading)
     → by_of (string sender.by.now) ≡ Some by → reference_of (string sender.reference.now) ≡ Some reference → site_of (string sender.site.now) ≡ Some site → readings_stated rows ≡ Some readings
-    → edit_of_value (Some (data_of (put_json sender rows))) ≡ Ok (record { by = by; reference = reference; site = site; what = PutReadings readings })
+    → edit_of_value (Some (data_of (put_json sender rows))) ≡ Ok (record { by = by; reference = reference; site = site; comment = []; what = PutReadings readings })
 put_made sender rows by reference site readings b r s are = rw (b, r, s, are) refl

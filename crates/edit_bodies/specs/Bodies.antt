@@ -1,13 +1,13 @@
 -- The edit that a body is, or what refuses it.
-use Rattle.std.specs.Prelude.{ℕ, List, Option, Some, None, Result, Ok, Err, if◌then◌else◌}
+use Rattle.std.specs.Prelude.{ℕ, List, [], Option, Some, None, Result, Ok, Err, if◌then◌else◌}
 use Rattle.std.specs.Str.{is_utf8}
-use Rattle.edit_bodies.specs.Grammars.{by_of, reference_of, site_of}
+use Rattle.edit_bodies.specs.Grammars.{by_of, comment_of, reference_of, site_of}
 use Rattle.edit_bodies.specs.Kinds.{kind_of, row}
-use Rattle.edit_bodies.specs.Members.{Reader, ◌>>=◌, done, required, whole}
+use Rattle.edit_bodies.specs.Members.{Reader, ◌>>=◌, done, optional, required, whole}
 use Rattle.edit_bodies.specs.declared.faults.BodyFault.{BodyFault}
 use Rattle.edit_bodies.specs.declared.faults.BodyFault.TheVariants.{Json, Body}
 use Rattle.edit_bodies.specs.declared.members.Member.{Member}
-use Rattle.edit_bodies.specs.declared.members.Member.TheVariants.{Kind, By, Ref, Site}
+use Rattle.edit_bodies.specs.declared.members.Member.TheVariants.{Kind, By, Ref, Site, Comment}
 use Rattle.edits.specs.declared.content.Edit.{Edit}
 use Rattle.edits.specs.declared.content.What.{What}
 use Rattle.fixed_units.specs.Quantities.{SiteNumber}
@@ -20,12 +20,14 @@ pub record Parts : Type 0 where
   pub by : List ℕ
   pub reference : List ℕ
   pub site : SiteNumber
+  pub comment : List ℕ
   pub what : What
 
 abbrev pub parts : Edit → Parts
-parts edit = record { by = edit.by; reference = edit.reference; site = edit.site; what = edit.what }
+parts edit =
+    record { by = edit.by; reference = edit.reference; site = edit.site; comment = edit.comment; what = edit.what }
 
--- the members of every edit, and those of its kind behind them
+-- the members of every edit, those of its kind behind them, and at last the comment, which may be missing
 abbrev pub edit_row : Reader Parts
 edit_row = do
   kind ← required Kind kind_of
@@ -33,7 +35,8 @@ edit_row = do
   reference ← required Ref reference_of
   site ← required Site site_of
   what ← row kind
-  done (record { by = by; reference = reference; site = site; what = what })
+  comment ← optional Comment [] comment_of
+  done (record { by = by; reference = reference; site = site; comment = comment; what = what })
 
 -- the edit that an object is, or the member that refuses it
 abbrev pub edit_in : Option Members → Result Parts Member

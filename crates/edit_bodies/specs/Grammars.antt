@@ -3,7 +3,7 @@ use Rattle.std.specs.Prelude.{ℕ, bytes_eq, codes, is_none, is_some, Bool, true
 use Rattle.std.specs.Result.{result_ok}
 use Rattle.civil_days.specs.Spelling.{day_of_text, stamp_of_text, only}
 use Rattle.curves.specs.Curve.{curve_of}
-use Rattle.edit_bodies.specs.Texts.{are_initials, is_reference, is_name, is_array}
+use Rattle.edit_bodies.specs.Texts.{are_initials, is_reference, is_name, is_comment, is_array}
 use Rattle.edit_bodies.specs.Zones.{is_zone}
 use Rattle.edits.specs.Lawful.{most_readings, most_reviewed_days}
 use Rattle.edits.specs.declared.decisions.Decision.{Decision}
@@ -38,6 +38,10 @@ reference_of value = string_of (kept_if is_reference) value
 
 abbrev pub site_of : Data → Option SiteNumber
 site_of value = string_of site_of_text value
+
+-- why an edit is made
+abbrev pub comment_of : Data → Option (List ℕ)
+comment_of value = string_of (kept_if is_comment) value
 
 -- what a station is called, and its zone
 abbrev pub name_of : Data → Option (List ℕ)

@@ -34,6 +34,7 @@ member_text named.Discharge = codes "discharge"
 member_text named.Grade = codes "grade"
 member_text named.Decision = codes "decision"
 member_text named.Least = codes "least"
+member_text named.Comment = codes "comment"
 member_text named.Further = codes "?"
 
 -- the members but the one of that name
@@ -67,6 +68,16 @@ found_or which (Some value) rest = Ok (value, rest)
 abbrev pub required : {A : Type 0} → Member → (Data → Option A) → Reader A
 required name grammar members =
     found_or name (option_and_then grammar (get_member (member_text name) members)) (without (member_text name) members)
+
+-- what is read of a value, or what stands for a missing one
+abbrev pub read_or : {A : Type 0} → A → (Data → Option A) → Option Data → Option A
+read_or missing grammar None = Some missing
+read_or missing grammar (Some value) = grammar value
+
+-- the member of a name, which has to be of its grammar where it is there
+abbrev pub optional : {A : Type 0} → Member → A → (Data → Option A) → Reader A
+optional name missing grammar members =
+    found_or name (read_or missing grammar (get_member (member_text name) members)) (without (member_text name) members)
 
 -- no member is left
 abbrev pub is_none_left : Members → Bool

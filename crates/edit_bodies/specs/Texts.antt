@@ -9,7 +9,7 @@ use Rattle.fixed_units.specs.RoundingArray.{most_decimals}
 abbrev pub is_text_of : ℕ → ℕ → (ℕ → Bool) → List ℕ → Bool
 is_text_of fewest most kind text = nat_le fewest (length text) && nat_le (length text) most && list_all kind text
 
--- the initials of a person, a reference, a name
+-- the initials of a person, a reference, a name, a comment
 abbrev pub are_initials : List ℕ → Bool
 are_initials text = is_text_of 1 8 is_letter text
 
@@ -18,6 +18,9 @@ is_reference text = is_text_of 1 40 (λ code. is_letter code || (is_digit code |
 
 abbrev pub is_name : List ℕ → Bool
 is_name text = is_text_of 1 60 is_printed text
+
+abbrev pub is_comment : List ℕ → Bool
+is_comment text = is_text_of 0 200 is_printed text
 
 -- a rounding array
 abbrev pub is_array : List ℕ → Bool

@@ -7,6 +7,7 @@ ghost use Rattle.edit_bodies.specs.Trees.{left, stated};
 ghost use Rattle.serde_json.specs.Find.{as_object};
 ghost use Rattle.serde_json.specs.Read.{read};
 
+use crate::comments::take_comment;
 use crate::compact_form::compact_edit;
 use crate::faults::BodyFault;
 use crate::grammars::{take_by, take_reference, take_site};
@@ -25,8 +26,8 @@ use std::alloc::Global;
 ///
 /// [`BodyFault::Json`] exactly where the body is no text in JSON with numbers that a float holds and at most 127 levels,
 /// and [`BodyFault::Body`] with the first member that is missing or ill formed: kind, initials, reference, site, then those
-/// of the kind; the kind also where the body is no object, and a further member where all of them are good. Of a member that
-/// comes twice the last counts. [`BodyFault::NoMemory`] may come in place of each answer.
+/// of the kind, and at last the comment, which alone may be missing; the kind also where the body is no object, and a further
+/// member where all of them are good. Of a member that comes twice the last counts. [`BodyFault::NoMemory`] may come in place of each answer.
 pub fn read_edit(alloc: Global, body: &[u8], scratch: &mut Scratch) -> Result<Edit, BodyFault>
     ensures edit { IfOk result (λ edit. edit_of body.now ≡ Ok (parts edit)) }
     ensures json { result ≡ Err BodyFault.Json → edit_of body.now ≡ Err BodyFault.Json }
@@ -103,6 +104,7 @@ fn edit_from(alloc: Global, fields: &mut Fields<'_>) -> Result<Edit, BodyFault>
     let reference = take_reference(fields)?;
     let site = take_site(fields)?;
     let what = take_what(alloc, kind, fields)?;
+    let comment = take_comment(alloc, fields)?;
     if !is_none_left(fields) {
         return Err(BodyFault::Body(Member::Further));
     }
@@ -110,6 +112,7 @@ fn edit_from(alloc: Global, fields: &mut Fields<'_>) -> Result<Edit, BodyFault>
         by,
         reference,
         site,
+        comment,
         what,
     })
 }

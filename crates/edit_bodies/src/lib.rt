@@ -2,6 +2,7 @@
 #![tactic(auto)]
 
 pub mod bodies;
+mod comments;
 mod compact_form;
 mod curve_points;
 mod days;

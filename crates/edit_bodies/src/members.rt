@@ -65,6 +65,8 @@ pub enum Member {
     Decision,
     /// The least cover of an edition.
     Least,
+    /// Why the edit is made, which may be missing.
+    Comment,
     /// A member that no such edit has.
     Further,
 }
@@ -102,6 +104,7 @@ impl Member {
             Member::Grade => "grade",
             Member::Decision => "decision",
             Member::Least => "least",
+            Member::Comment => "comment",
             Member::Further => "?",
         }
     }

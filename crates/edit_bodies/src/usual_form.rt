@@ -59,12 +59,10 @@ pub(crate) fn put_of(sender: &Sender<'_>, readings: ReadingList) -> Option<Edit>
     requires { ArePutReadings readings }
     ensures { IfSome result (StatesPut sender.now readings) }
 {
-    Some(Edit {
-        by: By::new(sender.by.as_bytes())?,
-        reference: Ref::new(sender.reference.as_bytes())?,
-        site: read_site(sender.site.as_bytes())?,
-        what: What::PutReadings { readings },
-    })
+    let by = By::new(sender.by.as_bytes())?;
+    let reference = Ref::new(sender.reference.as_bytes())?;
+    let site = read_site(sender.site.as_bytes())?;
+    Some(Edit::of(by, reference, site, What::PutReadings { readings }))
 }
 
 /// The review of these strings.
@@ -73,12 +71,10 @@ pub(crate) fn review_of(sender: &Sender<'_>, from: &str, to: &str) -> Option<Edi
 {
     let from = day_in(from)?;
     let to = last_day_in(to, from)?;
-    Some(Edit {
-        by: By::new(sender.by.as_bytes())?,
-        reference: Ref::new(sender.reference.as_bytes())?,
-        site: read_site(sender.site.as_bytes())?,
-        what: What::Review { from, to },
-    })
+    let by = By::new(sender.by.as_bytes())?;
+    let reference = Ref::new(sender.reference.as_bytes())?;
+    let site = read_site(sender.site.as_bytes())?;
+    Some(Edit::of(by, reference, site, What::Review { from, to }))
 }
 
 /// The day that a text writes.

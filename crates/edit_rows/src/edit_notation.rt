@@ -1,10 +1,11 @@
-//! Edits as rows have them, read: `INITIALS REFERENCE SITE KIND FIELDS`, a field a word and a name last. An instant is a stamp or `@` and
-//! its seconds, a quantity a decimal or `@` and its millionths; a reading, a point or a row of a rating is one word, with commas.
+//! Edits as rows have them, read: `INITIALS REFERENCE SITE KIND FIELDS`, a field a word and a name last, and behind ` # ` the comment where
+//! there is one. An instant is a stamp or `@` and its seconds, a quantity a decimal or `@` and its millionths; a reading, a point or a row
+//! of a rating is one word, with commas.
 
 use crate::edit_words::{decision_of, flag_of, grade_of, truth_of};
 use civil_days::{read_day, read_instant};
 use curves::Curve;
-use edits::{By, Edit, EditFault, Estimate, Measurement, Name, Ref, What};
+use edits::{By, Comment, Edit, EditFault, Estimate, Measurement, Name, Ref, What};
 use fixed_units::{Micro, Reading, RoundingArray, Second, Text, read_decimal};
 use rating_tables::{SharedTable, Table};
 use ratings::Period;
@@ -15,6 +16,25 @@ use std::alloc::Global;
 
 /// What making the edit of a text answers; `None` where a part of the text is none.
 pub fn made(alloc: Global, text: &str) -> Option<Result<Edit, EditFault>> {
+    match text.split_once(" # ") {
+        Some((edit, comment)) => made_for(made_alone(alloc, edit)?, comment_of(alloc, comment)?),
+        None => made_alone(alloc, text),
+    }
+}
+
+/// The same with the comment.
+fn made_for(made: Result<Edit, EditFault>, comment: Comment) -> Option<Result<Edit, EditFault>> {
+    match made {
+        Ok(edit) => Some(Ok(edit.with_comment(comment))),
+        Err(fault) => Some(Err(fault)),
+    }
+}
+
+fn comment_of(alloc: Global, text: &str) -> Option<Comment> {
+    Comment::new(alloc, text.as_bytes()).ok()?
+}
+
+fn made_alone(alloc: Global, text: &str) -> Option<Result<Edit, EditFault>> {
     let (by, rest) = parted(text);
     let (reference, rest) = parted(rest);
     let (site, rest) = parted(rest);

@@ -1,14 +1,14 @@
 //! Calls of `edits` on the parts of an edit: whether each may be one.
 
-use crate::edit_bytes::push_text;
+use crate::edit_bytes::{push_pieces, push_text};
 use crate::edit_notation::{
     curve_of, estimate_of, instants_of, quantity_of, reading_of, readings_of,
 };
 use crate::edit_words::{grade_of, grade_word, push_two, truth_word};
 use edits::{
-    By, Grade, Name, Ref, are_put_readings, are_settings, is_gap, is_measurement_number, is_name,
-    is_put_curve, is_put_estimate, is_put_point, is_put_reading, is_rating_number,
-    is_reading_count, is_reading_span, is_set_number, is_zone,
+    By, Comment, Grade, Name, Ref, are_put_readings, are_settings, is_comment, is_gap,
+    is_measurement_number, is_name, is_put_curve, is_put_estimate, is_put_point, is_put_reading,
+    is_rating_number, is_reading_count, is_reading_span, is_set_number, is_zone,
 };
 use fixed_units::{Micro, NoMemory, Text};
 use std::alloc::Global;
@@ -17,6 +17,7 @@ use std::alloc::Global;
 pub fn answer(alloc: Global, word: &str, rest: &str, came: &mut Text) -> Result<(), NoMemory> {
     match word {
         "text" => text(alloc, rest, came),
+        "comment" => comment(alloc, rest, came),
         "gap" => push_gap(rest, came),
         "zone" => zone(alloc, rest, came),
         "count" => push_told(is_count(rest), came),
@@ -65,6 +66,14 @@ fn push_names(bytes: &[u8], came: &mut Text) -> Result<(), NoMemory> {
     push_two(By::new(bytes).is_some(), Ref::new(bytes).is_some(), came)?;
     came.push(b' ')?;
     came.push_slice(truth_word(is_name(bytes)))
+}
+
+/// `comment BYTES`: whether they are a comment by its test, and as one.
+fn comment(alloc: Global, text: &str, came: &mut Text) -> Result<(), NoMemory> {
+    let mut bytes = Text::new(alloc);
+    push_pieces(text, &mut bytes)?;
+    let made = Comment::new(alloc, bytes.as_slice())?;
+    push_two(is_comment(bytes.as_slice()), made.is_some(), came)
 }
 
 /// `gap MINUTES`: whether it is a gap tolerance, alone and among the settings of a station.

@@ -12,7 +12,17 @@ use site_texts::write_site;
 /// Writes an edit.
 pub fn push_edit(edit: &Edit, came: &mut Text) -> Result<(), NoMemory> {
     push_sender(edit, came)?;
-    push_what(&edit.what, came)
+    push_what(&edit.what, came)?;
+    push_comment(edit.comment.as_slice(), came)
+}
+
+/// Writes a comment, where it is not empty.
+fn push_comment(comment: &[u8], came: &mut Text) -> Result<(), NoMemory> {
+    if comment.is_empty() {
+        return Ok(());
+    }
+    push_word(b"#", came)?;
+    push_word(comment, came)
 }
 
 /// Writes whose edit it is, under which reference and of which site.

@@ -16,9 +16,10 @@ use Rattle.rating_tables.specs.RowEquality.{same_rows}
 use Rattle.ratings.specs.Spans.{Span}
 use Rattle.readings.specs.Equality.{same_flag, same_readings}
 
--- sent by the same person, under the same reference and about the same site
+-- sent by the same person, under the same reference, about the same site and with the same comment
 abbrev pub are_sent_alike : Edit → Edit → Bool
-are_sent_alike a b = bytes_eq a.by b.by && (bytes_eq a.reference b.reference && same_site a.site b.site)
+are_sent_alike a b =
+    bytes_eq a.by b.by && (bytes_eq a.reference b.reference && (same_site a.site b.site && bytes_eq a.comment b.comment))
 
 -- the ends are one, or there is none
 abbrev pub same_end : Option ℤ → Option ℤ → Bool

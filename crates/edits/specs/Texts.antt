@@ -23,6 +23,11 @@ pub record IsReference (text : List ℕ) : Type 0 where
   pub longest : length text ≤ 40
   pub codes : All (λ code. (is_letter code || (is_digit code || (code == 45))) ≡ true) text
 
+-- a comment is at most 200 characters from space to tilde
+pub record IsComment (text : List ℕ) : Type 0 where
+  pub longest : length text ≤ 200
+  pub codes : All (λ code. is_printed code ≡ true) text
+
 -- a name is 1 to 60 characters from space to tilde
 pub record IsName (text : List ℕ) : Type 0 where
   pub shortest : 1 ≤ length text

@@ -1,8 +1,10 @@
-//! An edit: what it changes, of which station, by whom and under which reference.
+//! An edit: what it changes, of which station, by whom, under which reference and why.
 
+ghost use Rattle.std.specs.Prelude.{◌≡◌};
 ghost use Rattle.edits.specs.Lawful.{IsLawful};
 ghost use Rattle.edits.specs.Single.{IsLawful-prop};
 
+use crate::comments::Comment;
 use crate::decisions::Decision;
 use crate::estimates::Estimate;
 use crate::measurements::Measurement;
@@ -163,9 +165,34 @@ pub struct Edit {
     pub reference: Ref,
     /// The site whose record it changes.
     pub site: Site,
+    /// Why it was made. Nothing that an edit does depends on it.
+    pub comment: Comment,
     /// What it changes.
     pub what: What,
     ghost lawful: { IsLawful what } by { IsLawful-prop what },
+}
+
+impl Edit {
+    /// The same edit with this comment in place of its own.
+    pub fn with_comment(self, comment: Comment) -> Edit
+        ensures parts { (result.by ≡ self.by) × (result.reference ≡ self.reference) × (result.site ≡ self.site) × (result.what ≡ self.what) }
+        ensures comment { result.comment ≡ comment }
+    {
+        let Edit {
+            by,
+            reference,
+            site,
+            comment: _comment,
+            what,
+        } = self;
+        Edit {
+            by,
+            reference,
+            site,
+            comment,
+            what,
+        }
+    }
 }
 
 /// By hand, so that a drop is one call wherever an edit is dropped, and not one path for each kind of edit.
@@ -175,6 +202,7 @@ impl Drop for Edit {
             by: _,
             reference: _,
             site: _,
+            comment: _comment,
             what: _what,
         } = self;
     }

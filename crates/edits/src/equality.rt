@@ -25,14 +25,15 @@ impl Edit {
     }
 }
 
-/// Whether both are sent by the same person, under the same reference and about the same site.
+/// Whether both are sent by the same person, under the same reference, about the same site and with the same comment.
 fn are_sent_alike(edit: &Edit, other: &Edit) -> bool
     ensures same { result ≡ are_sent_alike edit.now other.now }
-    ensures equal { result ≡ true ↔ (edit.now.by ≡ other.now.by) × (edit.now.reference ≡ other.now.reference) × (edit.now.site ≡ other.now.site) }
+    ensures equal { result ≡ true ↔ (edit.now.by ≡ other.now.by) × (edit.now.reference ≡ other.now.reference) × (edit.now.site ≡ other.now.site) × (edit.now.comment ≡ other.now.comment) }
 {
     edit.by.as_slice() == other.by.as_slice()
         && edit.reference.as_slice() == other.reference.as_slice()
         && edit.site.is_at(other.site)
+        && edit.comment.as_slice() == other.comment.as_slice()
 }
 
 /// Whether both change the same.

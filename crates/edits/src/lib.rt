@@ -2,6 +2,7 @@
 //! what they are lawful by, and whether two are the same.
 #![tactic(auto)]
 
+pub mod comments;
 pub mod content;
 pub mod decisions;
 pub mod equality;
@@ -13,6 +14,7 @@ pub mod measurements;
 pub mod names;
 pub mod senders;
 
+pub use comments::{Comment, is_comment};
 pub use content::{Edit, What};
 pub use decisions::Decision;
 pub use estimates::Estimate;

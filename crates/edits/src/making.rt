@@ -1,6 +1,6 @@
 //! How an edit is made: whether what it changes is lawful is tested here, whole and by its members.
 
-ghost use Rattle.std.specs.Prelude.{◌≡◌, ◌↔◌, true, ◌≤◌, ◌&&◌, int_lt, length, IfOk, IfErr, IfSome, OnErr, All};
+ghost use Rattle.std.specs.Prelude.{◌≡◌, ◌↔◌, [], true, ◌≤◌, ◌&&◌, int_lt, length, IfOk, IfErr, IfSome, OnErr, All};
 ghost use Rattle.civil_days.specs.Starts.{IsZone};
 ghost use Rattle.editions.specs.Covers.{IsLeastCover};
 ghost use Rattle.edits.specs.Faults.{AddsStation, IsEditFault};
@@ -9,6 +9,7 @@ ghost use Rattle.fixed_units.specs.Quantities.{IsDay, IsStamp, is_stage, is_stam
 ghost use Rattle.rating_tables.specs.Table.{IsRating};
 ghost use Rattle.readings.specs.Readings.{IsRising};
 
+use crate::comments::Comment;
 use crate::content::{Edit, What};
 use crate::estimates::Estimate;
 use crate::faults::EditFault;
@@ -26,20 +27,22 @@ use ratings::{Period, SharedTable};
 use std::alloc::Global;
 
 impl Edit {
-    /// The edit of these parts, of which what it changes is known to be lawful.
+    /// The edit of these parts, of which what it changes is known to be lawful, with an empty comment.
     pub fn of(by: By, reference: Ref, site: Site, what: What) -> Edit
         requires { IsLawful what }
-        ensures { (result.by ≡ by) × (result.reference ≡ reference) × (result.site ≡ site) × (result.what ≡ what) }
+        ensures parts { (result.by ≡ by) × (result.reference ≡ reference) × (result.site ≡ site) × (result.what ≡ what) }
+        ensures comment { result.comment ≡ [] }
     {
         Edit {
             by,
             reference,
             site,
+            comment: Comment::empty(),
             what,
         }
     }
 
-    /// The edit of these parts.
+    /// The edit of these parts, with an empty comment.
     ///
     /// # Errors
     ///
@@ -53,6 +56,7 @@ impl Edit {
         what: What,
     ) -> Result<Edit, EditFault>
         ensures parts { IfOk result (λ edit. (edit.by ≡ by) × (edit.reference ≡ reference) × (edit.site ≡ site) × (edit.what ≡ what)) }
+        ensures comment { IfOk result (λ edit. edit.comment ≡ []) }
         ensures lawful { IfOk result (λ edit. IsLawful what) }
         ensures fault { IfErr result (IsEditFault what) }
     {

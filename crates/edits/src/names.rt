@@ -73,7 +73,7 @@ pub fn is_name(text: &[u8]) -> bool
 }
 
 /// Whether each byte is a character from space to `~`.
-fn are_printed(bytes: &[u8]) -> bool
+pub(crate) fn are_printed(bytes: &[u8]) -> bool
     ensures { result ≡ true ↔ All (λ code. is_printed code ≡ true) bytes.now }
 {
     bytes.iter().all(|code| (b' '..=b'~').contains(code))

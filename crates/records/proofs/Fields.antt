@@ -7,8 +7,10 @@ use Rattle.std.proofs.lemmas.Int.{to_z-of_z, of_z-to_z, ints}
 use Rattle.std.proofs.lemmas.List.{take_at, drop_at, take-append-drop, length-append, length-take, get_or-drop, get_or-take, get_or_past}
 use Rattle.std.proofs.lemmas.Nat.{le_bytes_4, le_bytes_8, from_le_bytes-to_le_bytes_4, from_le_bytes-to_le_bytes_8}
 use Rattle.fixed_units.specs.Quantities.{SiteNumber}
-use Rattle.records.specs.Payloads.{short_text, signed_number, day_number, site_number}
-use Rattle.records.specs.Parsing.{◌>>=◌, both_at, made_at, byte_at, number_at, front_at, short_text_at, signed_number_at, day_at, site_number_at}
+use Rattle.records.specs.declared.formats.Format.{Format}
+use Rattle.records.specs.declared.formats.Format.TheVariants.{First, Second}
+use Rattle.records.specs.Payloads.{short_text, comment_bytes, Holds, signed_number, day_number, site_number}
+use Rattle.records.specs.Parsing.{◌>>=◌, both_at, made_at, byte_at, number_at, front_at, short_text_at, comment_at, signed_number_at, day_at, site_number_at}
 
 abbrev pub IsBytes : List ℕ → Type 0
 IsBytes bytes = (i : ℕ) → get_or bytes i 0 < 256
@@ -214,6 +216,29 @@ short_text_again text rest = rw (byte_again (length text) (text ++ rest)) (front
 
 pub short_reads : Reads (List ℕ) short_text_at short_text IsAny
 short_reads = record { takes = short_text_takes; again = λ text rest fits. short_text_again text rest }
+
+-- a comment in a format, which holds it
+no_comment : (bytes text rest : List ℕ) → comment_at First bytes ≡ Some (text, rest) → ([] ≡ text) × (bytes ≡ rest)
+no_comment bytes text rest e =
+    let same = some_is {A = List ℕ × List ℕ} ([], bytes) (text, rest) e in
+    (ap (λ (p : List ℕ × List ℕ). p.0) same, ap (λ (p : List ℕ × List ℕ). p.1) same)
+
+comment_takes : (format : Format) (bytes text rest : List ℕ) → IsBytes bytes → comment_at format bytes ≡ Some (text, rest) → Takes bytes (comment_bytes format text) rest
+comment_takes First bytes text rest fits e =
+    let same = (no_comment bytes text rest e).1 in
+    record { parts = same; rest_fits = subst IsBytes same fits }
+comment_takes Second bytes text rest fits e = short_text_takes bytes text rest fits e
+
+comment_again : (format : Format) (text rest : List ℕ) → Holds format text → comment_at format (comment_bytes format text ++ rest) ≡ Some (text, rest)
+comment_again First text rest empty = ap (λ (t : List ℕ). Some (t, rest)) (sym empty)
+comment_again Second text rest holds = short_text_again text rest
+
+pub comment_reads : (format : Format) → Reads (List ℕ) (comment_at format) (comment_bytes format) (Holds format)
+comment_reads format = record { takes = comment_takes format; again = comment_again format }
+
+pub comment_held : (format : Format) (bytes text rest : List ℕ) → comment_at format bytes ≡ Some (text, rest) → Holds format text
+comment_held First bytes text rest e = sym (no_comment bytes text rest e).0
+comment_held Second bytes text rest e = tt
 
 abbrev site_of : ℕ × ℕ → SiteNumber
 site_of s = record { digits = s.0; value = s.1 }

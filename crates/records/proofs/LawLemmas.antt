@@ -1,6 +1,6 @@
 -- The laws of the spelling: lengths, bytes, and that no record begins another.
 use Rattle.std.proofs.Common.{◌≡◌, ℕ, ◌+◌, ◌^◌, ◌<◌, ◌≤◌, ◌%◌, ◌/◌, List, true, ◌||◌, get_or, [], ◌∷◌, ◌++◌, length, take, drop, Option, Some, refl, sym, ap, subst, ◌∙◌, length-append, arith, w64}
-use Rattle.std.specs.Prelude.{ℤ, Bool, false, All, ◌==◌, flat_map}
+use Rattle.std.specs.Prelude.{◌↔◌, ℤ, Bool, false, All, ◌==◌, flat_map}
 use Rattle.std.specs.Int.{w32, to_le_bytes, cast_unsigned}
 use Rattle.std.specs.List.{list_all}
 use Rattle.std.specs.Char.{is_ascii_digit}
@@ -12,7 +12,7 @@ use Rattle.std.proofs.lemmas.List.Elements.{All-nil, All-cons, All-append, All-h
 use Rattle.edits.specs.Decisions.{decision_number}
 use Rattle.edits.specs.Grades.{grade_number}
 use Rattle.edits.specs.Lawful.{IsLawful}
-use Rattle.edits.specs.Texts.{is_letter, is_digit, is_printed, AreInitials, IsReference, IsName}
+use Rattle.edits.specs.Texts.{is_letter, is_digit, is_printed, AreInitials, IsComment, IsReference, IsName}
 use Rattle.edits.specs.declared.content.What.{What}
 use Rattle.edits.specs.declared.content.What.TheVariants.{AddStation, SetStation, PutReadings, DropReadings, FlagReadings, PutCorrection, DropCorrection, PutShift, DropShift, AddRating, PutPeriod, DropPeriod, PutEstimate, DropEstimate, PutMeasurement, DropMeasurement, Review, Decide, SetEdition}
 use Rattle.edits.specs.declared.decisions.Decision.TheVariants.{Approve}
@@ -22,7 +22,9 @@ use Rattle.fixed_units.specs.RoundingArray.{IsRoundingArray}
 use Rattle.fixed_units.specs.declared.readings.Flag.{Flag}
 use Rattle.fixed_units.specs.declared.readings.Flag.TheVariants.{Usable, Erroneous, Affected}
 use Rattle.fixed_units.specs.declared.readings.Reading.{Reading}
-use Rattle.records.specs.Payloads.{short_text, signed_number, site_number, flag_number, reading_bytes, point_bytes, curve_bytes, mark_number, entry_bytes, table_bytes, end_bytes, day_number, least_bytes, measurement_bytes, kind, fields, edit_bytes, sheet_bytes, longest_fields, longest_payload, payload, encoded, IsInGrammar}
+use Rattle.records.specs.declared.formats.Format.{Format}
+use Rattle.records.specs.declared.formats.Format.TheVariants.{First, Second}
+use Rattle.records.specs.Payloads.{short_text, comment_bytes, signed_number, site_number, flag_number, reading_bytes, point_bytes, curve_bytes, mark_number, entry_bytes, table_bytes, end_bytes, day_number, least_bytes, measurement_bytes, kind, fields, edit_bytes, sheet_bytes, longest_fields, longest_payload, payload, encoded, IsInGrammar}
 use Rattle.records.specs.Parsing.{number_at}
 use Rattle.records.specs.Sheets.{AreSheetsOf}
 use Rattle.records.specs.Sheets.{Record}
@@ -71,14 +73,24 @@ few_behind (Decide from to Approve) sheets law are =
 few_behind what sheets law none =
     omega (arith, few_fields what law, ap (λ (s : List (List ℕ)). length (flat_map sheet_bytes s)) none)
 
-pub few_bytes : (piece : Record) → IsInGrammar piece → length (payload piece) ≤ longest_payload
-few_bytes piece g =
+few_of_comment : (format : Format) (comment : List ℕ) → IsComment comment → length (comment_bytes format comment) ≤ 201
+few_of_comment First comment is = omega arith
+few_of_comment Second comment is = omega (arith, is.longest)
+
+-- a record of the one format has a payload within the bound in the other one too
+pub few_bytes_as : (format : Format) (other : Format) (piece : Record) → IsInGrammar other piece → length (payload format piece) ≤ longest_payload
+few_bytes_as format other piece g =
     let e = piece.edit in
+    let front = short_text e.by ++ short_text e.reference ++ site_number e.site in
     let a = length-append (short_text e.by) (short_text e.reference) in
     let b = length-append (short_text e.by ++ short_text e.reference) (site_number e.site) in
-    let c = length-append (short_text e.by ++ short_text e.reference ++ site_number e.site) (fields e.what) in
-    let d = length-append (edit_bytes e) (flat_map sheet_bytes piece.sheets) in
-    omega (arith, a, b, c, d, few_behind e.what piece.sheets e.lawful g.sheets, g.initials.longest, g.code.longest)
+    let c = length-append front (comment_bytes format e.comment) in
+    let d = length-append (front ++ comment_bytes format e.comment) (fields e.what) in
+    let s = length-append (edit_bytes format e) (flat_map sheet_bytes piece.sheets) in
+    omega (arith, a, b, c, d, s, few_of_comment format e.comment g.comment, few_behind e.what piece.sheets e.lawful g.sheets, g.initials.longest, g.code.longest)
+
+pub few_bytes : (format : Format) (piece : Record) → IsInGrammar format piece → length (payload format piece) ≤ longest_payload
+few_bytes format piece g = few_bytes_as format format piece g
 
 -- ---- bytes
 
@@ -118,6 +130,10 @@ reference_bytes text is = All-cons is_byte (length text) text (omega (arith, is.
 
 name_bytes : (text : List ℕ) → IsName text → All is_byte (short_text text)
 name_bytes text is = All-cons is_byte (length text) text (omega (arith, is.longest)) (λ k d lt. printed_byte (get_or text k d) (is.codes k d lt))
+
+comment_is_bytes : (format : Format) (text : List ℕ) → IsComment text → All is_byte (comment_bytes format text)
+comment_is_bytes First text is = All-nil is_byte
+comment_is_bytes Second text is = All-cons is_byte (length text) text (omega (arith, is.longest)) (λ k d lt. printed_byte (get_or text k d) (is.codes k d lt))
 
 site_bytes : (site : SiteNumber) → IsSite site → All is_byte (site_number site)
 site_bytes site is = All-cons is_byte site.digits (to_le_bytes w64 site.value) (omega (arith, is.longest)) (bytes_64 site.value)
@@ -226,18 +242,33 @@ kind_byte : (what : What) → kind what < 256
 kind_byte (AddStation name zone gap stages discharges) = omega arith
 kind_byte _ = omega arith
 
-payload_bytes : (piece : Record) → IsInGrammar piece → All (All is_byte) piece.sheets → All is_byte (payload piece)
-payload_bytes piece g texts =
+payload_bytes : (format : Format) (piece : Record) → IsInGrammar format piece → All (All is_byte) piece.sheets → All is_byte (payload format piece)
+payload_bytes format piece g texts =
     let e = piece.edit in
     let first = All-cons is_byte (kind e.what) (short_text e.by) (kind_byte e.what) (by_bytes e.by g.initials) in
     let a = All-append is_byte (kind e.what ∷ short_text e.by) (short_text e.reference) first (reference_bytes e.reference g.code) in
     let b = All-append is_byte (kind e.what ∷ short_text e.by ++ short_text e.reference) (site_number e.site) a (site_bytes e.site g.station) in
-    let c = All-append is_byte (kind e.what ∷ short_text e.by ++ short_text e.reference ++ site_number e.site) (fields e.what) b (fields_are_bytes e.what e.lawful) in
-    All-append is_byte (edit_bytes e) (flat_map sheet_bytes piece.sheets) c (sheets_are_bytes piece.sheets texts)
+    let c = All-append is_byte (kind e.what ∷ short_text e.by ++ short_text e.reference ++ site_number e.site) (comment_bytes format e.comment) b (comment_is_bytes format e.comment g.comment) in
+    let d = All-append is_byte (kind e.what ∷ short_text e.by ++ short_text e.reference ++ site_number e.site ++ comment_bytes format e.comment) (fields e.what) c (fields_are_bytes e.what e.lawful) in
+    All-append is_byte (edit_bytes format e) (flat_map sheet_bytes piece.sheets) d (sheets_are_bytes piece.sheets texts)
 
-pub encoded_bytes : (piece : Record) → IsInGrammar piece → All (All is_byte) piece.sheets → All is_byte (encoded piece)
-encoded_bytes piece g texts =
-    All-append is_byte (to_le_bytes w32 (length (payload piece))) (payload piece) (bytes_32 (length (payload piece))) (payload_bytes piece g texts)
+pub encoded_bytes : (format : Format) (piece : Record) → IsInGrammar format piece → All (All is_byte) piece.sheets → All is_byte (encoded format piece)
+encoded_bytes format piece g texts =
+    let bytes = payload format piece in
+    All-append is_byte (to_le_bytes w32 (length bytes)) bytes (bytes_32 (length bytes)) (payload_bytes format piece g texts)
+
+-- ---- what the formats hold
+
+in_second : (piece : Record) → IsInGrammar First piece → IsInGrammar Second piece
+in_second piece g =
+    record { initials = g.initials; code = g.code; station = g.station; comment = g.comment; holds = tt; sheets = g.sheets }
+
+in_first : (piece : Record) → IsInGrammar Second piece → piece.edit.comment ≡ [] → IsInGrammar First piece
+in_first piece g empty =
+    record { initials = g.initials; code = g.code; station = g.station; comment = g.comment; holds = empty; sheets = g.sheets }
+
+pub formats_held : (piece : Record) → IsInGrammar First piece ↔ IsInGrammar Second piece × (piece.edit.comment ≡ [])
+formats_held piece = (λ g. (in_second piece g, g.holds), λ both. in_first piece both.0 both.1)
 
 -- ---- none begins another
 
@@ -260,9 +291,9 @@ prefix_free p q x y short-p short-q e =
       sym (drop_at p x (length p) refl) ∙ rests ∙ drop_at q y (length p) (sym same.0),
     )
 
-pub no_prefix : (a b : Record) (x y : List ℕ) → IsInGrammar a → IsInGrammar b → encoded a ++ x ≡ encoded b ++ y → (a ≡ b) × (x ≡ y)
-no_prefix a b x y g h e =
-    let fits-a : length (payload a) < 2 ^ 32 = omega (arith, few_bytes a g) in
-    let fits-b : length (payload b) < 2 ^ 32 = omega (arith, few_bytes b h) in
-    let same = prefix_free (payload a) (payload b) x y fits-a fits-b e in
-    (one_record a b g h same.0, same.1)
+pub no_prefix : (format : Format) (a b : Record) (x y : List ℕ) → IsInGrammar format a → IsInGrammar format b → encoded format a ++ x ≡ encoded format b ++ y → (a ≡ b) × (x ≡ y)
+no_prefix format a b x y g h e =
+    let fits-a : length (payload format a) < 2 ^ 32 = omega (arith, few_bytes format a g) in
+    let fits-b : length (payload format b) < 2 ^ 32 = omega (arith, few_bytes format b h) in
+    let same = prefix_free (payload format a) (payload format b) x y fits-a fits-b e in
+    (one_record format a b g h same.0, same.1)

@@ -1,7 +1,7 @@
 -- The parts of a payload that is a record's.
 use Rattle.std.specs.Prelude.{◌≡◌, ℕ, List, length, flat_map, All}
 use Rattle.edits.specs.Lawful.{IsLawful}
-use Rattle.edits.specs.Texts.{AreInitials, IsReference}
+use Rattle.edits.specs.Texts.{AreInitials, IsComment, IsReference}
 use Rattle.edits.specs.declared.content.What.{What}
 use Rattle.edits.specs.declared.content.What.TheVariants.{AddStation, SetStation, PutReadings, DropReadings, FlagReadings, PutCorrection, DropCorrection, PutShift, DropShift, AddRating, PutPeriod, DropPeriod, PutEstimate, DropEstimate, PutMeasurement, DropMeasurement, Review, Decide, SetEdition}
 use Rattle.edits.specs.declared.estimates.Estimate.{Estimate}
@@ -58,7 +58,7 @@ what_of (Edition day least) = SetEdition day least
 -- the parts that a draft lends
 abbrev pub parts : Draft → Parts
 parts d =
-    record { by = d.by.now; reference = d.reference.now; site = record { digits = d.digits; value = d.value }; what = what_of d.fields; behind = d.behind.now }
+    record { by = d.by.now; reference = d.reference.now; site = record { digits = d.digits; value = d.value }; comment = d.comment.now; what = what_of d.fields; behind = d.behind.now }
 
 -- the bytes are so many sheets
 pub record AreSheets (count : ℕ) (bytes : List ℕ) : Type 0 where
@@ -78,6 +78,7 @@ pub record AreLawful (p : Parts) : Type 0 where
   pub by_range : AreInitials p.by
   pub reference_range : IsReference p.reference
   pub site_range : IsSite p.site
+  pub comment_range : IsComment p.comment
   pub what_range : IsLawful p.what
   pub sheets_behind : HasSheets p.what p.behind
 
@@ -86,6 +87,7 @@ pub record HasParts (piece : Record) (p : Parts) : Type 0 where
   pub by_is : piece.edit.by ≡ p.by
   pub reference_is : piece.edit.reference ≡ p.reference
   pub site_is : piece.edit.site ≡ p.site
+  pub comment_is : piece.edit.comment ≡ p.comment
   pub what_is : piece.edit.what ≡ p.what
   pub sheets_are : p.behind ≡ flat_map sheet_bytes piece.sheets
   pub sheets_kept : AreSheetsOf piece.edit.what piece.sheets

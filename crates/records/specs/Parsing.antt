@@ -16,12 +16,15 @@ use Rattle.fixed_units.specs.declared.readings.Flag.TheVariants.{Usable, Erroneo
 use Rattle.fixed_units.specs.declared.readings.Reading.{Reading}
 use Rattle.rating_tables.specs.Table.{Row}
 use Rattle.records.specs.Sheets.{most_sheet_bytes}
+use Rattle.records.specs.declared.formats.Format.{Format}
+use Rattle.records.specs.declared.formats.Format.TheVariants.{First, Second}
 
 -- the parts of a payload as they stand, whatever their ranges, and the bytes behind them
 pub record Parts : Type 0 where
   pub by : List ℕ
   pub reference : List ℕ
   pub site : SiteNumber
+  pub comment : List ℕ
   pub what : What
   pub behind : List ℕ
 
@@ -64,6 +67,11 @@ site_number_at bytes = made_at (λ s. record { digits = s.0; value = s.1 }) (bot
 -- who makes an edit, under which reference, of which station
 unfoldable pub sender_at : List ℕ → Option ((List ℕ × (List ℕ × SiteNumber)) × List ℕ)
 sender_at bytes = both_at short_text_at (both_at short_text_at site_number_at) bytes
+
+-- why an edit was made: the first format does not say it
+abbrev pub comment_at : Format → List ℕ → Option (List ℕ × List ℕ)
+comment_at First bytes = Some ([], bytes)
+comment_at Second bytes = short_text_at bytes
 
 -- a gap tolerance and two rounding arrays
 unfoldable pub arrays_at : List ℕ → Option ((ℕ × (List ℕ × List ℕ)) × List ℕ)
@@ -335,10 +343,11 @@ fields_of kinds.SetEdition bytes = edition_at bytes
 unfoldable pub fields_at : ℕ → List ℕ → Option (What × List ℕ)
 fields_at number bytes = kind_numbered number >>= λ kind. fields_of kind bytes
 
--- the parts of a payload, and what stands behind them
-unfoldable pub parts_at : List ℕ → Option Parts
-parts_at bytes = do
+-- the parts of a payload in a format, and what stands behind them
+unfoldable pub parts_at : Format → List ℕ → Option Parts
+parts_at format bytes = do
   kind ← byte_at bytes
   sender ← sender_at kind.1
-  what ← fields_at kind.0 sender.1
-  Some (record { by = sender.0.0; reference = sender.0.1.0; site = sender.0.1.1; what = what.0; behind = what.1 })
+  comment ← comment_at format sender.1
+  what ← fields_at kind.0 comment.1
+  Some (record { by = sender.0.0; reference = sender.0.1.0; site = sender.0.1.1; comment = comment.0; what = what.0; behind = what.1 })

@@ -1,10 +1,10 @@
 -- The bytes of a record, one spelling for each. Numbers stand with their lowest byte first.
-use Rattle.std.specs.Prelude.{ℕ, Bool, true, false, List, [], ◌∷◌, ◌++◌, length, flat_map, Option, Some, None, ℤ}
+use Rattle.std.specs.Prelude.{◌≡◌, ℕ, Bool, true, false, List, [], ◌∷◌, ◌++◌, length, flat_map, Option, Some, None, ℤ}
 use Rattle.std.specs.Int.{w32, w64, to_le_bytes, cast_unsigned}
 use Rattle.edits.specs.Decisions.{decision_number}
 use Rattle.edits.specs.Grades.{grade_number}
 use Rattle.edits.specs.Kinds.{kind_number, kind_of}
-use Rattle.edits.specs.Texts.{AreInitials, IsReference}
+use Rattle.edits.specs.Texts.{AreInitials, IsComment, IsReference}
 use Rattle.edits.specs.declared.content.Edit.{Edit}
 use Rattle.edits.specs.declared.content.What.{What}
 use Rattle.edits.specs.declared.content.What.TheVariants.{AddStation, SetStation, PutReadings, DropReadings, FlagReadings, PutCorrection, DropCorrection, PutShift, DropShift, AddRating, PutPeriod, DropPeriod, PutEstimate, DropEstimate, PutMeasurement, DropMeasurement, Review, Decide, SetEdition}
@@ -17,6 +17,8 @@ use Rattle.fixed_units.specs.declared.readings.Reading.{Reading}
 use Rattle.rating_tables.specs.Table.{Row}
 use Rattle.ratings.specs.Spans.{Span}
 use Rattle.records.specs.Sheets.{AreSheetsOf, Record}
+use Rattle.records.specs.declared.formats.Format.{Format}
+use Rattle.records.specs.declared.formats.Format.TheVariants.{First, Second}
 
 -- a byte of length, and that many bytes
 abbrev pub short_text : List ℕ → List ℕ
@@ -114,44 +116,57 @@ fields (Review from to) = day_number from ++ day_number to
 fields (Decide from to decision) = day_number from ++ (day_number to ++ decision_number decision ∷ [])
 fields (SetEdition day least) = day_number day ++ least_bytes least
 
--- an edit: its kind, who makes it, under which reference, of which station, and the fields of its kind
-abbrev pub edit_bytes : Edit → List ℕ
-edit_bytes edit = kind edit.what ∷ short_text edit.by ++ short_text edit.reference ++ site_number edit.site ++ fields edit.what
+-- a comment: the first format has none
+abbrev pub comment_bytes : Format → List ℕ → List ℕ
+comment_bytes First comment = []
+comment_bytes Second comment = short_text comment
+
+-- a format holds a comment: the first only where it is empty
+abbrev pub Holds : Format → List ℕ → Type 0
+Holds First comment = comment ≡ []
+Holds Second comment = Unit {0}
+
+-- an edit in a format: its kind, who makes it, under which reference, of which station, why, and the fields of its kind
+abbrev pub edit_bytes : Format → Edit → List ℕ
+edit_bytes format edit =
+    kind edit.what ∷ short_text edit.by ++ short_text edit.reference ++ site_number edit.site ++ comment_bytes format edit.comment ++ fields edit.what
 
 -- a sheet: its length in four bytes, and its bytes
 abbrev pub sheet_bytes : List ℕ → List ℕ
 sheet_bytes sheet = to_le_bytes w32 (length sheet) ++ sheet
 
--- a payload: the edit, and behind it the sheets of an approval
-abbrev pub payload : Record → List ℕ
-payload piece = edit_bytes piece.edit ++ flat_map sheet_bytes piece.sheets
+-- a payload in a format: the edit, and behind it the sheets of an approval
+abbrev pub payload : Format → Record → List ℕ
+payload format piece = edit_bytes format piece.edit ++ flat_map sheet_bytes piece.sheets
 
 -- a payload has at most so many bytes
 abbrev pub most_payload : ℕ
 most_payload = 8_388_608
 
--- the most that the fields and a whole payload have: those of 100,000 readings
+-- the most that the fields and a whole payload have: those of 100,000 readings, with the longest comment
 abbrev pub longest_fields : ℕ
 longest_fields = 1_700_004
 
 abbrev pub longest_payload : ℕ
-longest_payload = 1_700_064
+longest_payload = 1_700_265
 
 -- the length of the payload in four bytes, and the payload
-abbrev pub encoded : Record → List ℕ
-encoded piece = to_le_bytes w32 (length (payload piece)) ++ payload piece
+abbrev pub encoded : Format → Record → List ℕ
+encoded format piece = to_le_bytes w32 (length (payload format piece)) ++ payload format piece
 
 -- a record as it is added to a journal: with a closed gate behind it
 abbrev pub closed_gate : ℕ
 closed_gate = 0
 
-abbrev pub encoded_and_closed : Record → List ℕ
-encoded_and_closed piece = encoded piece ++ closed_gate ∷ []
+abbrev pub encoded_and_closed : Format → Record → List ℕ
+encoded_and_closed format piece = encoded format piece ++ closed_gate ∷ []
 
--- a record in the grammar: each part of its edit keeps to its range, what that changes is lawful, as with every edit, and the record has
--- the sheets that it has to have
-pub record IsInGrammar (piece : Record) : Type 0 where
+-- a record in the grammar of a format: each part of its edit keeps to its range, the format holds its comment, what it changes is lawful,
+-- as with every edit, and the record has the sheets that it has to have
+pub record IsInGrammar (format : Format) (piece : Record) : Type 0 where
   pub initials : AreInitials piece.edit.by
   pub code : IsReference piece.edit.reference
   pub station : IsSite piece.edit.site
+  pub comment : IsComment piece.edit.comment
+  pub holds : Holds format piece.edit.comment
   pub sheets : AreSheetsOf piece.edit.what piece.sheets

@@ -2,7 +2,7 @@
 
 ghost use Rattle.std.specs.Prelude.{◌≡◌, ◌↔◌, true, IfOk, OnErr};
 ghost use Rattle.edits.specs.Lawful.{IsLawful, AreSettings, IsStationZone};
-ghost use Rattle.edits.specs.Texts.{AreInitials, IsName, IsReference};
+ghost use Rattle.edits.specs.Texts.{AreInitials, IsComment, IsName, IsReference};
 ghost use Rattle.edits.specs.declared.content.What.TheVariants.{AddStation, SetStation};
 ghost use Rattle.fixed_units.specs.Quantities.{IsSite};
 ghost use Rattle.fixed_units.specs.RoundingArray.{IsRoundingArray};
@@ -25,8 +25,8 @@ use crate::reading_drafts::{
 use crate::review_drafts::{decided_from, is_review, review_from};
 use crate::sheet_drafts::{has_sheets, sheets_from};
 use edits::{
-    By, Decision, Edit, Name, Ref, What, are_settings, is_measurement_number, is_rating_number,
-    is_set_number, is_zone,
+    By, Comment, Decision, Edit, Name, Ref, What, are_settings, is_comment, is_measurement_number,
+    is_rating_number, is_set_number, is_zone,
 };
 use fixed_units::{Day, Flag, NoMemory, RoundingArray, Site, Text, is_stamp};
 use std::alloc::Global;
@@ -38,6 +38,8 @@ pub(crate) struct Draft<'a> {
     pub(crate) reference: &'a [u8],
     pub(crate) digits: u8,
     pub(crate) value: u64,
+    /// The comment, which is empty in the first format.
+    pub(crate) comment: &'a [u8],
     pub(crate) fields: Fields<'a>,
     /// The bytes behind the fields: the sheets of an approval, and else none.
     pub(crate) behind: &'a [u8],
@@ -136,7 +138,7 @@ pub(crate) fn is_lawful(alloc: Global, draft: &Draft<'_>) -> Result<bool, NoMemo
     ensures told { IfOk result (λ lawful. lawful ≡ true ↔ AreLawful (parts draft.now)) }
     ensures memory { OnErr result (AreLawful (parts draft.now)) }
 {
-    if !is_sender(draft) || !has_sheets(&draft.fields, draft.behind) {
+    if !is_sender(draft) || !is_comment(draft.comment) || !has_sheets(&draft.fields, draft.behind) {
         return Ok(false);
     }
     are_lawful(alloc, &draft.fields)
@@ -215,13 +217,23 @@ pub(crate) fn record_from(alloc: Global, draft: &Draft<'_>) -> Result<Record, No
 {
     let what = what_from(alloc, &draft.fields)?;
     let sheets = sheets_from(alloc, &draft.fields, draft.behind)?;
+    let comment = comment_from(alloc, draft.comment)?;
     let edit = Edit {
         by: By::new(draft.by).unwrap(),
         reference: Ref::new(draft.reference).unwrap(),
         site: Site::new(draft.digits, draft.value).unwrap(),
+        comment,
         what,
     };
     Ok(Record::of(edit, sheets))
+}
+
+/// The comment of these bytes.
+fn comment_from(alloc: Global, bytes: &[u8]) -> Result<Comment, NoMemory>
+    requires { IsComment bytes.now }
+    ensures { IfOk result (λ comment. comment ≡ bytes.now) }
+{
+    Ok(Comment::new(alloc, bytes)?.unwrap())
 }
 
 /// What an edit of these fields changes.

@@ -2,28 +2,29 @@
 
 ghost use Rattle.std.specs.Prelude.{◌≡◌, ◌≤◌, ◌*◌, length, flat_map, All, ℤ, Bool};
 ghost use Rattle.edits.specs.Lawful.{IsLawful, most_reviewed_days};
-ghost use Rattle.records.specs.Payloads.{entry_bytes, least_bytes, period_bytes, fields, edit_bytes, sheet_bytes, payload, longest_fields, longest_payload};
+ghost use Rattle.records.specs.Payloads.{comment_bytes, entry_bytes, least_bytes, period_bytes, fields, edit_bytes, sheet_bytes, payload, longest_fields, longest_payload};
 ghost use Rattle.records.specs.Sheets.{IsSheet};
 
+use crate::formats::Format;
 use crate::laws::keeps_grammar;
 use crate::payloads::Record;
 use curves::Curve;
-use edits::{Edit, What};
+use edits::{Comment, Edit, What};
 use fixed_units::Text;
 use ratings::Period;
 
 /// How many bytes the kind, the site and the lengths of the texts take.
 const FRAME: usize = 12;
 
-/// How many bytes a record takes as a payload: at most 1,700,064, which 100,000 readings may take.
+/// How many bytes a record takes as a payload of a format: at most 1,700,265, which 100,000 readings may take.
 #[inline(always)]
-pub fn record_len(piece: &Record) -> usize
-    ensures value { result ≡ length (payload piece.now) }
+pub fn record_len(piece: &Record, format: Format) -> usize
+    ensures value { result ≡ length (payload format piece.now) }
     ensures longest { result ≤ longest_payload }
 {
     // this runs nothing: it tells the proof that each record of the code is in the grammar
-    keeps_grammar(piece);
-    edit_len(piece.edit()) + sheets_len(piece.sheets().as_slice())
+    keeps_grammar(piece, Format::Second);
+    edit_len(piece.edit(), format) + sheets_len(piece.sheets().as_slice())
 }
 
 /// How many bytes sheets take, at most one for each of 366 days.
@@ -40,12 +41,27 @@ fn sheets_len(sheets: &[Text]) -> usize
     len
 }
 
-/// How many bytes an edit takes at the front of its record's payload: at most 1,700,064, which 100,000 readings may take.
-pub fn edit_len(edit: &Edit) -> usize
-    ensures value { result ≡ length (edit_bytes edit.now) }
+/// How many bytes an edit takes at the front of its record's payload of a format: at most 1,700,265, which 100,000 readings may take.
+pub fn edit_len(edit: &Edit, format: Format) -> usize
+    ensures value { result ≡ length (edit_bytes format edit.now) }
     ensures longest { result ≤ longest_payload }
 {
-    FRAME + edit.by.as_slice().len() + edit.reference.as_slice().len() + fields_len(&edit.what)
+    FRAME
+        + edit.by.as_slice().len()
+        + edit.reference.as_slice().len()
+        + comment_len(&edit.comment, format)
+        + fields_len(&edit.what)
+}
+
+/// How many bytes a comment takes in a format.
+fn comment_len(comment: &Comment, format: Format) -> usize
+    ensures value { result ≡ length (comment_bytes format comment.now) }
+    ensures few { result ≤ 201 }
+{
+    match format {
+        Format::First => 0,
+        Format::Second => 1 + comment.as_slice().len(),
+    }
 }
 
 /// How many bytes the fields of a kind take.

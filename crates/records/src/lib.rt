@@ -7,6 +7,8 @@ mod edition_drafts;
 mod edition_parsing;
 mod entry_drafts;
 mod estimate_drafts;
+pub mod formats;
+pub mod frames;
 pub mod laws;
 pub mod lengths;
 mod measurement_drafts;
@@ -26,6 +28,8 @@ pub mod sheets;
 mod writing;
 
 pub use codec::{decode, encode, encode_and_close};
+pub use formats::Format;
+pub use frames::{BEFORE_PAYLOAD, HEADER_LEN};
 pub use lengths::{edit_len, record_len};
 pub use payloads::{DecodeFault, Record};
 pub use sheets::{SheetList, are_sheets_of};

@@ -3,11 +3,12 @@
 ghost use Rattle.std.specs.Prelude.{◌≡◌, ◌≤◌, option_map};
 ghost use Rattle.std.specs.Int.{w32, w64};
 ghost use Rattle.records.specs.Drafts.{parts, what_of};
-ghost use Rattle.records.specs.Parsing.{byte_at, number_at, front_at, short_text_at, signed_number_at, site_number_at, sender_at, day_at, arrays_at, addition_at, setting_at, point_at, points_at, curve_at, mark_at, entry_at, correction_at, dropped_correction_at, shift_at, dropped_shift_at, fields_at, fields_of, parts_at};
+ghost use Rattle.records.specs.Parsing.{byte_at, number_at, front_at, short_text_at, comment_at, signed_number_at, site_number_at, sender_at, day_at, arrays_at, addition_at, setting_at, point_at, points_at, curve_at, mark_at, entry_at, correction_at, dropped_correction_at, shift_at, dropped_shift_at, fields_at, fields_of, parts_at};
 
 use crate::drafts::{Draft, Fields};
 use crate::edition_parsing::edition_of;
 use crate::entry_drafts::EntryDraft;
+use crate::formats::Format;
 use crate::measurement_parsing::{
     dropped_estimate_of, dropped_measurement_of, estimate_of, measurement_of,
 };
@@ -17,19 +18,21 @@ use crate::review_parsing::{decided_of, review_of};
 use arrayvec::ArrayVec;
 use edits::Kind;
 
-/// The parts of a payload, and what stands behind them.
+/// The parts of a payload of a format, and what stands behind them.
 #[tactic(auto, unfolding(crate::specs::Parsing::parts_at))]
-pub(crate) fn draft_of(bytes: &[u8]) -> Option<Draft<'_>>
-    ensures { option_map parts result ≡ parts_at bytes.now }
+pub(crate) fn draft_of(bytes: &[u8], format: Format) -> Option<Draft<'_>>
+    ensures { option_map parts result ≡ parts_at format bytes.now }
 {
     let (number, rest) = byte_of(bytes)?;
     let ((by, (reference, (digits, value))), rest) = sender_of(rest)?;
+    let (comment, rest) = comment_of(rest, format)?;
     let (fields, rest) = fields_at(number, rest)?;
     Some(Draft {
         by,
         reference,
         digits,
         value,
+        comment,
         fields,
         behind: rest,
     })
@@ -44,6 +47,16 @@ fn sender_of(bytes: &[u8]) -> Option<((&[u8], (&[u8], (u8, u64))), &[u8])>
     let (reference, rest) = short_text_of(rest)?;
     let (site, rest) = site_of(rest)?;
     Some(((by, (reference, site)), rest))
+}
+
+/// The comment of an edit in a format.
+fn comment_of(bytes: &[u8], format: Format) -> Option<(&[u8], &[u8])>
+    ensures { option_map (λ x. (x.0.now, x.1.now)) result ≡ comment_at format bytes.now }
+{
+    match format {
+        Format::First => Some((&[], bytes)),
+        Format::Second => short_text_of(bytes),
+    }
 }
 
 /// The fields of the kind of a number.

@@ -4,33 +4,45 @@ ghost use Rattle.std.specs.Prelude.{◌≡◌, ◌<◌, ◌++◌, ◌∷◌, [],
 ghost use Rattle.std.specs.Int.{w32, w64, to_le_bytes};
 ghost use Rattle.edits.specs.Decisions.{decision_number};
 ghost use Rattle.edits.specs.Lawful.{IsLawful};
-ghost use Rattle.records.specs.Payloads.{short_text, signed_number, site_number, flag_number, reading_bytes, mark_number, point_bytes, curve_bytes, entry_bytes, table_bytes, end_bytes, period_bytes, day_number, estimate_bytes, measurement_bytes, least_bytes, fields, edit_bytes, sheet_bytes, payload};
+ghost use Rattle.records.specs.Payloads.{short_text, comment_bytes, signed_number, site_number, flag_number, reading_bytes, mark_number, point_bytes, curve_bytes, entry_bytes, table_bytes, end_bytes, period_bytes, day_number, estimate_bytes, measurement_bytes, least_bytes, fields, edit_bytes, sheet_bytes, payload};
 ghost use Rattle.records.specs.Sheets.{IsSheet, Record};
 
+use crate::formats::Format;
 use crate::number_writing::{put_day, put_micro, put_point, put_second, put_u32};
 use crate::payloads::Record;
 use curves::Curve;
-use edits::{Decision, Edit, Estimate, Measurement, Name, What};
+use edits::{Comment, Decision, Edit, Estimate, Measurement, Name, What};
 use fixed_units::{Day, Flag, Micro, NoMemory, Reading, RoundingArray, Second, Site, Text};
 use ratings::{Period, SharedTable};
 
-/// Adds the payload of a record.
-pub(crate) fn put_record(out: &mut Vec<u8>, piece: &Record) -> Result<(), NoMemory>
-    ensures { OnOk result (out.new.items ≡ out.old.items ++ payload piece.now) }
+/// Adds the payload of a record in a format.
+pub(crate) fn put_record(out: &mut Vec<u8>, piece: &Record, format: Format) -> Result<(), NoMemory>
+    ensures { OnOk result (out.new.items ≡ out.old.items ++ payload format piece.now) }
 {
-    put_edit(out, piece.edit())?;
+    put_edit(out, piece.edit(), format)?;
     put_sheets(out, piece.sheets().as_slice())
 }
 
-/// Adds the bytes of an edit.
-fn put_edit(out: &mut Vec<u8>, edit: &Edit) -> Result<(), NoMemory>
-    ensures { OnOk result (out.new.items ≡ out.old.items ++ edit_bytes edit.now) }
+/// Adds the bytes of an edit in a format.
+fn put_edit(out: &mut Vec<u8>, edit: &Edit, format: Format) -> Result<(), NoMemory>
+    ensures { OnOk result (out.new.items ≡ out.old.items ++ edit_bytes format edit.now) }
 {
     out.push(edit.what.kind().number())?;
     put_short_text(out, edit.by.as_slice())?;
     put_short_text(out, edit.reference.as_slice())?;
     put_site(out, edit.site)?;
+    put_comment(out, &edit.comment, format)?;
     put_fields(out, &edit.what)
+}
+
+/// Adds a comment, where the format has one.
+fn put_comment(out: &mut Vec<u8>, comment: &Comment, format: Format) -> Result<(), NoMemory>
+    ensures { OnOk result (out.new.items ≡ out.old.items ++ comment_bytes format comment.now) }
+{
+    match format {
+        Format::First => Ok(()),
+        Format::Second => put_short_text(out, comment.as_slice()),
+    }
 }
 
 /// Adds a byte of length and the bytes of a text.

@@ -28,7 +28,7 @@ what_once table v w a b =
 
 station_once : (by : List ℕ) (table : Members) (e f : Edit) → StatesStation by table e → StatesStation by table f → e ≡ f
 station_once by table e f a b =
-    same_edit e f (a.by ∙ sym b.by) (same_text _ _ table _ _ a.reference b.reference) (same_Some _ _ (sym a.site ∙ b.site)) (what_once table e.what f.what a.what b.what)
+    same_edit e f (a.by ∙ sym b.by) (same_text _ _ table _ _ a.reference b.reference) (same_Some _ _ (sym a.site ∙ b.site)) (a.comment ∙ sym b.comment) (what_once table e.what f.what a.what b.what)
 
 table_once : (by : List ℕ) (table : Option Members) (e f : Edit) → StatesTable by table e → StatesTable by table f → e ≡ f
 table_once by None e f a b = absurd a

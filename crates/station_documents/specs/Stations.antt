@@ -1,5 +1,5 @@
 -- What the table of a station states: the edit that adds it.
-use Rattle.std.specs.Prelude.{◌≡◌, ℕ, pos, List, codes, bytes_eq, Bool, true, ◌||◌, Some, option_and_then}
+use Rattle.std.specs.Prelude.{◌≡◌, ℕ, pos, List, [], codes, bytes_eq, Bool, true, ◌||◌, Some, option_and_then}
 use Rattle.edits.specs.Lawful.{IsGap, IsStationZone}
 use Rattle.edits.specs.Texts.{IsName, IsReference}
 use Rattle.edits.specs.declared.content.Edit.{Edit}
@@ -35,10 +35,12 @@ pub record StatesAddition (table : Members) (what : What) : Type 0 where
   pub discharge_array : HasText IsRoundingArray (codes "discharge_array") table discharges
   pub adds : what ≡ AddStation name zone gap stages discharges
 
--- the table has a reference, a site and what is added, and no further member: the edit is of these, by the person of these initials
+-- the table has a reference, a site and what is added, and no further member: the edit is of these, by the person of these initials,
+-- with an empty comment
 pub record StatesStation (initials : List ℕ) (table : Members) (edit : Edit) : Type 0 where
   pub alone : all_keys is_station_key table ≡ true
   pub by : edit.by ≡ initials
   pub reference : HasText IsReference (codes "ref") table edit.reference
   pub site : option_and_then site_of_text (string_at (codes "site") table) ≡ Some edit.site
+  pub comment : edit.comment ≡ []
   pub what : StatesAddition table edit.what

@@ -34,12 +34,7 @@ pub(crate) fn station_in(alloc: Global, by: &By, table: &Table) -> Result<Edit, 
         return Err(DocumentFault::NoDocument);
     };
     let what = addition_in(alloc, table)?;
-    Ok(Edit {
-        by: by.copy(),
-        reference,
-        site,
-        what,
-    })
+    Ok(Edit::of(by.copy(), reference, site, what))
 }
 
 /// Whether each member of the table is one of a station.

@@ -28,7 +28,7 @@ pub fn approver() -> By
     By::new(b"AB").unwrap()
 }
 
-/// The edit that a person asks of a site under a number, in whose reference the scratch is used.
+/// The edit that a person asks of a site under a number, with an empty comment. The scratch is used in its reference.
 pub fn edit_of(
     number: u32,
     by: By,
@@ -39,12 +39,8 @@ pub fn edit_of(
     requires { IsLawful what }
     ensures { IfOk result (IsAsked number by site what) }
 {
-    Ok(Edit {
-        by,
-        reference: reference_of(number, scratch)?,
-        site,
-        what,
-    })
+    let reference = reference_of(number, scratch)?;
+    Ok(Edit::of(by, reference, site, what))
 }
 
 /// The reference of a number.

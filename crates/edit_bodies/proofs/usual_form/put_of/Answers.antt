@@ -9,10 +9,11 @@ use Rattle.edits.specs.Texts.{AreInitials, IsReference}
 
 pub returns : goal.returns
 returns c rows e =
-    let initials = kept_if-is are_initials (AreInitials c.as_bytes.result.now) c.as_bytes.result.now (Some c.in_ok-new.field-0) (initials-told c.as_bytes.result.now) c.in_ok-new.ensures.range c.in_ok-new.ensures.value in
-    let code = kept_if-is is_reference (IsReference c.as_bytes-2.result.now) c.as_bytes-2.result.now (Some c.in_ok-new-2.field-0) (reference-told c.as_bytes-2.result.now) c.in_ok-new-2.ensures.range c.in_ok-new-2.ensures.value in
-    put_made c.args.sender.now rows c.in_ok-new.field-0 c.in_ok-new-2.field-0 c.in_ok-read_site.field-0 c.args.readings
+    let initials = kept_if-is are_initials (AreInitials c.as_bytes.result.now) c.as_bytes.result.now (Some c.in_ok-by.by) (initials-told c.as_bytes.result.now) c.in_ok-by.ensures.range c.in_ok-by.ensures.value in
+    let code = kept_if-is is_reference (IsReference c.as_bytes-2.result.now) c.as_bytes-2.result.now (Some c.in_ok-reference.reference) (reference-told c.as_bytes-2.result.now) c.in_ok-reference.ensures.range c.in_ok-reference.ensures.value in
+    rw (c.of.ensures.parts.0, c.of.ensures.parts.1, c.of.ensures.parts.2, c.of.ensures.parts.3, c.of.ensures.comment)
+    (put_made c.args.sender.now rows c.in_ok-by.by c.in_ok-reference.reference c.in_ok-site.site c.args.readings
     (ap (kept_if are_initials) (sym c.as_bytes.ensures.value) ∙ sym initials)
     (ap (kept_if is_reference) (sym c.as_bytes-2.ensures.value) ∙ sym code)
-    (ap site_of_text (sym c.as_bytes-3.ensures.value) ∙ sym c.in_ok-read_site.ensures)
-    e
+    (ap site_of_text (sym c.as_bytes-3.ensures.value) ∙ sym c.in_ok-site.ensures)
+    e)

@@ -32,6 +32,7 @@ use Rattle.office_inputs.specs.Changes.{keeps_day}
 use Rattle.office_inputs.specs.Stations.{inputs_of_day, stations_of}
 use Rattle.office_inputs.specs.declared.limits.Limits.{Limits}
 use Rattle.records.specs.Sheets.{Record}
+use Rattle.records.specs.declared.formats.Format.{Format}
 use Rattle.station_inputs.specs.Stations.{StationState}
 
 -- where no day of the calendar passes a test, none does
@@ -66,9 +67,9 @@ and_false true true h e = absurd (false≢true (sym h))
 and_false true false h e = absurd (false≢true e)
 and_false false c h e = refl
 
-module _ (limits : Limits) (site : SiteNumber) (day : ℤ) (is : IsDay day) where
+module _ (limits : Limits) (format : Format) (site : SiteNumber) (day : ℤ) (is : IsDay day) where
   -- of its own site it stands as before behind an edit that no status stands against and that does not take its approval back
-  own_step : (events : List Event) (piece : Record) (changed b : Bool) → same_site piece.edit.site site ≡ b → MayBeKept limits events piece
+  own_step : (events : List Event) (piece : Record) (changed b : Bool) → same_site piece.edit.site site ≡ b → MayBeKept limits format events piece
       → is_approved (status_at events site day) ≡ true → (b && rescinds piece.edit.what day) ≡ false
       → cond b (after_what (length (accepted events) + 1) piece.edit.by piece.edit.what changed day (standing_at events site day)) (standing_at events site day)
       ≡ standing_at events site day
@@ -85,14 +86,14 @@ module _ (limits : Limits) (site : SiteNumber) (day : ℤ) (is : IsDay day) wher
       subst (λ (s : Standing). after_what (length (accepted events) + 1) piece.edit.by piece.edit.what changed day s ≡ s) own whole
   own_step events piece changed false e m approved r = refl
 
-  pub approved_step : (events : List Event) (piece : Record) → MayBeKept limits events piece → is_approved (status_at events site day) ≡ true
+  pub approved_step : (events : List Event) (piece : Record) → MayBeKept limits format events piece → is_approved (status_at events site day) ≡ true
       → takes_back site day piece.edit ≡ false → standing_at (events ++ Accepted piece ∷ []) site day ≡ standing_at events site day
   approved_step events piece m approved r =
       standing_accepted events piece site day
       ∙ own_step events piece (changes (stations_at events) piece.edit site day) (same_site piece.edit.site site) refl m approved r
 
   -- and is not changed
-  unlocked_step : (events : List Event) (piece : Record) (b : Bool) → same_site piece.edit.site site ≡ b → MayBeKept limits events piece
+  unlocked_step : (events : List Event) (piece : Record) (b : Bool) → same_site piece.edit.site site ≡ b → MayBeKept limits format events piece
       → is_approved (status_at events site day) ≡ true → (b && not (keeps_day (stations_at events) piece.edit day)) ≡ false
   unlocked_step events piece true e m approved =
       and_false (not (keeps_day (stations_at events) piece.edit day)) (is_approved (status_at events piece.edit.site day))
@@ -101,7 +102,7 @@ module _ (limits : Limits) (site : SiteNumber) (day : ℤ) (is : IsDay day) wher
       (ap is_approved (status_by events piece.edit.site site day (places_equal piece.edit.site site e)) ∙ approved)
   unlocked_step events piece false e m approved = refl
 
-  pub inputs_step : (events : List Event) (piece : Record) → MayBeKept limits events piece → is_approved (status_at events site day) ≡ true
+  pub inputs_step : (events : List Event) (piece : Record) → MayBeKept limits format events piece → is_approved (status_at events site day) ≡ true
       → inputs_at (events ++ Accepted piece ∷ []) site day ≡ inputs_at events site day
   inputs_step events piece m approved =
       ap (λ (l : List StationState). inputs_of_day l site day) (stations_accepted events piece)
@@ -127,10 +128,10 @@ module _ (limits : Limits) (site : SiteNumber) (day : ℤ) (is : IsDay day) wher
   still_approved : (before after : List Event) → Stays before after → is_approved (status_at before site day) ≡ true → is_approved (status_at after site day) ≡ true
   still_approved before after stays approved = ap (λ (s : Standing). is_approved s.status) stays.standing ∙ approved
 
-  orderly_on : (events : List Event) (e : Event) (rest : List Event) → IsOrderly limits (events ++ e ∷ rest) → IsOrderly limits ((events ++ e ∷ []) ++ rest)
-  orderly_on events e rest k = subst (IsOrderly limits) (sym (append_assoc events (e ∷ []) rest)) k
+  orderly_on : (events : List Event) (e : Event) (rest : List Event) → IsOrderly limits format (events ++ e ∷ rest) → IsOrderly limits format ((events ++ e ∷ []) ++ rest)
+  orderly_on events e rest k = subst (IsOrderly limits format) (sym (append_assoc events (e ∷ []) rest)) k
 
-  pub approved_stays : (since events : List Event) → IsOrderly limits (events ++ since) → is_approved (status_at events site day) ≡ true
+  pub approved_stays : (since events : List Event) → IsOrderly limits format (events ++ since) → is_approved (status_at events site day) ≡ true
       → NoneRescinds site day (edits_of since) → Stays events (events ++ since)
   approved_stays [] events k approved none = subst (λ (l : List Event). Stays events l) (sym (append-nil events)) (record { standing = refl; inputs = refl })
   approved_stays (Accepted piece ∷ rest) events k approved none =

@@ -14,16 +14,15 @@ use Rattle.history.specs.Awaited.{inputs_at}
 use Rattle.history.specs.Events.{Event, History}
 use Rattle.history.specs.Locks.{ChangesApproved, IsFirstChanged, ReachesTheLocks}
 use Rattle.history.specs.Statuses.{locked_at, status_at}
-use Rattle.history.specs.Verdicts.{Accepts, Refuses, is_full_of_cells, is_full_of_events, is_journal_full, or_else, refused_as_awaiting, refused_as_locked, refused_by_statuses, refused_where, refusal_of, verdict, verdict_by, verdict_of_refusal}
+use Rattle.history.specs.Verdicts.{Accepts, Refuses, or_else, refused_as_awaiting, refused_as_locked, refused_by_statuses, refused_for_room, refusal_of, verdict, verdict_by, verdict_of_refusal}
 use Rattle.history.proofs.ApprovedLemmas.{none_passes}
 use Rattle.history.proofs.FirstDayLemmas.{find_filtered, first_in_calendar, found_in_calendar}
 use Rattle.history.proofs.LockedLemmas.{accepted_keeps, locked_is, not_true, reaches_locks}
 use Rattle.office_inputs.specs.Changes.{keeps_day}
 use Rattle.office_inputs.specs.Refusals as inputs
 use Rattle.office_inputs.specs.Stations.{inputs_of_day, stations_after}
-use Rattle.office_inputs.specs.declared.refusals.Full.TheVariants as fulls
 use Rattle.office_inputs.specs.declared.refusals.Refusal.{Refusal}
-use Rattle.office_inputs.specs.declared.refusals.Refusal.TheVariants.{Locked, HistoryFull, JournalFull}
+use Rattle.office_inputs.specs.declared.refusals.Refusal.TheVariants.{Locked}
 
 not_kept : (b : Bool) → (b ≡ true → ⊥) → not b ≡ true
 not_kept true n = absurd (n refl)
@@ -94,8 +93,7 @@ module _ (events : List Event) (edit : Edit) where
 module _ (h : History) (edit : Edit) where
   pub locked_out : (day : ℤ) → ReachesTheLocks h edit → locked_at h.events edit ≡ Some day → verdict h edit ≡ Refuses (Locked day)
   locked_out day r found =
-      let full = or_else (refused_where (is_full_of_events h edit) (HistoryFull fulls.Events))
-      (or_else (refused_where (is_full_of_cells h edit) (HistoryFull fulls.Cells)) (refused_where (is_journal_full h edit) JournalFull)) in
+      let full = refused_for_room h edit in
       let locked = refused_as_locked h edit in
       let awaits = refused_as_awaiting h edit in
       let whole : refusal_of h edit ≡ Some (Locked day) =

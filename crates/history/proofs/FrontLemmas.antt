@@ -7,6 +7,7 @@ use Rattle.history.specs.Events.{Event, Accepted, Published, Faulted, History}
 use Rattle.history.specs.Legal.{IsLegal, IsOrderly}
 use Rattle.office_inputs.specs.declared.limits.Limits.{Limits}
 use Rattle.records.specs.Sheets.{Record}
+use Rattle.records.specs.declared.formats.Format.{Format}
 
 -- of two beginnings of one list the longer goes on from the shorter
 record GoesOn (short long more all : List Event) : Type 0 where
@@ -27,8 +28,8 @@ longer_on (x ∷ short) (y ∷ long) more all h l =
       all_is = rest.all_is;
     }
 
-orderly_front : (limits : Limits) (events behind : List Event) → IsOrderly limits (events ++ behind) → IsOrderly limits events
-orderly_front limits events behind k = record {
+orderly_front : (limits : Limits) (format : Format) (events behind : List Event) → IsOrderly limits format (events ++ behind) → IsOrderly limits format events
+orderly_front limits format events behind k = record {
   accepted = λ before after piece s.
       k.accepted before (after ++ behind) piece (ap (λ (l : List Event). l ++ behind) s ∙ append_assoc before (Accepted piece ∷ after) behind);
   doubts = λ before after piece s.
@@ -38,10 +39,10 @@ orderly_front limits events behind k = record {
 }
 
 front_is : (front : History) (first : List Record) (between : List Event) → front.opened ≡ length first → front.events ≡ map Accepted first ++ between
-    → front ≡ go_on (reopen front.limits first) between
+    → front ≡ go_on (reopen front.limits front.format first) between
 front_is front first between opened events =
-    ap (λ n. record { opened = n; limits = front.limits; events = front.events }) opened
-    ∙ ap (λ (l : List Event). record { opened = length first; limits = front.limits; events = l }) events
+    ap (λ n. record { opened = n; limits = front.limits; format = front.format; events = front.events }) opened
+    ∙ ap (λ (l : List Event). record { opened = length first; limits = front.limits; format = front.format; events = l }) events
 
 pub legal_at : (front : History) (behind : List Event) → IsLegal (go_on front behind) → front.opened ≤ length front.events → IsLegal front
 legal_at front behind k l =
@@ -53,7 +54,7 @@ legal_at front behind k l =
       first = k.first;
       since = on.between;
       opened = front_is front k.first on.between opened on.long_is;
-      orderly = orderly_front front.limits front.events behind k.orderly;
+      orderly = orderly_front front.limits front.format front.events behind k.orderly;
       made = λ before after piece s.
           k.made before (after ++ behind) piece
           (on.all_is ∙ ap (λ (z : List Event). z ++ behind) s ∙ append_assoc before (Accepted piece ∷ after) behind);

@@ -21,6 +21,7 @@ use Rattle.office_inputs.specs.declared.limits.Limits.{Limits}
 use Rattle.office_inputs.proofs.LawLemmas.{kept_stays}
 use Rattle.office_inputs.proofs.RefusalLemmas.{accepted as not_refused}
 use Rattle.records.specs.Sheets.{Record}
+use Rattle.records.specs.declared.formats.Format.{Format}
 use Rattle.rising.specs.Lists.{at}
 use Rattle.station_inputs.specs.Stations.{StationState}
 
@@ -29,7 +30,7 @@ needed true kept e f = absurd (cc)
 needed false true e f = cc
 needed false false e f = absurd (cc)
 
-module _ (limits : Limits) (site : SiteNumber) (day : ℤ) where
+module _ (limits : Limits) (format : Format) (site : SiteNumber) (day : ℤ) where
   -- its station is in force if it is approved
   abbrev HasStation : List Event → Type 0
   HasStation events = is_approved (status_at events site day) ≡ true → is_some (station_of (stations_at events) site) ≡ true
@@ -40,7 +41,7 @@ module _ (limits : Limits) (site : SiteNumber) (day : ℤ) where
   stands_on events more same had approved = had (ap (λ (s : Standing). is_approved s.status) (sym same) ∙ approved)
 
   -- the edit that approves a day is of a station in force
-  there : (events : List Event) (piece : Record) → same_site piece.edit.site site ≡ true → MayBeKept limits events piece
+  there : (events : List Event) (piece : Record) → same_site piece.edit.site site ≡ true → MayBeKept limits format events piece
       → (what : adds_station piece.edit.what ≡ false) → is_some (station_of (stations_at events) site) ≡ true
   there events piece e m what =
       let one = (Decides-int_eq (site_place piece.edit.site) (site_place site)).0 e in
@@ -52,7 +53,7 @@ module _ (limits : Limits) (site : SiteNumber) (day : ℤ) where
   station_stays events piece k =
       ap (λ (ss : List StationState). is_some (station_of ss site)) (stations_accepted events piece) ∙ kept_stays (stations_at events) piece.edit site k
 
-  behind_edit : (events : List Event) (piece : Record) (b : Bool) → same_site piece.edit.site site ≡ b → MayBeKept limits events piece → HasStation events
+  behind_edit : (events : List Event) (piece : Record) (b : Bool) → same_site piece.edit.site site ≡ b → MayBeKept limits format events piece → HasStation events
       → HasStation (events ++ Accepted piece ∷ [])
   behind_edit events piece false e m had approved =
       station_stays events piece (stands_on events (events ++ Accepted piece ∷ []) (standing_elsewhere events piece site day e) had approved)
@@ -68,7 +69,7 @@ module _ (limits : Limits) (site : SiteNumber) (day : ℤ) where
       ap (λ (ps : List Record). is_some (station_of (stations_of (map edit_of ps)) site)) same
       ∙ stands_on events more (ap (λ (ps : List Record). standing_of (map edit_of ps) site day) same) had approved
 
-  behind : (done since : List Event) (e : Event) → IsOrderly limits (done ++ e ∷ since) → HasStation done → HasStation (done ++ e ∷ [])
+  behind : (done since : List Event) (e : Event) → IsOrderly limits format (done ++ e ∷ since) → HasStation done → HasStation (done ++ e ∷ [])
   behind done since (Accepted piece) k had = behind_edit done piece (same_site piece.edit.site site) refl (k.accepted done since piece refl) had
   behind done since (Published own its) k had = behind_other done (done ++ Published own its ∷ []) (accepted_published done own its) had
   behind done since (Faulted left) k had = behind_other done (done ++ Faulted left ∷ []) (accepted_faulted done left) had
@@ -77,9 +78,9 @@ module _ (limits : Limits) (site : SiteNumber) (day : ℤ) where
   unfolding standing_back
   none_before approved = absurd (false≢true approved)
 
-  pub has_station : (events : List Event) → IsOrderly limits events → is_approved (status_at events site day) ≡ true
+  pub has_station : (events : List Event) → IsOrderly limits format events → is_approved (status_at events site day) ≡ true
       → is_some (station_of (stations_at events) site) ≡ true
-  has_station events k = by_events limits HasStation behind none_before events k
+  has_station events k = by_events limits format HasStation behind none_before events k
 
   found_text : (o : Option (List ℕ)) → is_some o ≡ true → (text : List ℕ) × (o ≡ Some text)
   found_text None e = absurd (cc)
@@ -91,8 +92,8 @@ module _ (limits : Limits) (site : SiteNumber) (day : ℤ) where
       let shown = shown_by site day (awaited events site day) (value_at events site day) in
       ap (λ (b : Bool). cond b (kept_first (stored_sheet events site day) shown) NoStation) k ∙ ap (λ (o : Option (List ℕ)). kept_first o shown) e
 
-  pub shows_kept : (events : List Event) → IsOrderly limits events → is_approved (status_at events site day) ≡ true
+  pub shows_kept : (events : List Event) → IsOrderly limits format events → is_approved (status_at events site day) ≡ true
       → (text : List ℕ) × (stored_sheet events site day ≡ Some text) × (shown_at events site day ≡ Text text)
   shows_kept events k approved =
-      let found = found_text (stored_sheet events site day) (has_sheet limits site day events k approved) in
+      let found = found_text (stored_sheet events site day) (has_sheet limits format site day events k approved) in
       (found.0, found.1, shown_text events found.0 (has_station events k approved) found.1)

@@ -24,6 +24,7 @@ use Rattle.office_inputs.specs.Changes.{changed_days}
 use Rattle.office_inputs.specs.Stations.{stations_of}
 use Rattle.office_inputs.specs.declared.limits.Limits.{Limits}
 use Rattle.records.specs.Sheets.{Record}
+use Rattle.records.specs.declared.formats.Format.{Format}
 
 -- an event stands last, or among the others
 abbrev Split : List Event → Event → List Event → Event → List Event → Type 0
@@ -63,19 +64,20 @@ abbrev locked_by : List Edit → Edit → Option ℤ
 locked_by edits edit = first_approved (λ day. (standing_of edits edit.site day).status) (changed_days (stations_of edits) edit)
 
 -- whether a record may be kept hangs on the edits accepted before
-pub may_be_kept_by : (limits : Limits) (a b : List Event) (piece : Record) → accepted a ≡ accepted b → MayBeKept limits a piece → MayBeKept limits b piece
-may_be_kept_by limits a b piece e m = record {
+pub may_be_kept_by : (limits : Limits) (format : Format) (a b : List Event) (piece : Record) → accepted a ≡ accepted b → MayBeKept limits format a piece → MayBeKept limits format b piece
+may_be_kept_by limits format a b piece e m = record {
   sheets = m.sheets;
   reference = ap (λ (ps : List Record). named (map edit_of ps) piece.edit.reference) (sym e) ∙ m.reference;
   stations = ap (λ (ps : List Record). inputs.refusal_of limits (stations_of (map edit_of ps)) piece.edit) (sym e) ∙ m.stations;
   statuses = ap (λ (ps : List Record). objection_by (map edit_of ps) piece.edit) (sym e) ∙ m.statuses;
   unlocked = ap (λ (ps : List Record). locked_by (map edit_of ps) piece.edit) (sym e) ∙ m.unlocked;
+  holds = m.holds;
 }
 
 -- what the event has to keep to, to be in order
 pub record MayCome (h : History) (e : Event) : Type 0 where
-  pub accepted : (piece : Record) → Accepted piece ≡ e → MayBeKept h.limits h.events piece
-  pub in_doubt : (piece : Record) → Faulted (Some piece) ≡ e → MayBeKept h.limits h.events piece
+  pub accepted : (piece : Record) → Accepted piece ≡ e → MayBeKept h.limits h.format h.events piece
+  pub in_doubt : (piece : Record) → Faulted (Some piece) ≡ e → MayBeKept h.limits h.format h.events piece
   pub publication : (site : SiteNumber) (day : ℤ) → Published site day ≡ e → is_pending h.events site day ≡ true
 
 -- and to come since the opening
@@ -84,14 +86,14 @@ pub record MayComeNow (h : History) (e : Event) : Type 0 where
   pub made : (piece : Record) → Accepted piece ≡ e → IsMade h.events piece
 
 -- the events that may come: the acceptance of a record, a publication, a fault
-pub may_accept : (h : History) (piece : Record) → MayBeKept h.limits h.events piece → MayCome h (Accepted piece)
+pub may_accept : (h : History) (piece : Record) → MayBeKept h.limits h.format h.events piece → MayCome h (Accepted piece)
 may_accept h piece m = record {
-  accepted = λ other e. let same : other ≡ piece = cc in subst (MayBeKept h.limits h.events) (sym same) m;
+  accepted = λ other e. let same : other ≡ piece = cc in subst (MayBeKept h.limits h.format h.events) (sym same) m;
   in_doubt = λ other e. absurd (cc);
   publication = λ site day e. absurd (cc);
 }
 
-pub may_accept_now : (h : History) (piece : Record) → MayBeKept h.limits h.events piece → IsMade h.events piece → MayComeNow h (Accepted piece)
+pub may_accept_now : (h : History) (piece : Record) → MayBeKept h.limits h.format h.events piece → IsMade h.events piece → MayComeNow h (Accepted piece)
 may_accept_now h piece m k = record {
   orderly = may_accept h piece m;
   made = λ other e. let same : other ≡ piece = cc in subst (IsMade h.events) (sym same) k;
@@ -110,32 +112,32 @@ publication_may_come h site day pending = record {
 pub may_publish : (h : History) (site : SiteNumber) (day : ℤ) → is_pending h.events site day ≡ true → MayComeNow h (Published site day)
 may_publish h site day pending = record { orderly = publication_may_come h site day pending; made = λ piece e. absurd (cc) }
 
-fault_may_come : (h : History) (left : Option Record) → ((piece : Record) → left ≡ Some piece → MayBeKept h.limits h.events piece) → MayCome h (Faulted left)
+fault_may_come : (h : History) (left : Option Record) → ((piece : Record) → left ≡ Some piece → MayBeKept h.limits h.format h.events piece) → MayCome h (Faulted left)
 fault_may_come h left m = record {
   accepted = λ piece e. absurd (cc);
   in_doubt = λ piece e. let same : left ≡ Some piece = cc in m piece same;
   publication = λ site day e. absurd (cc);
 }
 
-pub may_fault : (h : History) (left : Option Record) → ((piece : Record) → left ≡ Some piece → MayBeKept h.limits h.events piece) → MayComeNow h (Faulted left)
+pub may_fault : (h : History) (left : Option Record) → ((piece : Record) → left ≡ Some piece → MayBeKept h.limits h.format h.events piece) → MayComeNow h (Faulted left)
 may_fault h left m = record { orderly = fault_may_come h left m; made = λ piece e. absurd (cc) }
 
-goes_on : (h : History) (first : List Record) (since : List Event) (e : Event) → h ≡ go_on (reopen h.limits first) since
-    → go_on h (e ∷ []) ≡ go_on (reopen h.limits first) (since ++ e ∷ [])
+goes_on : (h : History) (first : List Record) (since : List Event) (e : Event) → h ≡ go_on (reopen h.limits h.format first) since
+    → go_on h (e ∷ []) ≡ go_on (reopen h.limits h.format first) (since ++ e ∷ [])
 goes_on h first since e k =
     let opened : h.opened ≡ length first = ap (λ (x : History). x.opened) k in
     let events : h.events ≡ map Accepted first ++ since = ap (λ (x : History). x.events) k in
-    ap (λ n. record { opened = n; limits = h.limits; events = h.events ++ e ∷ [] }) opened
-    ∙ ap (λ (l : List Event). record { opened = length first; limits = h.limits; events = l }) (ap (λ l. l ++ e ∷ []) events ∙ append_assoc (map Accepted first) since (e ∷ []))
+    ap (λ n. record { opened = n; limits = h.limits; format = h.format; events = h.events ++ e ∷ [] }) opened
+    ∙ ap (λ (l : List Event). record { opened = length first; limits = h.limits; format = h.format; events = l }) (ap (λ l. l ++ e ∷ []) events ∙ append_assoc (map Accepted first) since (e ∷ []))
 
-orderly_more : (h : History) (e : Event) → IsOrderly h.limits h.events → MayCome h e → IsOrderly h.limits (h.events ++ e ∷ [])
+orderly_more : (h : History) (e : Event) → IsOrderly h.limits h.format h.events → MayCome h e → IsOrderly h.limits h.format (h.events ++ e ∷ [])
 orderly_more h e k m = record {
   accepted = λ before after piece s. elim (split_last h.events e before (Accepted piece) after s) [
-    | inl p ↦ subst (λ (l : List Event). MayBeKept h.limits l piece) (sym p.0) (m.accepted piece p.1)
+    | inl p ↦ subst (λ (l : List Event). MayBeKept h.limits h.format l piece) (sym p.0) (m.accepted piece p.1)
     | inr q ↦ k.accepted before q.0 piece q.1
   ];
   doubts = λ before after piece s. elim (split_last h.events e before (Faulted (Some piece)) after s) [
-    | inl p ↦ subst (λ (l : List Event). MayBeKept h.limits l piece) (sym p.0) (m.in_doubt piece p.1)
+    | inl p ↦ subst (λ (l : List Event). MayBeKept h.limits h.format l piece) (sym p.0) (m.in_doubt piece p.1)
     | inr q ↦ k.doubts before q.0 piece q.1
   ];
   publications = λ before after site day s. elim (split_last h.events e before (Published site day) after s) [
@@ -145,7 +147,7 @@ orderly_more h e k m = record {
 }
 
 -- the events of a history that was opened
-since_are : (h : History) (first : List Record) (since : List Event) → h ≡ go_on (reopen h.limits first) since → map Accepted first ++ since ≡ h.events
+since_are : (h : History) (first : List Record) (since : List Event) → h ≡ go_on (reopen h.limits h.format first) since → map Accepted first ++ since ≡ h.events
 since_are h first since k = sym (ap (λ (x : History). x.events) k)
 
 pub legal_more : (h : History) (e : Event) → IsLegal h → MayComeNow h e → IsLegal (go_on h (e ∷ []))
@@ -167,11 +169,11 @@ none_made : (first : List Record) (before after : List Event) (piece : Record) �
 none_made first before after piece s = absurd (not_nil before (Accepted piece) after s)
 
 -- an office that is opened on records that are in order
-pub legal_reopened : (limits : Limits) (pieces : List Record) → IsOrderly limits (map Accepted pieces) → IsLegal (reopen limits pieces)
-legal_reopened limits pieces k = record {
+pub legal_reopened : (limits : Limits) (format : Format) (pieces : List Record) → IsOrderly limits format (map Accepted pieces) → IsLegal (reopen limits format pieces)
+legal_reopened limits format pieces k = record {
   first = pieces;
   since = [];
-  opened = ap (λ (l : List Event). record { opened = length pieces; limits = limits; events = l }) (sym (append-nil (map Accepted pieces)));
+  opened = ap (λ (l : List Event). record { opened = length pieces; limits = limits; format = format; events = l }) (sym (append-nil (map Accepted pieces)));
   orderly = k;
   made = λ before after piece s. none_made pieces before after piece s;
 }
@@ -229,11 +231,11 @@ no_publication (own ∷ pieces) [] after site day s = let same : Accepted own �
 no_publication (own ∷ pieces) (x ∷ before) after site day s = no_publication pieces before after site day (ap tail_of s)
 
 -- the edits that were accepted up to some point are in order
-orderly_front : (h : History) (events behind : List Event) → IsLegal h → h.events ≡ events ++ behind → IsOrderly h.limits (map Accepted (accepted events))
+orderly_front : (h : History) (events behind : List Event) → IsLegal h → h.events ≡ events ++ behind → IsOrderly h.limits h.format (map Accepted (accepted events))
 orderly_front h events behind k e = record {
   accepted = λ before after piece s.
       let was = was_accepted events before after piece s in
-      may_be_kept_by h.limits was.older before piece was.as_many
+      may_be_kept_by h.limits h.format was.older before piece was.as_many
       (k.orderly.accepted was.older (was.newer ++ behind) piece
       (e ∙ ap (λ (l : List Event). l ++ behind) was.events_are ∙ append_assoc was.older (Accepted piece ∷ was.newer) behind));
   doubts = λ before after piece s. absurd (no_fault (accepted events) before after (Some piece) s);
@@ -241,17 +243,17 @@ orderly_front h events behind k e = record {
 }
 
 -- an office that is opened on them
-pub legal_front : (h : History) (events behind : List Event) → IsLegal h → h.events ≡ events ++ behind → IsLegal (reopen h.limits (accepted events))
-legal_front h events behind k e = legal_reopened h.limits (accepted events) (orderly_front h events behind k e)
+pub legal_front : (h : History) (events behind : List Event) → IsLegal h → h.events ≡ events ++ behind → IsLegal (reopen h.limits h.format (accepted events))
+legal_front h events behind k e = legal_reopened h.limits h.format (accepted events) (orderly_front h events behind k e)
 
 -- on these and one record more
-pub legal_with : (h : History) (events behind : List Event) (piece : Record) → IsLegal h → h.events ≡ events ++ behind → MayBeKept h.limits events piece
-    → IsLegal (reopen h.limits (accepted events ++ piece ∷ []))
+pub legal_with : (h : History) (events behind : List Event) (piece : Record) → IsLegal h → h.events ≡ events ++ behind → MayBeKept h.limits h.format events piece
+    → IsLegal (reopen h.limits h.format (accepted events ++ piece ∷ []))
 legal_with h events behind piece k e m =
-    let again = reopen h.limits (accepted events) in
-    let kept : MayBeKept h.limits again.events piece = may_be_kept_by h.limits events again.events piece (sym (accepted_all (accepted events))) m in
-    legal_reopened h.limits (accepted events ++ piece ∷ [])
-    (subst (IsOrderly h.limits) (sym (map-append Accepted (accepted events) (piece ∷ [])))
+    let again = reopen h.limits h.format (accepted events) in
+    let kept : MayBeKept h.limits h.format again.events piece = may_be_kept_by h.limits h.format events again.events piece (sym (accepted_all (accepted events))) m in
+    legal_reopened h.limits h.format (accepted events ++ piece ∷ [])
+    (subst (IsOrderly h.limits h.format) (sym (map-append Accepted (accepted events) (piece ∷ [])))
     (orderly_more again (Accepted piece) (orderly_front h events behind k e) (may_accept again piece kept)))
 
 -- where the fault came that left the record in doubt: no edit was accepted since
@@ -287,19 +289,19 @@ was_left (Faulted left ∷ back) piece h =
 
 -- the record that a history was in doubt of at some point could still be kept there
 pub front_may_be_kept : (h : History) (events behind : List Event) → IsLegal h → h.events ≡ events ++ behind
-    → (piece : Record) → doubt_back (reverse events) ≡ Some piece → MayBeKept h.limits events piece
+    → (piece : Record) → doubt_back (reverse events) ≡ Some piece → MayBeKept h.limits h.format events piece
 front_may_be_kept h events behind k e piece d =
     let was = was_left (reverse events) piece d in
     let same : reverse (reverse events) ≡ events = reverse-reverse events in
-    may_be_kept_by h.limits was.older events piece (was.as_many ∙ ap accepted same)
+    may_be_kept_by h.limits h.format was.older events piece (was.as_many ∙ ap accepted same)
     (k.orderly.doubts was.older (was.newer ++ behind) piece
     (e ∙ ap (λ (l : List Event). l ++ behind) (sym same ∙ was.events_are) ∙ append_assoc was.older (Faulted (Some piece) ∷ was.newer) behind))
 
-pub doubt_may_be_kept : (h : History) (piece : Record) → doubt h ≡ Some piece → IsLegal h → MayBeKept h.limits h.events piece
+pub doubt_may_be_kept : (h : History) (piece : Record) → doubt h ≡ Some piece → IsLegal h → MayBeKept h.limits h.format h.events piece
 doubt_may_be_kept h piece d k = front_may_be_kept h h.events [] k (sym (append-nil h.events)) piece d
 
 -- the record of an edit that is accepted
-pub accepted_may_be_kept : (h : History) (edit : Edit) → verdict h edit ≡ Accepts → MayBeKept h.limits h.events (record_of h edit)
+pub accepted_may_be_kept : (h : History) (edit : Edit) → verdict h edit ≡ Accepts → MayBeKept h.limits h.format h.events (record_of h edit)
 accepted_may_be_kept h edit v =
     let parts = accepted_parts h edit v in
     record {
@@ -308,6 +310,7 @@ accepted_may_be_kept h edit v =
       stations = parts.stations;
       statuses = parts.statuses;
       unlocked = parts.unlocked;
+      holds = parts.comment;
     }
 
 -- and it is made there
@@ -320,13 +323,13 @@ legal_accepted h edit k v =
 
 -- what a fault leaves the journal in doubt of
 left_step : (h : History) (edit : Edit) (failed : NotKept) → verdict h edit ≡ Accepts → IsLegal h
-    → (piece : Record) → left_by (doubt h) (record_of h edit) failed ≡ Some piece → MayBeKept h.limits h.events piece
+    → (piece : Record) → left_by (doubt h) (record_of h edit) failed ≡ Some piece → MayBeKept h.limits h.format h.events piece
 left_step h edit not_kept.Mend v k piece e = doubt_may_be_kept h piece e k
 left_step h edit not_kept.Record v k piece e = absurd (cc)
 left_step h edit not_kept.Gate v k piece e =
     let same : record_of h edit ≡ piece = cc in
-    subst (MayBeKept h.limits h.events) same (accepted_may_be_kept h edit v)
+    subst (MayBeKept h.limits h.format h.events) same (accepted_may_be_kept h edit v)
 
 pub left_may_be_kept : (h : History) (edit : Edit) (left : Option Record) → verdict h edit ≡ Accepts → IsLegal h → MayLeaveInDoubt h edit left
-    → (piece : Record) → left ≡ Some piece → MayBeKept h.limits h.events piece
+    → (piece : Record) → left ≡ Some piece → MayBeKept h.limits h.format h.events piece
 left_may_be_kept h edit left v k m piece e = left_step h edit m.0 v k piece (sym m.1 ∙ e)

@@ -1,5 +1,6 @@
 pub mod ApprovalLemmas
 pub mod ApprovedLemmas
+pub mod CommentLemmas
 pub mod CountLemmas
 pub mod EventLemmas
 pub mod FirstDayLemmas

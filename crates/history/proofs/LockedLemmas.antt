@@ -17,7 +17,7 @@ use Rattle.history.specs.Awaited.{awaited, is_pending}
 use Rattle.history.specs.Events.{Event, History}
 use Rattle.history.specs.Locks.{ReachesTheLocks}
 use Rattle.history.specs.Statuses.{locked_at, objection_at, status_at}
-use Rattle.history.specs.Verdicts.{Accepts, Refuses, Repeats, awaiting, awaits_by, is_full_of_cells, is_full_of_events, is_journal_full, or_else, refused_as_awaiting, refused_as_locked, refused_by_stations, refused_by_statuses, refused_where, refusal_of, verdict, verdict_by, verdict_of_refusal}
+use Rattle.history.specs.Verdicts.{Accepts, Refuses, Repeats, awaiting, awaits_by, is_comment_barred, is_full_of_cells, is_full_of_events, is_journal_full, or_else, refused_as_awaiting, refused_as_locked, refused_by_stations, refused_by_statuses, refused_for_room, refused_where, refusal_of, verdict, verdict_by, verdict_of_refusal}
 use Rattle.history.proofs.ApprovedLemmas.{none_filtered, none_passes}
 use Rattle.history.proofs.StationLemmas.{found_passes}
 use Rattle.history.proofs.VerdictLemmas.{accepted_parts, none_mapped}
@@ -26,7 +26,7 @@ use Rattle.office_inputs.specs.Refusals as inputs
 use Rattle.office_inputs.specs.Stations.{station_of, stations_after}
 use Rattle.office_inputs.specs.declared.refusals.Full.TheVariants as fulls
 use Rattle.office_inputs.specs.declared.refusals.Refusal.{Refusal}
-use Rattle.office_inputs.specs.declared.refusals.Refusal.TheVariants.{RefReused, NoStation, StationExists, Awaits, Locked, HistoryFull, JournalFull}
+use Rattle.office_inputs.specs.declared.refusals.Refusal.TheVariants.{RefReused, NoStation, StationExists, Awaits, Locked, HistoryFull, NoComments, JournalFull}
 use Rattle.office_inputs.specs.declared.refusals.Which.{Which}
 use Rattle.station_inputs.specs.declared.obstacles.Obstacle.{Obstacle}
 use Rattle.station_inputs.specs.declared.obstacles.Obstacle.TheVariants as obstacles
@@ -102,12 +102,13 @@ not_awaiting : (day : ℤ) (events : List Event) (site : SiteNumber) (what : Wha
 not_awaiting day events site (Decide from to decision) h = not_decision day events site from to decision h
 not_awaiting day events site _ h = cc h
 
-not_full : (day : ℤ) (events cells journal : Bool) → NotLocked day (or_else (refused_where events (HistoryFull fulls.Events))
-    (or_else (refused_where cells (HistoryFull fulls.Cells)) (refused_where journal JournalFull)))
-not_full day true cells journal h = cc h
-not_full day false true journal h = cc h
-not_full day false false true h = cc h
-not_full day false false false h = cc h
+not_full : (day : ℤ) (events cells comment journal : Bool) → NotLocked day (or_else (refused_where events (HistoryFull fulls.Events))
+    (or_else (refused_where cells (HistoryFull fulls.Cells)) (or_else (refused_where comment NoComments) (refused_where journal JournalFull))))
+not_full day true cells comment journal h = cc h
+not_full day false true comment journal h = cc h
+not_full day false false true journal h = cc h
+not_full day false false false true h = cc h
+not_full day false false false false h = cc h
 
 later : (day : ℤ) (a b : Option Refusal) → NotLocked day a → or_else a b ≡ Some (Locked day) → b ≡ Some (Locked day)
 later day None b n h = h
@@ -144,8 +145,7 @@ not_named day (Some other) edit r h = absurd (again day (is_same other.edit edit
 -- nothing that is asked before refuses an edit that is locked out
 pub reaches_locks : (h : History) (edit : Edit) (day : ℤ) → verdict h edit ≡ Refuses (Locked day) → ReachesTheLocks h edit
 reaches_locks h edit day v =
-    let full = or_else (refused_where (is_full_of_events h edit) (HistoryFull fulls.Events))
-    (or_else (refused_where (is_full_of_cells h edit) (HistoryFull fulls.Cells)) (refused_where (is_journal_full h edit) JournalFull)) in
+    let full = refused_for_room h edit in
     let locked = refused_as_locked h edit in
     let awaits = refused_as_awaiting h edit in
     let stations = refused_by_stations h edit in
@@ -163,9 +163,7 @@ reaches_locks h edit day v =
 
 pub locked_is : (h : History) (edit : Edit) (day : ℤ) → verdict h edit ≡ Refuses (Locked day) → locked_at h.events edit ≡ Some day
 locked_is h edit day v =
-    let events = refused_where (is_full_of_events h edit) (HistoryFull fulls.Events) in
-    let cells = refused_where (is_full_of_cells h edit) (HistoryFull fulls.Cells) in
-    let full = or_else events (or_else cells (refused_where (is_journal_full h edit) JournalFull)) in
+    let full = refused_for_room h edit in
     let locked = refused_as_locked h edit in
     let awaits = refused_as_awaiting h edit in
     let whole = of_verdict day (named (edits_of h.events) edit.reference) edit (refusal_of h edit) v in
@@ -173,7 +171,7 @@ locked_is h edit day v =
     let b = later day (refused_by_statuses h edit) (or_else awaits (or_else locked full)) (not_objection day (objection_at h.events edit)) a in
     let c = later day awaits (or_else locked full) (not_awaiting day h.events edit.site edit.what) b in
     is_locked day (locked_at h.events edit)
-    (earlier day locked full (not_full day (is_full_of_events h edit) (is_full_of_cells h edit) (is_journal_full h edit)) c)
+    (earlier day locked full (not_full day (is_full_of_events h edit) (is_full_of_cells h edit) (is_comment_barred h edit) (is_journal_full h edit)) c)
 
 -- what is found among the changed days is approved and changed
 member_step : (p q : ℤ → Bool) (b : Bool) (x y : ℤ) (xs : List ℤ) → q x ≡ b → find p (cond b (x ∷ filter q xs) (filter q xs)) ≡ Some y

@@ -54,12 +54,12 @@ added_to h events records site day legal is e approved none =
     let more = map Accepted records in
     let before = opened_day events site day in
     let whole : map Accepted (accepted h.events) ≡ known ++ more = ap (map Accepted) e ∙ map-append Accepted (accepted events) records in
-    let orderly : IsOrderly h.limits (known ++ more) =
-    subst (IsOrderly h.limits) whole (legal_front h h.events [] legal (sym (append-nil h.events))).orderly in
+    let orderly : IsOrderly h.limits h.format (known ++ more) =
+    subst (IsOrderly h.limits h.format) whole (legal_front h h.events [] legal (sym (append-nil h.events))).orderly in
     let same : accepted h.events ≡ accepted (known ++ more) = sym (accepted_all (accepted h.events)) ∙ ap accepted whole in
     let after = same_day h.events (known ++ more) site day same in
     let rescinded : NoneRescinds site day (edits_of more) = subst (λ (ps : List Record). NoneRescinds site day (map edit_of ps)) (sym (accepted_all records)) none in
-    let stays = approved_stays h.limits site day is more known orderly (ap (λ (s : Standing). is_approved s.status) before.standing ∙ approved) rescinded in
+    let stays = approved_stays h.limits h.format site day is more known orderly (ap (λ (s : Standing). is_approved s.status) before.standing ∙ approved) rescinded in
     record {
       standing = after.standing ∙ stays.standing ∙ before.standing;
       inputs = after.inputs ∙ stays.inputs ∙ before.inputs;

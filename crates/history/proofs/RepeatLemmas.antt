@@ -84,18 +84,18 @@ same_what (SetEdition day least) = rw (same_instant day) ((leasts_decide least l
 
 -- an edit is the same as itself
 same_as_itself : (edit : Edit) → is_same edit edit ≡ true
-same_as_itself edit = rw (same_bytes edit.by, same_bytes edit.reference, own_site edit.site, same_what edit.what) refl
+same_as_itself edit = rw (same_bytes edit.by, same_bytes edit.reference, own_site edit.site, same_bytes edit.comment, same_what edit.what) refl
 
 -- where an edit was accepted
-record WasAccepted (events : List Event) (place : ℕ) (edit : Edit) : Type 0 where
-  older : List Event
-  newer : List Event
-  piece : Record
-  events_are : events ≡ older ++ Accepted piece ∷ newer
-  place_is : length (accepted older) ≡ place
-  edit_is : piece.edit ≡ edit
+pub record WasAccepted (events : List Event) (place : ℕ) (edit : Edit) : Type 0 where
+  pub older : List Event
+  pub newer : List Event
+  pub piece : Record
+  pub events_are : events ≡ older ++ Accepted piece ∷ newer
+  pub place_is : length (accepted older) ≡ place
+  pub edit_is : piece.edit ≡ edit
 
-was_accepted : (events : List Event) (place : ℕ) (edit : Edit) → slice_get (edits_of events) place ≡ Some edit → WasAccepted events place edit
+pub was_accepted : (events : List Event) (place : ℕ) (edit : Edit) → slice_get (edits_of events) place ≡ Some edit → WasAccepted events place edit
 was_accepted [] place edit s = absurd (cc)
 was_accepted (Accepted own ∷ events) zero edit s =
     let same : own.edit ≡ edit = cc in

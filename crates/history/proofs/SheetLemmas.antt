@@ -15,8 +15,9 @@ use Rattle.history.proofs.OrderlyLemmas.{by_events}
 use Rattle.history.proofs.StandingLemmas.{approved_behind, last_record, standing_elsewhere}
 use Rattle.office_inputs.specs.declared.limits.Limits.{Limits}
 use Rattle.records.specs.Sheets.{Record}
+use Rattle.records.specs.declared.formats.Format.{Format}
 
-module _ (limits : Limits) (site : SiteNumber) (day : ℤ) where
+module _ (limits : Limits) (format : Format) (site : SiteNumber) (day : ℤ) where
   -- if it is approved it has a sheet
   abbrev HasSheet : List Event → Type 0
   HasSheet events = is_approved (status_at events site day) ≡ true → is_some (stored_sheet events site day) ≡ true
@@ -27,7 +28,7 @@ module _ (limits : Limits) (site : SiteNumber) (day : ℤ) where
       ap is_some (sheet_stays events (e ∷ []) site day same) ∙ had (ap (λ (s : Standing). is_approved s.status) (sym same) ∙ approved)
 
   -- the sheet in the record of this very edit
-  approved_now : (events : List Event) (piece : Record) → MayBeKept limits events piece
+  approved_now : (events : List Event) (piece : Record) → MayBeKept limits format events piece
       → IsApproval (length (accepted events) + 1) piece.edit.what day (standing_at (events ++ Accepted piece ∷ []) site day) → HasSheet (events ++ Accepted piece ∷ [])
   approved_now events piece m a approved =
       let more = events ++ Accepted piece ∷ [] in
@@ -36,7 +37,7 @@ module _ (limits : Limits) (site : SiteNumber) (day : ℤ) where
       ∙ ap (λ (o : Option Record). is_some (sheet_of o day)) (last_record events piece)
       ∙ approved_sheet piece.edit.what piece.sheets a.from a.to day a.what_is m.sheets a.within
 
-  accepted_step : (events : List Event) (piece : Record) (b : Bool) → same_site piece.edit.site site ≡ b → MayBeKept limits events piece → HasSheet events
+  accepted_step : (events : List Event) (piece : Record) (b : Bool) → same_site piece.edit.site site ≡ b → MayBeKept limits format events piece → HasSheet events
       → HasSheet (events ++ Accepted piece ∷ [])
   accepted_step events piece false e m had approved = still events (Accepted piece) (standing_elsewhere events piece site day e) had approved
   accepted_step events piece true e m had approved =
@@ -48,7 +49,7 @@ module _ (limits : Limits) (site : SiteNumber) (day : ℤ) where
   other_step : (events : List Event) (e : Event) → accepted (events ++ e ∷ []) ≡ accepted events → HasSheet events → HasSheet (events ++ e ∷ [])
   other_step events e same had approved = still events e (ap (λ (ps : List Record). standing_of (map edit_of ps) site day) same) had approved
 
-  one_step : (done since : List Event) (e : Event) → IsOrderly limits (done ++ e ∷ since) → HasSheet done → HasSheet (done ++ e ∷ [])
+  one_step : (done since : List Event) (e : Event) → IsOrderly limits format (done ++ e ∷ since) → HasSheet done → HasSheet (done ++ e ∷ [])
   one_step done since (Accepted piece) k had = accepted_step done piece (same_site piece.edit.site site) refl (k.accepted done since piece refl) had
   one_step done since (Published own its) k had = other_step done (Published own its) (accepted_published done own its) had
   one_step done since (Faulted left) k had = other_step done (Faulted left) (accepted_faulted done left) had
@@ -57,5 +58,5 @@ module _ (limits : Limits) (site : SiteNumber) (day : ℤ) where
   unfolding standing_back
   none_yet approved = absurd (false≢true approved)
 
-  pub has_sheet : (events : List Event) → IsOrderly limits events → is_approved (status_at events site day) ≡ true → is_some (stored_sheet events site day) ≡ true
-  has_sheet events k = by_events limits HasSheet one_step none_yet events k
+  pub has_sheet : (events : List Event) → IsOrderly limits format events → is_approved (status_at events site day) ≡ true → is_some (stored_sheet events site day) ≡ true
+  has_sheet events k = by_events limits format HasSheet one_step none_yet events k

@@ -1,15 +1,17 @@
 -- The edits that were accepted, and what they make of the record.
-use Rattle.std.specs.Prelude.{ℕ, ◌+◌, Bool, false, not, ◌&&◌, ◌||◌, List, [], ◌∷◌, ◌++◌, length, reverse, map, filter, find, slice_get, sum_by, bytes_eq, Option, None, ℤ, ◌-◌, ◌==◌, if◌then◌else◌}
+use Rattle.std.specs.Prelude.{ℕ, ◌+◌, Bool, false, not, ◌&&◌, ◌||◌, List, [], ◌∷◌, length, reverse, map, filter, find, slice_get, sum_by, bytes_eq, Option, None, option_map, ℤ, ◌-◌, ◌==◌, if◌then◌else◌}
 use Rattle.day_cells.specs.Spans.{with_days, days_of}
 use Rattle.edits.specs.declared.content.Edit.{Edit}
 use Rattle.fixed_units.specs.Calendar.{calendar}
 use Rattle.fixed_units.specs.Quantities.{SiteNumber, same_site}
-use Rattle.history.specs.Events.{Event, Accepted, Published, Faulted, History}
+use Rattle.history.specs.Events.{Event, Accepted, Published, Faulted}
 use Rattle.office_inputs.specs.Changes.{keeps_day}
 use Rattle.office_inputs.specs.Stations.{stations_of}
 use Rattle.station_inputs.specs.Stations.{StationState}
+use Rattle.records.specs.Frames.{header_length, before_payload}
 use Rattle.records.specs.Payloads.{payload}
 use Rattle.records.specs.Sheets.{Record}
+use Rattle.records.specs.declared.formats.Format.{Format}
 
 -- the records of the accepted edits
 abbrev pub accepted : List Event → List Record
@@ -28,6 +30,10 @@ edits_of events = map edit_of (accepted events)
 -- the accepted record of a number, from 1 on
 abbrev pub record_numbered : List Event → ℕ → Option Record
 record_numbered events number = if number == 0 then None else slice_get (accepted events) (number - 1)
+
+-- and its edit
+abbrev pub edit_numbered : List Event → ℕ → Option Edit
+edit_numbered events number = option_map edit_of (record_numbered events number)
 
 -- the stations in force
 abbrev pub stations_at : List Event → List StationState
@@ -70,6 +76,6 @@ cells_of edits site = days_of (with_days None (days_ever_changed edits site))
 abbrev pub cell_count : List Edit → ℕ
 cell_count edits = sum_by (λ (s : StationState). cells_of edits s.site) (stations_of edits)
 
--- the bytes of a journal of these records: the header and the closed gate, and of each an open gate, a length and a payload
-abbrev pub journal_size : List Record → ℕ
-journal_size pieces = 17 + sum_by (λ piece. 5 + length (payload piece)) pieces
+-- the bytes of a journal of these records in a format: the header and the closed gate, and of each an open gate, a length and a payload
+abbrev pub journal_size : Format → List Record → ℕ
+journal_size format pieces = header_length + 1 + sum_by (λ piece. before_payload + length (payload format piece)) pieces

@@ -8,18 +8,19 @@ use Rattle.history.specs.declared.recorded.NotKept.TheVariants as not_kept
 use Rattle.edits.specs.declared.content.Edit.{Edit}
 use Rattle.office_inputs.specs.declared.limits.Limits.{Limits}
 use Rattle.records.specs.Sheets.{Record}
+use Rattle.records.specs.declared.formats.Format.{Format}
 
--- an office that is opened on these records
-abbrev pub reopen : Limits → List Record → History
-reopen limits pieces = record { opened = length pieces; limits = limits; events = map Accepted pieces }
+-- an office that is opened on these records, of a journal of this format
+abbrev pub reopen : Limits → Format → List Record → History
+reopen limits format pieces = record { opened = length pieces; limits = limits; format = format; events = map Accepted pieces }
 
 -- a history that goes on by these events
 abbrev pub go_on : History → List Event → History
-go_on h since = record { opened = h.opened; limits = h.limits; events = h.events ++ since }
+go_on h since = record { opened = h.opened; limits = h.limits; format = h.format; events = h.events ++ since }
 
 -- a record was accepted in an office that was opened with so many
 abbrev pub after_record : ℕ → History → Record → History
-after_record opened h piece = record { opened = opened; limits = h.limits; events = with_record h piece }
+after_record opened h piece = record { opened = opened; limits = h.limits; format = h.format; events = with_record h piece }
 
 -- an edit was accepted
 abbrev pub after_edit : History → Edit → History

@@ -7,7 +7,7 @@ use Rattle.daily_values.specs.declared.day_values.DayValue.{DayValue}
 use Rattle.day_inputs.specs.declared.day_inputs.DayInputs.{DayInputs}
 use Rattle.fixed_units.specs.Calendar.{calendar}
 use Rattle.fixed_units.specs.Quantities.{SiteNumber, same_site}
-use Rattle.history.specs.Accepted.{accepted, edits_of, stations_at, changes}
+use Rattle.history.specs.Accepted.{accepted, stations_at, changes}
 use Rattle.history.specs.Events.{Event, Accepted, Published, Faulted}
 use Rattle.office_inputs.specs.Stations.{station_of, inputs_of_day}
 use Rattle.station_inputs.specs.Stations.{StationState}

@@ -1,5 +1,5 @@
 -- What is said to an edit: that it comes again, why it is refused, or that it is accepted.
-use Rattle.std.specs.Prelude.{ℕ, ◌+◌, nat_lt, Bool, true, if◌then◌else◌, List, [], ◌∷◌, ◌++◌, length, map, filter, Option, Some, None, option_map, ℤ}
+use Rattle.std.specs.Prelude.{ℕ, ◌+◌, nat_lt, Bool, true, false, if◌then◌else◌, List, [], ◌∷◌, ◌++◌, length, map, filter, Option, Some, None, option_map, ℤ}
 use Rattle.approval.specs.Statuses.{first_day_of, spans}
 use Rattle.edits.specs.Same.{is_same}
 use Rattle.edits.specs.declared.content.Edit.{Edit}
@@ -14,10 +14,11 @@ use Rattle.history.specs.Events.{Event, Accepted, History}
 use Rattle.history.specs.Statuses.{locked_at, objection_at}
 use Rattle.office_inputs.specs.Refusals as inputs
 use Rattle.office_inputs.specs.declared.refusals.Refusal.{Refusal}
-use Rattle.office_inputs.specs.declared.refusals.Refusal.TheVariants.{RefReused, Awaits, Locked, HistoryFull, JournalFull}
+use Rattle.office_inputs.specs.declared.refusals.Refusal.TheVariants.{RefReused, Awaits, Locked, HistoryFull, NoComments, JournalFull}
 use Rattle.office_inputs.specs.declared.refusals.Full.TheVariants as fulls
-use Rattle.office_inputs.specs.declared.limits.Limits.{Limits}
 use Rattle.records.specs.Sheets.{Record}
+use Rattle.records.specs.declared.formats.Format.{Format}
+use Rattle.records.specs.declared.formats.Format.TheVariants.{First, Second}
 use Rattle.sheets.specs.Sheets.{sheet}
 
 -- the computation sheets that an approval keeps: one of each of its days, of the value from scratch of the inputs in force
@@ -78,23 +79,36 @@ is_full_of_events h edit = nat_lt h.limits.events (length h.events + 1 + length 
 abbrev pub is_full_of_cells : History → Edit → Bool
 is_full_of_cells h edit = nat_lt h.limits.cells (cell_count (edits_of (with_edit h edit)))
 
+-- a journal of the first format bars each comment that is not empty
+abbrev pub bars : Format → List ℕ → Bool
+bars First [] = false
+bars First (byte ∷ comment) = true
+bars Second comment = false
+
+-- the edit has a comment that the journal's format does not hold
+abbrev pub is_comment_barred : History → Edit → Bool
+is_comment_barred h edit = bars h.format edit.comment
+
 -- with the record the journal would pass its limit
 abbrev pub is_journal_full : History → Edit → Bool
-is_journal_full h edit = nat_lt h.limits.journal_bytes (journal_size (accepted (with_edit h edit)))
+is_journal_full h edit = nat_lt h.limits.journal_bytes (journal_size h.format (accepted (with_edit h edit)))
 
 abbrev pub refused_where : Bool → Refusal → Option Refusal
 refused_where test refusal = if test then Some refusal else None
+
+-- for what there is no room, of an edit: its events, its cells, its comment or its record
+abbrev pub refused_for_room : History → Edit → Option Refusal
+refused_for_room h edit =
+    or_else (refused_where (is_full_of_events h edit) (HistoryFull fulls.Events))
+    (or_else (refused_where (is_full_of_cells h edit) (HistoryFull fulls.Cells))
+    (or_else (refused_where (is_comment_barred h edit) NoComments) (refused_where (is_journal_full h edit) JournalFull)))
 
 -- the first refusal of an edit that comes for the first time
 abbrev pub refusal_of : History → Edit → Option Refusal
 refusal_of h edit =
     or_else (refused_by_stations h edit)
     (or_else (refused_by_statuses h edit)
-    (or_else (refused_as_awaiting h edit)
-    (or_else (refused_as_locked h edit)
-    (or_else (refused_where (is_full_of_events h edit) (HistoryFull fulls.Events))
-    (or_else (refused_where (is_full_of_cells h edit) (HistoryFull fulls.Cells))
-    (refused_where (is_journal_full h edit) JournalFull))))))
+    (or_else (refused_as_awaiting h edit) (or_else (refused_as_locked h edit) (refused_for_room h edit))))
 
 pub data Verdict : Type 0 where
   -- it is the accepted edit of this number

@@ -21,7 +21,9 @@ ghost use Rattle.office_inputs.specs.Changes.{keeps_day};
 ghost use Rattle.office_inputs.specs.Stations.{station_of};
 ghost use Rattle.office_inputs.specs.declared.limits.Limits.{Limits};
 ghost use Rattle.office_inputs.specs.declared.refusals.Refusal.TheVariants.{Locked};
+ghost use Rattle.records.specs.Payloads.{Holds};
 ghost use Rattle.records.specs.Sheets.{Record};
+ghost use Rattle.records.specs.declared.formats.Format.{Format};
 
 /// As long as a day awaits an edit its inputs stay as they are, whatever comes between.
 pub fn inputs_stay_while_awaited()
@@ -43,10 +45,15 @@ pub fn an_accepted_edit_is_repeated()
     ensures { (h : History) (place : ℕ) (edit : Edit) → IsLegal h → slice_get (edits_of h.events) place ≡ Some edit → verdict h edit ≡ Repeats (place + 1) }
 {}
 
+/// The format of the journal holds the comment of each accepted edit: in the first one each is empty.
+pub fn comments_are_held()
+    ensures { (h : History) (place : ℕ) (edit : Edit) → IsLegal h → slice_get (edits_of h.events) place ≡ Some edit → Holds h.format edit.comment }
+{}
+
 /// An office may be opened again on the edits that were accepted up to some point, and on all of them and the record that is in doubt.
 pub fn what_was_kept_is_accepted_again()
-    ensures accepted { (h : History) (events behind : List Event) → IsLegal h → h.events ≡ events ++ behind → IsLegal (reopen h.limits (accepted events)) }
-    ensures in_doubt { (h : History) (piece : Record) → IsLegal h → doubt h ≡ Some piece → IsLegal (reopen h.limits (accepted h.events ++ piece ∷ [])) }
+    ensures accepted { (h : History) (events behind : List Event) → IsLegal h → h.events ≡ events ++ behind → IsLegal (reopen h.limits h.format (accepted events)) }
+    ensures in_doubt { (h : History) (piece : Record) → IsLegal h → doubt h ≡ Some piece → IsLegal (reopen h.limits h.format (accepted h.events ++ piece ∷ [])) }
 {}
 
 /// In a legal history an approved day stands as it is approved, its inputs stay as they are and the sheet that is kept of it stays the
@@ -73,20 +80,20 @@ pub fn a_front_of_a_legal_history_is_legal()
 /// An office that is opened on the records of the accepted edits has each day as it was: how it stands, how far it is approved, its
 /// inputs in force and the sheet that is kept of it. With one record more it has each day as the acceptance of that one leaves it.
 pub fn an_opening_keeps_what_was_accepted()
-    ensures standing { (limits : Limits) (events : List Event) (site : SiteNumber) (day : ℤ) → standing_at (reopen limits (accepted events)).events site day ≡ standing_at events site day }
-    ensures status { (limits : Limits) (events : List Event) (site : SiteNumber) (day : ℤ) → status_at (reopen limits (accepted events)).events site day ≡ status_at events site day }
-    ensures inputs { (limits : Limits) (events : List Event) (site : SiteNumber) (day : ℤ) → inputs_at (reopen limits (accepted events)).events site day ≡ inputs_at events site day }
-    ensures sheet { (limits : Limits) (events : List Event) (site : SiteNumber) (day : ℤ) → stored_sheet (reopen limits (accepted events)).events site day ≡ stored_sheet events site day }
-    ensures standing_with { (h : History) (piece : Record) (site : SiteNumber) (day : ℤ) → standing_at (reopen h.limits (accepted h.events ++ piece ∷ [])).events site day ≡ standing_at (with_record h piece) site day }
-    ensures status_with { (h : History) (piece : Record) (site : SiteNumber) (day : ℤ) → status_at (reopen h.limits (accepted h.events ++ piece ∷ [])).events site day ≡ status_at (with_record h piece) site day }
-    ensures inputs_with { (h : History) (piece : Record) (site : SiteNumber) (day : ℤ) → inputs_at (reopen h.limits (accepted h.events ++ piece ∷ [])).events site day ≡ inputs_at (with_record h piece) site day }
-    ensures sheet_with { (h : History) (piece : Record) (site : SiteNumber) (day : ℤ) → stored_sheet (reopen h.limits (accepted h.events ++ piece ∷ [])).events site day ≡ stored_sheet (with_record h piece) site day }
+    ensures standing { (limits : Limits) (format : Format) (events : List Event) (site : SiteNumber) (day : ℤ) → standing_at (reopen limits format (accepted events)).events site day ≡ standing_at events site day }
+    ensures status { (limits : Limits) (format : Format) (events : List Event) (site : SiteNumber) (day : ℤ) → status_at (reopen limits format (accepted events)).events site day ≡ status_at events site day }
+    ensures inputs { (limits : Limits) (format : Format) (events : List Event) (site : SiteNumber) (day : ℤ) → inputs_at (reopen limits format (accepted events)).events site day ≡ inputs_at events site day }
+    ensures sheet { (limits : Limits) (format : Format) (events : List Event) (site : SiteNumber) (day : ℤ) → stored_sheet (reopen limits format (accepted events)).events site day ≡ stored_sheet events site day }
+    ensures standing_with { (h : History) (piece : Record) (site : SiteNumber) (day : ℤ) → standing_at (reopen h.limits h.format (accepted h.events ++ piece ∷ [])).events site day ≡ standing_at (with_record h piece) site day }
+    ensures status_with { (h : History) (piece : Record) (site : SiteNumber) (day : ℤ) → status_at (reopen h.limits h.format (accepted h.events ++ piece ∷ [])).events site day ≡ status_at (with_record h piece) site day }
+    ensures inputs_with { (h : History) (piece : Record) (site : SiteNumber) (day : ℤ) → inputs_at (reopen h.limits h.format (accepted h.events ++ piece ∷ [])).events site day ≡ inputs_at (with_record h piece) site day }
+    ensures sheet_with { (h : History) (piece : Record) (site : SiteNumber) (day : ℤ) → stored_sheet (reopen h.limits h.format (accepted h.events ++ piece ∷ [])).events site day ≡ stored_sheet (with_record h piece) site day }
 {}
 
 /// In an office that was just opened each day that was ever changed awaits the edit that changed it last, and no other day awaits one.
 pub fn behind_an_opening_days_await_their_last_edits()
-    ensures changed { (limits : Limits) (pieces : List Record) (site : SiteNumber) (day : ℤ) (number : ℕ) → ChangedLast (map edit_of pieces) site day number → awaited (reopen limits pieces).events site day ≡ Some number }
-    ensures unchanged { (limits : Limits) (pieces : List Record) (site : SiteNumber) (day : ℤ) → NoneChanges site day [] (map edit_of pieces) → awaited (reopen limits pieces).events site day ≡ None }
+    ensures changed { (limits : Limits) (format : Format) (pieces : List Record) (site : SiteNumber) (day : ℤ) (number : ℕ) → ChangedLast (map edit_of pieces) site day number → awaited (reopen limits format pieces).events site day ≡ Some number }
+    ensures unchanged { (limits : Limits) (format : Format) (pieces : List Record) (site : SiteNumber) (day : ℤ) → NoneChanges site day [] (map edit_of pieces) → awaited (reopen limits format pieces).events site day ≡ None }
 {}
 
 /// An edit is refused as locked exactly where nothing refuses it that is asked before and it would change the inputs of an approved day:

@@ -17,6 +17,7 @@ use Rattle.office.proofs.ReplayLemmas.{doubt_reopened}
 use Rattle.office.proofs.StepLemmas.{Course, Still, Taken, Failed, Shown, step_course}
 use Rattle.office_inputs.specs.declared.limits.Limits.{Limits}
 use Rattle.records.specs.Sheets.{Record}
+use Rattle.records.specs.declared.formats.Format.{Format}
 use Rattle.register.specs.Keeping.{KeepsToTheLimit}
 use Rattle.register.specs.Registered.{Registered}
 use Rattle.register.proofs.AgainLemmas.{IsNoLonger, no_longer_accepted, no_longer_faulted, no_longer_opened, no_longer_published, opened_keeps_to, opened_with_keeps_to}
@@ -27,15 +28,15 @@ use Rattle.register.proofs.LimitLemmas.{edit_keeps_to, refused_keeps_to}
 record IsBounded (h : History) : Type 0 where
   keeps : KeepsToTheLimit h
   no_longer : IsNoLonger h.events
-  in_doubt : (piece : Record) → doubt h ≡ Some piece → KeepsToTheLimit (reopen h.limits (accepted h.events ++ piece ∷ []))
+  in_doubt : (piece : Record) → doubt h ≡ Some piece → KeepsToTheLimit (reopen h.limits h.format (accepted h.events ++ piece ∷ []))
 
 left_keeps : (h : History) (edit : Edit) (failed : NotKept) → IsBounded h → verdict h edit ≡ Accepts → (piece : Record)
-    → left_by (doubt h) (record_of h edit) failed ≡ Some piece → KeepsToTheLimit (reopen h.limits (accepted h.events ++ piece ∷ []))
+    → left_by (doubt h) (record_of h edit) failed ≡ Some piece → KeepsToTheLimit (reopen h.limits h.format (accepted h.events ++ piece ∷ []))
 left_keeps h edit not_kept.Mend b v piece e = b.in_doubt piece e
 left_keeps h edit not_kept.Record b v piece e = absurd (cc)
 left_keeps h edit not_kept.Gate b v piece e =
     let same : record_of h edit ≡ piece = cc in
-    subst (λ (p : Record). KeepsToTheLimit (reopen h.limits (accepted h.events ++ p ∷ []))) same (opened_with_keeps_to h edit v b.no_longer)
+    subst (λ (p : Record). KeepsToTheLimit (reopen h.limits h.format (accepted h.events ++ p ∷ []))) same (opened_with_keeps_to h edit v b.no_longer)
 
 no_doubt : (o : Option Record) (piece : Record) → o ≡ None → o ≡ Some piece → ⊥
 no_doubt None piece e h = cc
@@ -54,7 +55,7 @@ bounded_course h asked edits new (Failed edit left its e v may is) b =
       keeps = refused_keeps_to h edit left v;
       no_longer = no_longer_faulted h.events left b.no_longer;
       in_doubt = λ piece d.
-          subst (λ (l : List Record). KeepsToTheLimit (reopen h.limits (l ++ piece ∷ []))) (sym (accepted_faulted h.events left))
+          subst (λ (l : List Record). KeepsToTheLimit (reopen h.limits h.format (l ++ piece ∷ []))) (sym (accepted_faulted h.events left))
           (left_keeps h edit may.0 b v piece (sym may.1 ∙ sym (doubt_faulted h left) ∙ d));
     })
 bounded_course h asked edits new (Shown days e p is) b =
@@ -62,27 +63,28 @@ bounded_course h asked edits new (Shown days e p is) b =
       keeps = published_keep h days p b.keeps;
       no_longer = no_longer_published h.events days p b.no_longer;
       in_doubt = λ piece d.
-          subst (λ (l : List Record). KeepsToTheLimit (reopen h.limits (l ++ piece ∷ []))) (sym (accepted_publications h.events days))
+          subst (λ (l : List Record). KeepsToTheLimit (reopen h.limits h.format (l ++ piece ∷ []))) (sym (accepted_publications h.events days))
           (b.in_doubt piece (sym (doubt_publications h.events days) ∙ d));
     })
 
-bounded_opened : (limits : Limits) (pieces : List Record) → KeepsToTheLimit (reopen limits pieces) → IsBounded (reopen limits pieces)
-bounded_opened limits pieces k = record {
+bounded_opened : (limits : Limits) (format : Format) (pieces : List Record) → KeepsToTheLimit (reopen limits format pieces)
+    → IsBounded (reopen limits format pieces)
+bounded_opened limits format pieces k = record {
   keeps = k;
   no_longer = no_longer_opened pieces;
-  in_doubt = λ piece d. absurd (no_doubt _ piece (doubt_reopened limits pieces) d);
+  in_doubt = λ piece d. absurd (no_doubt _ piece (doubt_reopened limits format pieces) d);
 }
 
 bounded_reopened : (old : Registered) (cut : Option Edit) (found : Option Record) (new : Registered) → IsReopened old cut found new → IsBounded old.history
     → IsBounded new.history
 bounded_reopened old cut None new is b =
-    subst IsBounded (sym is.0) (bounded_opened old.history.limits (accepted old.history.events) (opened_keeps_to old.history b.no_longer b.keeps))
+    subst IsBounded (sym is.0) (bounded_opened old.history.limits old.history.format (accepted old.history.events) (opened_keeps_to old.history b.no_longer b.keeps))
 bounded_reopened old cut (Some piece) new is b =
     let h = old.history in
-    subst IsBounded (sym is.1) (bounded_opened h.limits (accepted h.events ++ piece ∷ []) (elim is.0 [
+    subst IsBounded (sym is.1) (bounded_opened h.limits h.format (accepted h.events ++ piece ∷ []) (elim is.0 [
       | inl left ↦ b.in_doubt piece left
       | inr flown ↦
-          subst (λ (p : Record). KeepsToTheLimit (reopen h.limits (accepted h.events ++ p ∷ []))) (sym flown.3)
+          subst (λ (p : Record). KeepsToTheLimit (reopen h.limits h.format (accepted h.events ++ p ∷ []))) (sym flown.3)
           (opened_with_keeps_to h flown.0 flown.2 b.no_longer)
     ]))
 
@@ -92,9 +94,9 @@ bounded_step old step new is b = elim (step_course old step new is) [
   | inr stop ↦ bounded_reopened old stop.0 stop.1 new stop.3 b
 ]
 
-pub limit_from_opening : (old new : Registered) (steps : List Step) (pieces : List Record) → old.history ≡ reopen old.history.limits pieces
+pub limit_from_opening : (old new : Registered) (steps : List Step) (pieces : List Record) → old.history ≡ reopen old.history.limits old.history.format pieces
     → GoesOver old steps new → KeepsToTheLimit old.history → KeepsToTheLimit new.history
 limit_from_opening old new steps pieces opened goes k =
     let start : IsBounded old.history =
-    subst IsBounded (sym opened) (bounded_opened old.history.limits pieces (subst KeepsToTheLimit opened k)) in
+    subst IsBounded (sym opened) (bounded_opened old.history.limits old.history.format pieces (subst KeepsToTheLimit opened k)) in
     (by_steps (λ (r : Registered). IsBounded r.history) bounded_step old steps new goes start).keeps

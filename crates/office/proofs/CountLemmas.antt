@@ -16,8 +16,9 @@ use Rattle.office.proofs.RefusedLemmas.{refused_no_fault}
 use Rattle.office.proofs.StepLemmas.{Course, Still, Taken, Failed, Shown, step_course}
 use Rattle.office_inputs.specs.declared.limits.Limits.{Limits}
 use Rattle.office_inputs.specs.declared.refusals.Refusal.{Refusal}
-use Rattle.office_inputs.specs.declared.refusals.Refusal.TheVariants.{RefReused, NoStation, StationExists, Limit, NoRating, RatingExists, PeriodOverlap, NoEntry, NotInReview, SamePerson, Awaits, NotApproved, AlreadyApproved, Locked, HistoryFull, JournalFull, NoMemory, JournalFault}
+use Rattle.office_inputs.specs.declared.refusals.Refusal.TheVariants.{RefReused, NoStation, StationExists, Limit, NoRating, RatingExists, PeriodOverlap, NoEntry, NotInReview, SamePerson, Awaits, NotApproved, AlreadyApproved, Locked, HistoryFull, NoComments, JournalFull, NoMemory, JournalFault}
 use Rattle.records.specs.Sheets.{Record}
+use Rattle.records.specs.declared.formats.Format.{Format}
 use Rattle.register.specs.Registered.{Registered}
 
 -- an edit that the history refuses leaves the count
@@ -89,6 +90,7 @@ counted_refused h edit new (NotApproved day) before now is rises k = still_count
 counted_refused h edit new (AlreadyApproved day) before now is rises k = still_counted h new before now is.1 rises k
 counted_refused h edit new (Locked day) before now is rises k = still_counted h new before now is.1 rises k
 counted_refused h edit new (HistoryFull full) before now is rises k = still_counted h new before now is.1 rises k
+counted_refused h edit new NoComments before now is rises k = still_counted h new before now is.1 rises k
 counted_refused h edit new JournalFull before now is rises k = still_counted h new before now is.1 rises k
 counted_refused h edit new NoMemory before now is rises k = still_counted h new before now is rises k
 counted_refused h edit new (JournalFault in_doubt) before now is rises k =
@@ -98,15 +100,15 @@ counted_refused h edit new (JournalFault in_doubt) before now is rises k =
     rw e (one_more (fault_count h.events) before now rises k)
 
 -- of an office that is opened none was counted yet
-pub opened_counted : (limits : Limits) (pieces : List Record) (count : ℕ) → HasCounted (reopen limits pieces) count
-opened_counted limits pieces count = let e = none_accepted pieces in omega (arith, e)
+pub opened_counted : (limits : Limits) (format : Format) (pieces : List Record) (count : ℕ) → HasCounted (reopen limits format pieces) count
+opened_counted limits format pieces count = let e = none_accepted pieces in omega (arith, e)
 
 reopened_counted : (old : Registered) (cut : Option Edit) (found : Option Record) (new : Registered) (count : ℕ) → IsReopened old cut found new
     → HasCounted new.history count
 reopened_counted old cut None new count is =
-    subst (λ (h : History). HasCounted h count) (sym is.0) (opened_counted old.history.limits (accepted old.history.events) count)
+    subst (λ (h : History). HasCounted h count) (sym is.0) (opened_counted old.history.limits old.history.format (accepted old.history.events) count)
 reopened_counted old cut (Some piece) new count is =
-    subst (λ (h : History). HasCounted h count) (sym is.1) (opened_counted old.history.limits (accepted old.history.events ++ piece ∷ []) count)
+    subst (λ (h : History). HasCounted h count) (sym is.1) (opened_counted old.history.limits old.history.format (accepted old.history.events ++ piece ∷ []) count)
 
 -- a call of no edit
 counted_call : (old : Registered) (step : Step) (new : Registered) (before now : ℕ) → cut_off step ≡ None → IsStep old step new

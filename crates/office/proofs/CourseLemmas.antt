@@ -67,6 +67,7 @@ adds_steps old [] new g = record {
   accepted_are = ap (λ (r : Registered). accepted r.history.events) g ∙ sym (append-nil (accepted old.history.events));
   edits_are = refl;
   limits = ap (λ (r : Registered). r.history.limits) g;
+  format = ap (λ (r : Registered). r.history.format) g;
 }
 adds_steps old (step ∷ steps) new g =
     let first = adds_step old step g.0 g.1 in
@@ -80,6 +81,7 @@ adds_steps old (step ∷ steps) new g =
           map-append edit_of first.records rest.records ∙ ap (λ (l : List Edit). l ++ map edit_of rest.records) first.edits_are
           ∙ ap (λ (l : List Edit). added_by step ++ l) rest.edits_are;
       limits = rest.limits ∙ first.limits;
+      format = rest.format ∙ first.format;
     }
 
 pub edits_after : (old : Registered) (steps : List Step) (new : Registered) → GoesOver old steps new
@@ -147,7 +149,7 @@ last_there edits edit =
     slice_get_read (edits ++ edit ∷ []) (length (edits ++ edit ∷ [])) (length edits) edit refl (omega (arith, long)) (sym (get_or_push edits edit edit (length edits) refl))
 
 -- an edit that is acknowledged is told its number ever after
-taken_repeats : (h : History) (edit : Edit) (new : History) (number : ℕ) (again : Bool) → IsTaken h edit new number again → IsLegal new
+pub taken_repeats : (h : History) (edit : Edit) (new : History) (number : ℕ) (again : Bool) → IsTaken h edit new number again → IsLegal new
     → verdict new edit ≡ Repeats number
 taken_repeats h edit new number true is k = ap (λ (x : History). verdict x edit) is.1 ∙ is.0
 taken_repeats h edit new number false is k =

@@ -16,6 +16,7 @@ use Rattle.office.specs.Stops.{IsLeft}
 use Rattle.recompute.specs.declared.jobs.Publish.{Publish}
 use Rattle.recompute.specs.declared.jobs.Publish.TheVariants.{Settled, Superseded, Foreign, Published}
 use Rattle.records.specs.Sheets.{Record}
+use Rattle.records.specs.declared.formats.Format.{Format}
 use Rattle.register.specs.Registered.{Registered, IsSettledTo}
 
 -- publications are no edits
@@ -42,21 +43,25 @@ if_told P Q (Some bytes) h k = k bytes (h refl)
 
 module _ {D : Type 0} {g : Ghosts D} (h : History) (left : Option Record) (journal : Journal D g) (s : Stands h left journal) where
   -- what the disk has now, and after a stop
+  records_left : (bytes : List ℕ) → HasRecords journal.format (accepted h.events) (doubt h) bytes → IsLeft h bytes
+  records_left bytes has =
+      subst (λ (f : Format). StandsFor f (accepted h.events) (doubt h) bytes) s.format (records_stand journal.format (accepted h.events) (doubt h) bytes has)
+
   pub left_now : IfSome (g.content journal.disk) (IsLeft h)
   left_now =
-      if_told (HasRecords (accepted h.events) (doubt h)) (IsLeft h) (g.content journal.disk) (λ told. (s.holds told).now)
-      (λ bytes has. records_stand (accepted h.events) (doubt h) bytes has)
+      if_told (HasRecords journal.format (accepted h.events) (doubt h)) (IsLeft h) (g.content journal.disk) (λ told. (s.holds told).now)
+      (λ bytes has. records_left bytes has)
 
   pub left_images : IsSome (g.content journal.disk) → (image : List ℕ) → g.may_leave journal.disk image → IsLeft h image
-  left_images told image left = records_stand (accepted h.events) (doubt h) image ((s.holds told).images image left)
+  left_images told image left = records_left image ((s.holds told).images image left)
 
   -- exactly the accepted edits, where none is in doubt
-  pub exactly_now : doubt h ≡ None → IfSome (g.content journal.disk) (IsJournalOf (accepted h.events))
+  pub exactly_now : doubt h ≡ None → IfSome (g.content journal.disk) (IsJournalOf h.format (accepted h.events))
   exactly_now d =
-      subst (λ (o : Option Record). IfSome (g.content journal.disk) (λ (bytes : List ℕ). StandsFor (accepted h.events) o bytes)) d left_now
+      subst (λ (o : Option Record). IfSome (g.content journal.disk) (λ (bytes : List ℕ). StandsFor h.format (accepted h.events) o bytes)) d left_now
 
-  pub exactly_images : doubt h ≡ None → IsSome (g.content journal.disk) → (image : List ℕ) → g.may_leave journal.disk image → IsJournalOf (accepted h.events) image
-  exactly_images d told image left = subst (λ (o : Option Record). StandsFor (accepted h.events) o image) d (left_images told image left)
+  pub exactly_images : doubt h ≡ None → IsSome (g.content journal.disk) → (image : List ℕ) → g.may_leave journal.disk image → IsJournalOf h.format (accepted h.events) image
+  exactly_images d told image left = subst (λ (o : Option Record). StandsFor h.format (accepted h.events) o image) d (left_images told image left)
 
   -- a publication writes nothing
   pub stands_published : (days : List SiteDay) → Stands (after_publications h days) left journal
@@ -64,7 +69,8 @@ module _ {D : Type 0} {g : Ghosts D} (h : History) (left : Option Record) (journ
       let edits = accepted_publications h.events days in
       let same : doubt (after_publications h days) ≡ doubt h = doubt_publications h.events days in
       record {
-        size = s.size ∙ ap journal_size (sym edits);
+        format = s.format;
+        size = s.size ∙ ap (journal_size h.format) (sym edits);
         limit = s.limit;
         left_is = s.left_is ∙ sym same;
         in_doubt_is = s.in_doubt_is ∙ ap is_some (sym same);

@@ -25,6 +25,7 @@ use Rattle.office.specs.Standing.{Stands}
 use Rattle.office.specs.Stops.{IsLeft, IsLeftBetween, in_flight}
 use Rattle.records.specs.Payloads.{payload, encoded, encoded_and_closed}
 use Rattle.records.specs.Sheets.{Record}
+use Rattle.records.specs.declared.formats.Format.{Format}
 use Rattle.register.proofs.KeepsLemmas.{journal_more}
 
 -- which record the journal is in doubt of, as the history goes on
@@ -43,19 +44,20 @@ doubt_faulted h left = ap doubt_back (reverse-append h.events (Faulted left ∷ 
 four : (n : ℕ) → length (to_le_bytes w32 n) ≡ 4
 four n = refl
 
-closed_length : (piece : Record) → length (encoded_and_closed piece) ≡ 5 + length (payload piece)
-closed_length piece =
-    let whole = length-append (encoded piece) (0 ∷ []) in
-    let parts = length-append (to_le_bytes w32 (length (payload piece))) (payload piece) in
-    let head = four (length (payload piece)) in
+closed_length : (format : Format) (piece : Record) → length (encoded_and_closed format piece) ≡ 5 + length (payload format piece)
+closed_length format piece =
+    let whole = length-append (encoded format piece) (0 ∷ []) in
+    let parts = length-append (to_le_bytes w32 (length (payload format piece))) (payload format piece) in
+    let head = four (length (payload format piece)) in
     omega arith
 
 size_accepted : (h : History) (edit : Edit)
-    → journal_size (accepted (after_edit h edit).events) ≡ journal_size (accepted h.events) + length (encoded_and_closed (record_of h edit))
+    → journal_size h.format (accepted (after_edit h edit).events)
+    ≡ journal_size h.format (accepted h.events) + length (encoded_and_closed h.format (record_of h edit))
 size_accepted h edit =
-    let list = ap journal_size (accepted_accepted h.events (record_of h edit)) in
-    let more = journal_more (accepted h.events) (record_of h edit) in
-    let long = closed_length (record_of h edit) in
+    let list = ap (journal_size h.format) (accepted_accepted h.events (record_of h edit)) in
+    let more = journal_more h.format (accepted h.events) (record_of h edit) in
+    let long = closed_length h.format (record_of h edit) in
     omega arith
 
 -- a disk that told none goes on telling none
@@ -78,14 +80,14 @@ lists_wider (Some bytes) before after faults P Q k lists = elim lists [
 
 -- what a stop leaves before an event has come, and where none comes
 left_before : (h after : History) (event : Event) (image : List ℕ) → after.events ≡ h.events ++ event ∷ []
-    → IsLeftKeeping (accepted h.events) (doubt h) (in_flight event) image → IsLeftBetween h after image
+    → IsLeftKeeping h.format (accepted h.events) (doubt h) (in_flight event) image → IsLeftBetween h after image
 left_before h after event image is left =
     let same : h.events ++ [] ≡ h.events = append-nil h.events in
     record {
       since = [];
       behind = event ∷ [];
       after_is = is ∙ ap (λ (l : List Event). l ++ event ∷ []) (sym same);
-      left = subst (λ (l : List Event). StandsFor (accepted l) (doubt_back (reverse l)) image ⊎ StandsFor (accepted l) (in_flight event) image) (sym same) left;
+      left = subst (λ (l : List Event). StandsFor h.format (accepted l) (doubt_back (reverse l)) image ⊎ StandsFor h.format (accepted l) (in_flight event) image) (sym same) left;
     }
 
 left_same : (h after : History) (image : List ℕ) → after.events ≡ h.events → IsLeft h image → IsLeftBetween h after image
@@ -95,7 +97,7 @@ left_same h after image is left =
       since = [];
       behind = [];
       after_is = is ∙ sym same ∙ sym (append-nil (h.events ++ []));
-      left = subst (λ (l : List Event). StandsFor (accepted l) (doubt_back (reverse l)) image) (sym same) left;
+      left = subst (λ (l : List Event). StandsFor h.format (accepted l) (doubt_back (reverse l)) image) (sym same) left;
     }
 
 -- the edit has the next number
@@ -111,7 +113,7 @@ module _ {D : Type 0} {g : Ghosts D} (h : History) (left : Option Record) (old :
   holds_left told = subst (λ (o : Option Record). Holds (accepted h.events) o old) (sym stands.left_is) (stands.holds told)
 
   -- there is room in the journal
-  pub does_fit : (edit : Edit) (bytes : List ℕ) → verdict h edit ≡ Accepts → bytes ≡ encoded_and_closed (record_of h edit) → old.gate + 1 + length bytes ≤ old.limit
+  pub does_fit : (edit : Edit) (bytes : List ℕ) → verdict h edit ≡ Accepts → bytes ≡ encoded_and_closed h.format (record_of h edit) → old.gate + 1 + length bytes ≤ old.limit
   does_fit edit bytes lawful is =
       let room = (accepted_parts h edit lawful).journal in
       let size = size_accepted h edit in
@@ -121,31 +123,33 @@ module _ {D : Type 0} {g : Ghosts D} (h : History) (left : Option Record) (old :
       omega arith
 
   -- the journal of a history without the record, or with it
-  pub stands_faulted : (new : Journal D g) (after : Option Record) → new.gate ≡ old.gate → new.limit ≡ old.limit → new.in_doubt ≡ is_some after
+  pub stands_faulted : (new : Journal D g) (after : Option Record) → new.format ≡ old.format → new.gate ≡ old.gate → new.limit ≡ old.limit → new.in_doubt ≡ is_some after
       → (g.content old.disk ≡ None → g.content new.disk ≡ None) → ((pieces : List Record) → Holds pieces left old → Holds pieces after new)
       → Stands (after_fault h after) after new
-  stands_faulted new after gate limit doubted untold keeps =
+  stands_faulted new after format gate limit doubted untold keeps =
       let same : accepted (after_fault h after).events ≡ accepted h.events = accepted_faulted h.events after in
       let last : doubt (after_fault h after) ≡ after = doubt_faulted h after in
       record {
-        size = ap (λ n. n + 1) gate ∙ stands.size ∙ ap journal_size (sym same);
+        format = format ∙ stands.format;
+        size = ap (λ n. n + 1) gate ∙ stands.size ∙ ap (journal_size h.format) (sym same);
         limit = limit ∙ stands.limit;
         left_is = sym last;
         in_doubt_is = doubted ∙ ap is_some (sym last);
         holds = λ told. rw (same, last) (keeps (accepted h.events) (holds_left (was_told (g.content old.disk) (g.content new.disk) untold told)));
       }
 
-  pub stands_accepted : (edit : Edit) (bytes : List ℕ) (new : Journal D g) (after : Option Record) → after ≡ None → bytes ≡ encoded_and_closed (record_of h edit)
-      → new.gate ≡ old.gate + length bytes → new.limit ≡ old.limit → new.in_doubt ≡ is_some after
+  pub stands_accepted : (edit : Edit) (bytes : List ℕ) (new : Journal D g) (after : Option Record) → after ≡ None → bytes ≡ encoded_and_closed h.format (record_of h edit)
+      → new.format ≡ old.format → new.gate ≡ old.gate + length bytes → new.limit ≡ old.limit → new.in_doubt ≡ is_some after
       → (g.content old.disk ≡ None → g.content new.disk ≡ None) → ((pieces : List Record) → Holds pieces left old → Holds (pieces ++ record_of h edit ∷ []) None new)
       → Stands (after_edit h edit) after new
-  stands_accepted edit bytes new after none is gate limit doubted untold keeps =
+  stands_accepted edit bytes new after none is format gate limit doubted untold keeps =
       let same : accepted (after_edit h edit).events ≡ accepted h.events ++ record_of h edit ∷ [] = accepted_accepted h.events (record_of h edit) in
       let last : doubt (after_edit h edit) ≡ None = doubt_accepted h edit in
       let size = size_accepted h edit in
       let long = ap length is in
       let now = stands.size in
       record {
+        format = format ∙ stands.format;
         size = omega arith;
         limit = limit ∙ stands.limit;
         left_is = none ∙ sym last;
@@ -176,12 +180,13 @@ module _ {D : Type 0} {g : Ghosts D} (h : History) (left : Option Record) (old :
 
   -- what a stop leaves
   pub leaves_between : (after : History) (event : Event) (new : D) → after.events ≡ h.events ++ event ∷ []
-      → ((pieces : List Record) → Holds pieces left old → LeavesOnly g old.disk new (IsLeftKeeping pieces left (in_flight event)))
+      → ((pieces : List Record) → Holds pieces left old → LeavesOnly g old.disk new (IsLeftKeeping old.format pieces left (in_flight event)))
       → IsSome (g.content old.disk) → LeavesOnly g old.disk new (IsLeftBetween h after)
   leaves_between after event new is leaves told =
-      widened g old.disk new (IsLeftKeeping (accepted h.events) (doubt h) (in_flight event)) (IsLeftBetween h after)
-      (subst (λ (o : Option Record). LeavesOnly g old.disk new (IsLeftKeeping (accepted h.events) o (in_flight event))) stands.left_is
-      (leaves (accepted h.events) (holds_left told))) (λ image s. left_before h after event image is s)
+      widened g old.disk new (IsLeftKeeping h.format (accepted h.events) (doubt h) (in_flight event)) (IsLeftBetween h after)
+      (subst (λ (f : Format). LeavesOnly g old.disk new (IsLeftKeeping f (accepted h.events) (doubt h) (in_flight event))) stands.format
+      (subst (λ (o : Option Record). LeavesOnly g old.disk new (IsLeftKeeping old.format (accepted h.events) o (in_flight event))) stands.left_is
+      (leaves (accepted h.events) (holds_left told)))) (λ image s. left_before h after event image is s)
 
   -- where nothing is asked of the disk
   pub leaves_unasked : ((disk : D) (image : List ℕ) → g.left_since disk (g.moment disk) image → g.may_leave disk image) → (after : History) → after ≡ h
@@ -189,7 +194,8 @@ module _ {D : Type 0} {g : Ghosts D} (h : History) (left : Option Record) (old :
   leaves_unasked only_now after is told =
       started g old.disk (IsLeftBetween h after)
       (λ image left. left_same h after image (ap (λ (h : History). h.events) is)
-      (records_stand (accepted h.events) (doubt h) image ((stands.holds told).images image (only_now old.disk image left))))
+      (subst (λ (f : Format). StandsFor f (accepted h.events) (doubt h) image) stands.format
+      (records_stand old.format (accepted h.events) (doubt h) image ((stands.holds told).images image (only_now old.disk image left)))))
 
   -- the calls of the disk
   pub calls_inside : (new : D) (P : Bool → List Bool → Type 0)

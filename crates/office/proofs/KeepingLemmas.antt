@@ -4,7 +4,7 @@ use Rattle.std.proofs.Common.{arith, refl, ap, sym, subst, inl, inr, ◌∙◌, 
 use Rattle.devices.specs.declared.disks.Disk.{Ghosts}
 use Rattle.devices.specs.declared.disks.DiskFailed.{DiskFailed}
 use Rattle.journal.specs.JournalBytes.{StandsFor}
-use Rattle.journal.specs.Keeping.{Holds, IsNext, AppendCalls, ShowsCalls, doubt_of, in_flight, leaves_doubt}
+use Rattle.journal.specs.Keeping.{Appends, Holds, IsNext, AppendCalls, ShowsCalls, doubt_of, in_flight, leaves_doubt}
 use Rattle.journal.specs.Moments.{LeavesOnly}
 use Rattle.journal.specs.Writing.{Lists}
 use Rattle.journal.specs.declared.keeping.AppendFault.{AppendFault}
@@ -14,6 +14,7 @@ use Rattle.journal.proofs.Moments.{joined}
 use Rattle.office.specs.Edits.{FailsToAppend, mended}
 use Rattle.office.specs.Keeping.{IsLeftKeeping, Settles, SettleCalls}
 use Rattle.records.specs.Sheets.{Record}
+use Rattle.records.specs.declared.formats.Format.{Format}
 
 -- the mend was done, or none was due
 pub settled_holds : {D T : Type 0} {g : Ghosts D} (pieces : List Record) (left : Option Record) (journal : Journal D g) (result : Result T DiskFailed)
@@ -43,6 +44,12 @@ pub flown_failed : (T : Type 0) (piece : Record) (fault : AppendFault) (in_doubt
 flown_failed T piece Full in_doubt is = ap (λ (b : Bool). doubt_of b piece) is
 flown_failed T piece (Fault told) in_doubt is = ap (λ (b : Bool). doubt_of b piece) is
 
+-- and what the journal holds then
+pub failed_holds : {D : Type 0} {g : Ghosts D} (T : Type 0) (pieces : List Record) (piece : Record) (journal : Journal D g) (fault : AppendFault) (in_doubt : Bool)
+    → leaves_doubt {T = T} (Err fault) ≡ in_doubt → Appends {T = T} pieces piece journal (Err fault) → Holds pieces (doubt_of in_doubt piece) journal
+failed_holds T pieces piece journal Full in_doubt is h = subst (λ (b : Bool). Holds pieces (doubt_of b piece) journal) is h
+failed_holds T pieces piece journal (Fault told) in_doubt is h = subst (λ (b : Bool). Holds pieces (doubt_of b piece) journal) is h
+
 -- the calls of one run behind those of another
 both_listed : (a b c : List Bool) (first second : ℕ) (P Q R : List Bool → Type 0) → first ≤ second
     → ((calls : List Bool) × (b ≡ a ++ calls) × P calls) ⊎ (2 ^ 64 - 1 ≤ first) → ((calls : List Bool) × (c ≡ b ++ calls) × Q calls) ⊎ (2 ^ 64 - 1 ≤ second)
@@ -64,15 +71,26 @@ module _ {D : Type 0} {g : Ghosts D} (pieces : List Record) (left : Option Recor
     (done : is_err result ≡ false) (holds : Holds pieces left old)
     (settled : (pieces : List Record) (left : Option Record) → Holds pieces left old → Settles pieces left mid result) where
   pub keep_moments : (T : Type 0) (piece : Record) (bytes : List ℕ) (new : D) (appended : Result T AppendFault) (flown : Option Record)
-      → in_flight piece appended ≡ flown → IsNext piece bytes
-      → ((pieces : List Record) (left : Option Record) → Holds pieces left old → LeavesOnly g old.disk mid.disk (StandsFor pieces left))
-      → ((pieces : List Record) (piece : Record) → Holds pieces None mid → IsNext piece bytes
-      → LeavesOnly g mid.disk new (StandsFor pieces (in_flight piece appended)))
-      → LeavesOnly g old.disk new (IsLeftKeeping pieces left flown)
-  keep_moments T piece bytes new appended flown is next first second =
-      joined g old.disk mid.disk new (StandsFor pieces left) (StandsFor pieces (in_flight piece appended)) (IsLeftKeeping pieces left flown)
-      (first pieces left holds) (second pieces piece (settled_holds pieces left mid result done (settled pieces left holds)) next)
-      (λ image s. inl s) (λ image s. inr (subst (λ (o : Option Record). StandsFor pieces o image) is s))
+      → mid.format ≡ old.format → in_flight piece appended ≡ flown → IsNext old.format piece bytes
+      → ((pieces : List Record) (left : Option Record) → Holds pieces left old → LeavesOnly g old.disk mid.disk (StandsFor old.format pieces left))
+      → ((pieces : List Record) (piece : Record) → Holds pieces None mid → IsNext mid.format piece bytes
+      → LeavesOnly g mid.disk new (StandsFor mid.format pieces (in_flight piece appended)))
+      → LeavesOnly g old.disk new (IsLeftKeeping old.format pieces left flown)
+  keep_moments T piece bytes new appended flown same is next first second =
+      joined g old.disk mid.disk new (StandsFor old.format pieces left) (StandsFor mid.format pieces (in_flight piece appended))
+      (IsLeftKeeping old.format pieces left flown) (first pieces left holds)
+      (second pieces piece (settled_holds pieces left mid result done (settled pieces left holds))
+      (subst (λ (f : Format). IsNext f piece bytes) (sym same) next)) (λ image s. inl s)
+      (λ image s. inr (subst (λ (f : Format). StandsFor f pieces flown image) same (subst (λ (o : Option Record). StandsFor mid.format pieces o image) is s)))
+
+  -- what the journal holds behind an append
+  pub keep_appended : (T : Type 0) (piece : Record) (bytes : List ℕ) (new : Journal D g) (appended : Result T AppendFault) → mid.format ≡ old.format
+      → IsNext old.format piece bytes
+      → ((pieces : List Record) (piece : Record) → Holds pieces None mid → IsNext mid.format piece bytes → Appends pieces piece new appended)
+      → Appends pieces piece new appended
+  keep_appended T piece bytes new appended same next each =
+      each pieces piece (settled_holds pieces left mid result done (settled pieces left holds))
+      (subst (λ (f : Format). IsNext f piece bytes) (sym same) next)
 
   -- where each list of an append's calls, behind those of the mend, has P
   pub keep_calls : (T : Type 0) (new : D) (appended : Result T AppendFault) (P : List Bool → Type 0)

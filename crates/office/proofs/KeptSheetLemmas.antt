@@ -38,8 +38,8 @@ pub shown_after : (old new : Registered) (steps : List Step) (site : SiteNumber)
 shown_after old new steps site day goes legal is approved none =
     let same = same_after old new steps site day goes legal is approved none in
     let still : is_approved (status_at new.history.events site day) ≡ true = ap (λ (s : Standing). is_approved s.status) same.standing ∙ approved in
-    let before = shows_kept old.history.limits site day old.history.events legal.orderly approved in
-    let after = shows_kept new.history.limits site day new.history.events (legal_steps old steps new goes legal).orderly still in
+    let before = shows_kept old.history.limits old.history.format site day old.history.events legal.orderly approved in
+    let after = shows_kept new.history.limits new.history.format site day new.history.events (legal_steps old steps new goes legal).orderly still in
     after.2 ∙ same_text after.0 before.0 (sym after.1 ∙ same.sheet ∙ before.1) ∙ sym before.2
 
 -- one record more was found, which takes the approval back or does not

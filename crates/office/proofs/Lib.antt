@@ -8,6 +8,7 @@ pub mod KeepingLemmas
 pub mod KeptSheetLemmas
 pub mod LastingLemmas
 pub mod LeftLemmas
+pub mod NumberLemmas
 pub mod RefusedLemmas
 pub mod ReplayLemmas
 pub mod ShownLemmas

@@ -15,8 +15,7 @@ use Rattle.history.specs.Accepted.{Numbered, edits_of, named, stations_at}
 use Rattle.history.specs.Awaited.{awaited, is_pending}
 use Rattle.history.specs.Events.{Event, History}
 use Rattle.history.specs.Statuses.{locked_at, objection_at}
-use Rattle.history.specs.Verdicts.{Repeats, Refuses, or_else, refused_by_stations, refused_by_statuses, refused_as_awaiting, refused_as_locked, awaiting, awaits_by, is_full_of_events, is_full_of_cells, is_journal_full, refused_where, refusal_of, verdict_of_refusal, verdict_by, verdict}
-use Rattle.history.proofs.VerdictLemmas.{full_of}
+use Rattle.history.specs.Verdicts.{Repeats, Refuses, or_else, refused_by_stations, refused_by_statuses, refused_as_awaiting, refused_as_locked, awaiting, awaits_by, is_full_of_events, is_full_of_cells, is_comment_barred, is_journal_full, refused_where, refused_for_room, refusal_of, verdict_of_refusal, verdict_by, verdict}
 use Rattle.journal.specs.Writing.{Lists}
 use Rattle.office.specs.Edits.{IsRefusedBy, RefusalCalls, is_fault}
 use Rattle.office_inputs.specs.Refusals as inputs
@@ -25,7 +24,7 @@ use Rattle.station_inputs.specs.declared.obstacles.Obstacle.{Obstacle}
 use Rattle.station_inputs.specs.declared.obstacles.Obstacle.TheVariants as obstacles
 use Rattle.office_inputs.specs.declared.refusals.Full.TheVariants as fulls
 use Rattle.office_inputs.specs.declared.refusals.Refusal.{Refusal}
-use Rattle.office_inputs.specs.declared.refusals.Refusal.TheVariants.{RefReused, NoStation, StationExists, Limit, NoRating, RatingExists, PeriodOverlap, NoEntry, NotInReview, SamePerson, Awaits, NotApproved, AlreadyApproved, Locked, HistoryFull, JournalFull, NoMemory, JournalFault}
+use Rattle.office_inputs.specs.declared.refusals.Refusal.TheVariants.{RefReused, NoStation, StationExists, Limit, NoRating, RatingExists, PeriodOverlap, NoEntry, NotInReview, SamePerson, Awaits, NotApproved, AlreadyApproved, Locked, HistoryFull, NoComments, JournalFull, NoMemory, JournalFault}
 use Rattle.office_inputs.specs.declared.refusals.Which.{Which}
 
 abbrev NoFault : Option Refusal → Type 0
@@ -49,12 +48,13 @@ of_stations true kept o r n = refl
 of_stations false true o r n = refl
 of_stations false false o r n = of_inputs o r n
 
-of_room : (events cells journal : Bool) → NoFault (or_else (refused_where events (HistoryFull fulls.Events))
-    (or_else (refused_where cells (HistoryFull fulls.Cells)) (refused_where journal JournalFull)))
-of_room true cells journal = refl
-of_room false true journal = refl
-of_room false false true = refl
-of_room false false false = tt
+of_room : (events cells comment journal : Bool) → NoFault (or_else (refused_where events (HistoryFull fulls.Events))
+    (or_else (refused_where cells (HistoryFull fulls.Cells)) (or_else (refused_where comment NoComments) (refused_where journal JournalFull))))
+of_room true cells comment journal = refl
+of_room false true comment journal = refl
+of_room false false true journal = refl
+of_room false false false true = refl
+of_room false false false false = tt
 
 first_or : (x y : Option Refusal) → NoFault x → NoFault y → NoFault (or_else x y)
 first_or None y p q = q
@@ -100,14 +100,14 @@ of_locked (Some day) = refl
 
 by_history : (h : History) (edit : Edit) → NoFault (refusal_of h edit)
 by_history h edit =
-    let full = full_of h edit in
+    let full = refused_for_room h edit in
     let locked = refused_as_locked h edit in
     let awaited = refused_as_awaiting h edit in
     first_or (refused_by_stations h edit) (or_else (refused_by_statuses h edit) (or_else awaited (or_else locked full))) (by_stations h edit)
     (first_or (refused_by_statuses h edit) (or_else awaited (or_else locked full)) (of_objection (objection_at h.events edit))
     (first_or awaited (or_else locked full) (of_awaiting h.events edit.site edit.what)
     (first_or locked full (of_locked (locked_at h.events edit))
-    (of_room (is_full_of_events h edit) (is_full_of_cells h edit) (is_journal_full h edit)))))
+    (of_room (is_full_of_events h edit) (is_full_of_cells h edit) (is_comment_barred h edit) (is_journal_full h edit)))))
 
 of_refusal : (o : Option Refusal) (refusal : Refusal) → NoFault o → verdict_of_refusal o ≡ Refuses refusal → is_fault refusal ≡ false
 of_refusal None refusal p v = absurd (cc)
@@ -141,6 +141,7 @@ refused_by h edit (NotApproved day) v f = (v, refl)
 refused_by h edit (AlreadyApproved day) v f = (v, refl)
 refused_by h edit (Locked day) v f = (v, refl)
 refused_by h edit (HistoryFull full) v f = (v, refl)
+refused_by h edit NoComments v f = (v, refl)
 refused_by h edit JournalFull v f = (v, refl)
 refused_by h edit NoMemory v f = refl
 refused_by h edit (JournalFault in_doubt) v f = absurd (cc)
@@ -165,6 +166,7 @@ no_calls old edit new (NotApproved day) f = refl
 no_calls old edit new (AlreadyApproved day) f = refl
 no_calls old edit new (Locked day) f = refl
 no_calls old edit new (HistoryFull full) f = refl
+no_calls old edit new NoComments f = refl
 no_calls old edit new JournalFull f = refl
 no_calls old edit new NoMemory f = refl
 no_calls old edit new (JournalFault in_doubt) f = absurd (cc)

@@ -17,11 +17,12 @@ use Rattle.office.specs.Steps.{Step, AnEdit, AClaim, ALook, APublication, ATurn,
 use Rattle.office.proofs.DoubtLemmas.{accepted_publications}
 use Rattle.office_inputs.specs.declared.limits.Limits.{Limits}
 use Rattle.office_inputs.specs.declared.refusals.Refusal.{Refusal}
-use Rattle.office_inputs.specs.declared.refusals.Refusal.TheVariants.{RefReused, NoStation, StationExists, Limit, NoRating, RatingExists, PeriodOverlap, NoEntry, NotInReview, SamePerson, Awaits, NotApproved, AlreadyApproved, Locked, HistoryFull, JournalFull, NoMemory, JournalFault}
+use Rattle.office_inputs.specs.declared.refusals.Refusal.TheVariants.{RefReused, NoStation, StationExists, Limit, NoRating, RatingExists, PeriodOverlap, NoEntry, NotInReview, SamePerson, Awaits, NotApproved, AlreadyApproved, Locked, HistoryFull, NoComments, JournalFull, NoMemory, JournalFault}
 use Rattle.recompute.specs.Jobs.{DayJob}
 use Rattle.recompute.specs.declared.jobs.Publish.{Publish}
 use Rattle.recompute.specs.declared.jobs.Publish.TheVariants.{Settled, Superseded, Foreign, Published}
 use Rattle.records.specs.Sheets.{Record}
+use Rattle.records.specs.declared.formats.Format.{Format}
 use Rattle.register.specs.Asked.{day_of, outcome_at}
 use Rattle.register.specs.Keeping.{KeepsToTheLimit}
 use Rattle.register.specs.Registered.{Registered, IsSettledTo, first_unclaimed}
@@ -58,6 +59,7 @@ of_refused h edit new (NotApproved day) is = Still refl is.1
 of_refused h edit new (AlreadyApproved day) is = Still refl is.1
 of_refused h edit new (Locked day) is = Still refl is.1
 of_refused h edit new (HistoryFull full) is = Still refl is.1
+of_refused h edit new NoComments is = Still refl is.1
 of_refused h edit new JournalFull is = Still refl is.1
 of_refused h edit new NoMemory is = Still refl is
 of_refused h edit new (JournalFault in_doubt) is = Failed edit is.left refl refl is.lawful (is.failed, is.left_is) is.faulted
@@ -103,10 +105,10 @@ legal_course h asked edits new (Failed edit left its e v may is) k =
     subst IsLegal (sym is) (legal_more h (Faulted left) k (may_fault h left (left_may_be_kept h edit left v k may)))
 legal_course h asked edits new (Shown days e p is) k = subst IsLegal (sym is) (legal_published h days p k)
 
-found_may_be_kept : (h : History) (cut : Option Edit) (piece : Record) → IsLegal h → MayBeFound h cut piece → MayBeKept h.limits h.events piece
+found_may_be_kept : (h : History) (cut : Option Edit) (piece : Record) → IsLegal h → MayBeFound h cut piece → MayBeKept h.limits h.format h.events piece
 found_may_be_kept h cut piece k m = elim m [
   | inl left ↦ doubt_may_be_kept h piece left k
-  | inr flown ↦ subst (MayBeKept h.limits h.events) (sym flown.3) (accepted_may_be_kept h flown.0 flown.2)
+  | inr flown ↦ subst (MayBeKept h.limits h.format h.events) (sym flown.3) (accepted_may_be_kept h flown.0 flown.2)
 ]
 
 legal_reopened : (old : Registered) (cut : Option Edit) (found : Option Record) (new : Registered) → IsReopened old cut found new → IsLegal old.history → IsLegal new.history
@@ -127,42 +129,50 @@ pub record Adds (h : History) (edits : List Edit) (new : History) : Type 0 where
   pub accepted_are : accepted new.events ≡ accepted h.events ++ records
   pub edits_are : map edit_of records ≡ edits
   pub limits : new.limits ≡ h.limits
+  pub format : new.format ≡ h.format
 
-adds_none : (h : History) (edits : List Edit) (new : History) → edits ≡ [] → accepted new.events ≡ accepted h.events → new.limits ≡ h.limits → Adds h edits new
-adds_none h edits new e same limits = record {
+adds_none : (h : History) (edits : List Edit) (new : History) → edits ≡ [] → accepted new.events ≡ accepted h.events → new.limits ≡ h.limits
+    → new.format ≡ h.format → Adds h edits new
+adds_none h edits new e same limits format = record {
   records = [];
   accepted_are = same ∙ sym (append-nil (accepted h.events));
   edits_are = sym e;
   limits = limits;
+  format = format;
 }
 
 limits_of : History → Limits
 limits_of h = h.limits
 
+format_of : History → Format
+format_of h = h.format
+
 adds_course : (h : History) (asked : Option Edit) (edits : List Edit) (new : History) → Course h asked edits new → Adds h edits new
-unfolding limits_of
-adds_course h asked edits new (Still e is) = adds_none h edits new e (ap (λ (x : History). accepted x.events) is) (ap limits_of is)
+unfolding limits_of format_of
+adds_course h asked edits new (Still e is) = adds_none h edits new e (ap (λ (x : History). accepted x.events) is) (ap limits_of is) (ap format_of is)
 adds_course h asked edits new (Taken edit its e v is) = record {
   records = record_of h edit ∷ [];
   accepted_are = ap (λ (x : History). accepted x.events) is ∙ accepted_accepted h.events (record_of h edit);
   edits_are = sym e;
   limits = ap limits_of is;
+  format = ap format_of is;
 }
 adds_course h asked edits new (Failed edit left its e v may is) =
-    adds_none h edits new e (ap (λ (x : History). accepted x.events) is ∙ accepted_faulted h.events left) (ap limits_of is)
+    adds_none h edits new e (ap (λ (x : History). accepted x.events) is ∙ accepted_faulted h.events left) (ap limits_of is) (ap format_of is)
 adds_course h asked edits new (Shown days e p is) =
-    adds_none h edits new e (ap (λ (x : History). accepted x.events) is ∙ accepted_publications h.events days) (ap limits_of is)
+    adds_none h edits new e (ap (λ (x : History). accepted x.events) is ∙ accepted_publications h.events days) (ap limits_of is) (ap format_of is)
 
 adds_reopened : (old : Registered) (cut : Option Edit) (found : Option Record) (new : Registered) → IsReopened old cut found new
     → Adds old.history (added_by (AStop cut found)) new.history
-unfolding limits_of
+unfolding limits_of format_of
 adds_reopened old cut None new is =
-    adds_none old.history [] new.history refl (ap (λ (x : History). accepted x.events) is.0 ∙ accepted_all (accepted old.history.events)) (ap limits_of is.0)
+    adds_none old.history [] new.history refl (ap (λ (x : History). accepted x.events) is.0 ∙ accepted_all (accepted old.history.events)) (ap limits_of is.0) (ap format_of is.0)
 adds_reopened old cut (Some piece) new is = record {
   records = piece ∷ [];
   accepted_are = ap (λ (x : History). accepted x.events) is.1 ∙ accepted_all (accepted old.history.events ++ piece ∷ []);
   edits_are = refl;
   limits = ap limits_of is.1;
+  format = ap format_of is.1;
 }
 
 pub adds_step : (old : Registered) (step : Step) (new : Registered) → IsStep old step new → Adds old.history (added_by step) new.history

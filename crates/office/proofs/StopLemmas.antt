@@ -14,7 +14,7 @@ use Rattle.history.specs.declared.recorded.NotKept.TheVariants as not_kept
 use Rattle.history.proofs.EventLemmas.{accepted_accepted, accepted_faulted}
 use Rattle.history.proofs.LegalLemmas.{head_of, not_nil, tail_of}
 use Rattle.journal.specs.JournalBytes.{IsJournalOf, StandsFor}
-use Rattle.journal.proofs.Walks.{one_list}
+use Rattle.journal.proofs.Walks.{one_format, one_list}
 use Rattle.office.specs.Openings.{IsOpened}
 use Rattle.office.specs.Steps.{Step, AStop, IsCall, IsReopened, IsStep, MayBeFound, added_by, cut_off, GoesOver, added}
 use Rattle.office.specs.Stops.{IsLeft, IsLeftBefore, IsLeftBetween, in_flight}
@@ -23,6 +23,7 @@ use Rattle.office.proofs.DoubtLemmas.{accepted_publications, doubt_publications}
 use Rattle.office.proofs.EditLemmas.{doubt_accepted, doubt_faulted}
 use Rattle.office.proofs.StepLemmas.{Course, Still, Taken, Failed, Shown}
 use Rattle.records.specs.Sheets.{Record}
+use Rattle.records.specs.declared.formats.Format.{Format}
 use Rattle.register.specs.Registered.{Registered, NoneOut}
 
 -- these records are those of the accepted edits, or these and one that may be found where this call was cut off
@@ -30,15 +31,15 @@ abbrev Finds : History → Option Edit → List Record → Option Record → Typ
 Finds h cut pieces None = pieces ≡ accepted h.events
 Finds h cut pieces (Some piece) = MayBeFound h cut piece × (pieces ≡ accepted h.events ++ piece ∷ [])
 
-module _ (h : History) (cut : Option Edit) (pieces : List Record) (image : List ℕ) (journal : IsJournalOf pieces image) where
+module _ (h : History) (cut : Option Edit) (pieces : List Record) (image : List ℕ) (journal : IsJournalOf h.format pieces image) where
   finds : (records : List Record) (o : Option Record) → records ≡ accepted h.events → ((piece : Record) → o ≡ Some piece → MayBeFound h cut piece)
-      → StandsFor records o image → (found : Option Record) × Finds h cut pieces found
-  finds records None are may stands = (None, one_list pieces records image journal stands ∙ are)
+      → StandsFor h.format records o image → (found : Option Record) × Finds h cut pieces found
+  finds records None are may stands = (None, one_list h.format pieces records image journal stands ∙ are)
   finds records (Some last) are may stands = elim stands [
-    | inl without ↦ (None, one_list pieces records image journal without ∙ are)
+    | inl without ↦ (None, one_list h.format pieces records image journal without ∙ are)
     | inr with_last ↦ (
       Some last,
-      (may last refl, one_list pieces (records ++ last ∷ []) image journal with_last ∙ ap (λ (l : List Record). l ++ last ∷ []) are),
+      (may last refl, one_list h.format pieces (records ++ last ∷ []) image journal with_last ∙ ap (λ (l : List Record). l ++ last ∷ []) are),
     )
   ]
 
@@ -127,16 +128,17 @@ module _ (h new : History) (cut : Option Edit) (since : List Event) (event : Eve
         flight = λ piece i. absurd (no_flight parts.second event rest parts.behind_are piece i);
       }
 
-module _ (h : History) (cut : Option Edit) (pieces : List Record) (image : List ℕ) (journal : IsJournalOf pieces image) where
+module _ (h : History) (cut : Option Edit) (pieces : List Record) (image : List ℕ) (journal : IsJournalOf h.format pieces image) where
   -- what a stop leaves when the call has done all
-  found_after : (edits : List Edit) (new : History) → Course h cut edits new → IsLeft new image → (found : Option Record) × Finds h cut pieces found
+  found_after : (edits : List Edit) (new : History) → Course h cut edits new → StandsFor h.format (accepted new.events) (doubt new) image
+      → (found : Option Record) × Finds h cut pieces found
   found_after edits new (Still e is) left =
       finds h cut pieces image journal (accepted new.events) (doubt new) (ap (λ (x : History). accepted x.events) is)
       (λ piece d. inl (sym (ap doubt is) ∙ d)) left
   found_after edits new (Taken edit its e v is) left =
       let records = ap (λ (x : History). accepted x.events) is ∙ accepted_accepted h.events (record_of h edit) in
-      let stands = subst (λ (o : Option Record). StandsFor (accepted new.events) o image) (ap doubt is ∙ doubt_accepted h edit) left in
-      (Some (record_of h edit), (inr (edit, its, v, refl), one_list pieces (accepted new.events) image journal stands ∙ records))
+      let stands = subst (λ (o : Option Record). StandsFor h.format (accepted new.events) o image) (ap doubt is ∙ doubt_accepted h edit) left in
+      (Some (record_of h edit), (inr (edit, its, v, refl), one_list h.format pieces (accepted new.events) image journal stands ∙ records))
   found_after edits new (Failed edit lost its e v may is) left =
       finds h cut pieces image journal (accepted new.events) (doubt new) (ap (λ (x : History). accepted x.events) is ∙ accepted_faulted h.events lost)
       (λ piece d. left_found h cut edit may.0 its v piece (sym may.1 ∙ sym (doubt_faulted h lost) ∙ sym (ap doubt is) ∙ d)) left
@@ -149,7 +151,7 @@ module _ (h : History) (cut : Option Edit) (pieces : List Record) (image : List 
       → IsLeftBefore (go_on h since) behind image → (found : Option Record) × Finds h cut pieces found
   found_inside edits new course since [] whole left =
       let all : h.events ++ since ≡ new.events = sym (append-nil (h.events ++ since)) ∙ sym whole in
-      found_after edits new course (subst (λ (l : List Event). StandsFor (accepted l) (doubt_back (reverse l)) image) all left)
+      found_after edits new course (subst (λ (l : List Event). StandsFor h.format (accepted l) (doubt_back (reverse l)) image) all left)
   found_inside edits new course since (event ∷ rest) whole left =
       let before = is_before h new cut since event rest whole edits course in
       elim left [
@@ -160,28 +162,55 @@ module _ (h : History) (cut : Option Edit) (pieces : List Record) (image : List 
       ]
 
 found_by_step : (old : Registered) (step : Step) (new : Registered) (image : List ℕ) (pieces : List Record) → IsCall step → IsStep old step new
-    → IsLeftBetween old.history new.history image → IsJournalOf pieces image → (found : Option Record) × Finds old.history (cut_off step) pieces found
+    → IsLeftBetween old.history new.history image → IsJournalOf old.history.format pieces image → (found : Option Record) × Finds old.history (cut_off step) pieces found
 found_by_step old step new image pieces call is left journal =
     found_inside old.history (cut_off step) pieces image journal (added_by step) new.history (call_course old step new call is) left.since left.behind
     left.after_is left.left
 
 reopened_on : (old register : Registered) (cut : Option Edit) (pieces : List Record) (found : Option Record) → Finds old.history cut pieces found
-    → register.history ≡ reopen old.history.limits pieces → NoneOut register → IsReopened old cut found register
-reopened_on old register cut pieces None is e none = (e ∙ ap (reopen old.history.limits) is, none)
-reopened_on old register cut pieces (Some piece) is e none = (is.0, e ∙ ap (reopen old.history.limits) is.1, none)
+    → register.history ≡ reopen old.history.limits old.history.format pieces → NoneOut register → IsReopened old cut found register
+reopened_on old register cut pieces None is e none = (e ∙ ap (reopen old.history.limits old.history.format) is, none)
+reopened_on old register cut pieces (Some piece) is e none = (is.0, e ∙ ap (reopen old.history.limits old.history.format) is.1, none)
+
+-- what is left has the history's format
+stands_in : (format other : Format) (records : List Record) (o : Option Record) (pieces : List Record) (image : List ℕ) → StandsFor format records o image
+    → IsJournalOf other pieces image → other ≡ format
+stands_in format other records None pieces image stands journal = one_format other format pieces records image journal stands
+stands_in format other records (Some last) pieces image stands journal = elim stands [
+  | inl without ↦ one_format other format pieces records image journal without
+  | inr with_last ↦ one_format other format pieces (records ++ last ∷ []) image journal with_last
+]
+
+pub left_in : (h : History) (behind : List Event) (format : Format) (pieces : List Record) (image : List ℕ) → IsLeftBefore h behind image
+    → IsJournalOf format pieces image → format ≡ h.format
+left_in h [] format pieces image left journal = stands_in h.format format (accepted h.events) (doubt h) pieces image left journal
+left_in h (event ∷ behind) format pieces image left journal = elim left [
+  | inl here ↦ stands_in h.format format (accepted h.events) (doubt h) pieces image here journal
+  | inr flown ↦ stands_in h.format format (accepted h.events) (in_flight event) pieces image flown journal
+]
+
+-- so has what is opened on it
+module _ (old register : Registered) (image : List ℕ) (o : IsOpened (Some image) old.history.limits register) (same : register.history.format ≡ old.history.format) where
+  opened_found : IsJournalOf old.history.format o.pieces image
+  opened_found = subst (λ (f : Format). IsJournalOf f o.pieces image) same o.found
+
+  opened_again : register.history ≡ reopen old.history.limits old.history.format o.pieces
+  opened_again = o.reopened ∙ ap (λ (f : Format). reopen old.history.limits f o.pieces) same
 
 pub stopped_between : (old register : Registered) (image : List ℕ) → IsLeft old.history image → IsOpened (Some image) old.history.limits register
     → (found : Option Record) × IsStep old (AStop None found) register
 stopped_between old register image left o =
-    let at = finds_left old.history None o.pieces image o.found left in
-    (at.0, reopened_on old register None o.pieces at.0 at.1 o.reopened o.claims)
+    let same = left_in old.history [] register.history.format o.pieces image left o.found in
+    let at = finds_left old.history None o.pieces image (opened_found old register image o same) left in
+    (at.0, reopened_on old register None o.pieces at.0 at.1 (opened_again old register image o same) o.claims)
 
 pub stopped_inside : (old : Registered) (step : Step) (new register : Registered) (image : List ℕ) → IsCall step → IsStep old step new
     → IsLeftBetween old.history new.history image → IsOpened (Some image) old.history.limits register
     → (found : Option Record) × IsStep old (AStop (cut_off step) found) register
 stopped_inside old step new register image call is left o =
-    let at = found_by_step old step new image o.pieces call is left o.found in
-    (at.0, reopened_on old register (cut_off step) o.pieces at.0 at.1 o.reopened o.claims)
+    let same = left_in (go_on old.history left.since) left.behind register.history.format o.pieces image left.left o.found in
+    let at = found_by_step old step new image o.pieces call is left (opened_found old register image o same) in
+    (at.0, reopened_on old register (cut_off step) o.pieces at.0 at.1 (opened_again old register image o same) o.claims)
 
 -- the records of the edits that were accepted before, of all that were added since, and of these more
 abbrev HasMore : List Event → List Step → History → Option Edit → List Record → List Record → Type 0
@@ -204,13 +233,13 @@ edits_left old at before cut pieces goes (Some piece) is = (
 )
 
 pub left_between : (old at : Registered) (before : List Step) (image : List ℕ) (pieces : List Record) → GoesOver old before at → IsLeft at.history image
-    → IsJournalOf pieces image → (more : List Record) × HasMore old.history.events before at.history None pieces more
+    → IsJournalOf at.history.format pieces image → (more : List Record) × HasMore old.history.events before at.history None pieces more
 left_between old at before image pieces goes left journal =
     let found = finds_left at.history None pieces image journal left in
     edits_left old at before None pieces goes found.0 found.1
 
 pub left_inside : (old at new : Registered) (before : List Step) (step : Step) (image : List ℕ) (pieces : List Record) → GoesOver old before at → IsCall step
-    → IsStep at step new → IsLeftBetween at.history new.history image → IsJournalOf pieces image
+    → IsStep at step new → IsLeftBetween at.history new.history image → IsJournalOf at.history.format pieces image
     → (more : List Record) × HasMore old.history.events before at.history (cut_off step) pieces more
 left_inside old at new before step image pieces goes call is left journal =
     let found = found_by_step at step new image pieces call is left journal in

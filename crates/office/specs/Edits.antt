@@ -11,7 +11,7 @@ use Rattle.journal.specs.Keeping.{AppendCalls}
 use Rattle.journal.specs.declared.keeping.AppendFault.TheVariants as append
 use Rattle.office.specs.declared.offices.Accepted.{Accepted}
 use Rattle.office_inputs.specs.declared.refusals.Refusal.{Refusal}
-use Rattle.office_inputs.specs.declared.refusals.Refusal.TheVariants.{RefReused, NoStation, StationExists, Limit, NoRating, RatingExists, PeriodOverlap, NoEntry, NotInReview, SamePerson, Awaits, NotApproved, AlreadyApproved, Locked, HistoryFull, JournalFull, NoMemory, JournalFault}
+use Rattle.office_inputs.specs.declared.refusals.Refusal.TheVariants.{RefReused, NoStation, StationExists, Limit, NoRating, RatingExists, PeriodOverlap, NoEntry, NotInReview, SamePerson, Awaits, NotApproved, AlreadyApproved, Locked, HistoryFull, NoComments, JournalFull, NoMemory, JournalFault}
 use Rattle.records.specs.Sheets.{Record}
 use Rattle.register.specs.Registered.{Registered, KeepsClaims, MarksClaims}
 
@@ -53,6 +53,7 @@ IsRefusedBy old edit new (NotApproved day) = IsRefused old edit new (NotApproved
 IsRefusedBy old edit new (AlreadyApproved day) = IsRefused old edit new (AlreadyApproved day)
 IsRefusedBy old edit new (Locked day) = IsRefused old edit new (Locked day)
 IsRefusedBy old edit new (HistoryFull full) = IsRefused old edit new (HistoryFull full)
+IsRefusedBy old edit new NoComments = IsRefused old edit new NoComments
 IsRefusedBy old edit new JournalFull = IsRefused old edit new JournalFull
 IsRefusedBy old edit new NoMemory = new ≡ old
 IsRefusedBy old edit new (JournalFault in_doubt) = IsFaulted old edit new in_doubt
@@ -79,6 +80,7 @@ is_fault (NotApproved day) = false
 is_fault (AlreadyApproved day) = false
 is_fault (Locked day) = false
 is_fault (HistoryFull full) = false
+is_fault NoComments = false
 is_fault JournalFull = false
 is_fault NoMemory = false
 is_fault (JournalFault in_doubt) = true
@@ -138,6 +140,7 @@ RefusalCalls old edit new (NotApproved day) calls = calls ≡ []
 RefusalCalls old edit new (AlreadyApproved day) calls = calls ≡ []
 RefusalCalls old edit new (Locked day) calls = calls ≡ []
 RefusalCalls old edit new (HistoryFull full) calls = calls ≡ []
+RefusalCalls old edit new NoComments calls = calls ≡ []
 RefusalCalls old edit new JournalFull calls = calls ≡ []
 RefusalCalls old edit new NoMemory calls = calls ≡ []
 RefusalCalls old edit new (JournalFault in_doubt) calls = FaultCalls old edit new in_doubt calls

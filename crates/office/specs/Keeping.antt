@@ -9,6 +9,7 @@ use Rattle.journal.specs.Keeping.{Holds}
 use Rattle.journal.specs.declared.keeping.Journal.{Journal}
 use Rattle.office.specs.Edits.{FailedCalls, FailsToMend, TakenCalls, mended}
 use Rattle.records.specs.Sheets.{Record}
+use Rattle.records.specs.declared.formats.Format.{Format}
 
 -- the journal holds one record more and is in no doubt; or after a fault the same records
 abbrev pub Keeps : {D T : Type 0} {g : Ghosts D} → List Record → Record → Option Record → Journal D g → Result T NotKept → Type 0
@@ -32,8 +33,8 @@ flown piece left (Ok done) = Some piece
 flown piece left (Err failed) = left
 
 -- a stop inside leaves the records, or these and the one in doubt before, or these and the one that may stand there in the meantime
-abbrev pub IsLeftKeeping : List Record → Option Record → Option Record → List ℕ → Type 0
-IsLeftKeeping pieces before flown image = StandsFor pieces before image ⊎ StandsFor pieces flown image
+abbrev pub IsLeftKeeping : Format → List Record → Option Record → Option Record → List ℕ → Type 0
+IsLeftKeeping format pieces before flown image = StandsFor format pieces before image ⊎ StandsFor format pieces flown image
 
 -- the calls of the disk
 abbrev pub KeepCalls : {T : Type 0} → Bool → Result T NotKept → List Bool → Type 0

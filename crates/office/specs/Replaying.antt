@@ -15,13 +15,13 @@ use Rattle.register.specs.Registered.{Registered, NoneOut}
 -- these records were read, and each was accepted in its turn
 pub record HasReadmitted {D : Type 0} {g : Ghosts D} (limits : Limits) (pieces : List Record) (register : Registered) (opening : Opening D g) : Type 0 where
   pub read : HasRead pieces opening
-  pub reopened : register.history ≡ reopen limits pieces
+  pub reopened : register.history ≡ reopen limits opening.format pieces
   pub claims : NoneOut register
 
 -- and the gate behind them is closed
 pub record HasReadmittedAll {D : Type 0} {g : Ghosts D} (limits : Limits) (pieces : List Record) (register : Registered) (opening : Opening D g) : Type 0 where
   pub ended : HasEnded pieces opening
-  pub reopened : register.history ≡ reopen limits pieces
+  pub reopened : register.history ≡ reopen limits opening.format pieces
   pub claims : NoneOut register
 
 -- what is read next, whether it is a record

@@ -56,9 +56,9 @@ MayBeFound h cut piece =
 
 -- an office that is opened on the records of the accepted edits and perhaps one more goes on from these, with no claim out
 abbrev pub IsReopened : Registered → Option Edit → Option Record → Registered → Type 0
-IsReopened old cut None new = (new.history ≡ reopen old.history.limits (accepted old.history.events)) × NoneOut new
+IsReopened old cut None new = (new.history ≡ reopen old.history.limits old.history.format (accepted old.history.events)) × NoneOut new
 IsReopened old cut (Some piece) new =
-    MayBeFound old.history cut piece × (new.history ≡ reopen old.history.limits (accepted old.history.events ++ piece ∷ [])) × NoneOut new
+    MayBeFound old.history cut piece × (new.history ≡ reopen old.history.limits old.history.format (accepted old.history.events ++ piece ∷ [])) × NoneOut new
 
 -- an office goes over by this step
 abbrev pub IsStep : Registered → Step → Registered → Type 0

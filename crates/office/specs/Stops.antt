@@ -8,7 +8,7 @@ use Rattle.records.specs.Sheets.{Record}
 
 -- between two calls: the journal of the accepted edits, or of these and the one in doubt
 abbrev pub IsLeft : History → List ℕ → Type 0
-IsLeft h image = StandsFor (accepted h.events) (doubt h) image
+IsLeft h image = StandsFor h.format (accepted h.events) (doubt h) image
 
 -- the record that may stand in the journal before this event has come
 abbrev pub in_flight : Event → Option Record
@@ -25,7 +25,7 @@ MayFollow h (event ∷ behind) piece = (doubt h ≡ Some piece) ⊎ (in_flight e
 -- what a stop leaves when these events are still to come: the same, or the journal of the accepted edits and the one that is in flight
 abbrev pub IsLeftBefore : History → List Event → List ℕ → Type 0
 IsLeftBefore h [] image = IsLeft h image
-IsLeftBefore h (event ∷ behind) image = IsLeft h image ⊎ StandsFor (accepted h.events) (in_flight event) image
+IsLeftBefore h (event ∷ behind) image = IsLeft h image ⊎ StandsFor h.format (accepted h.events) (in_flight event) image
 
 -- What a stop at some moment leaves while a history goes on to another: what it leaves at some point on the way.
 pub record IsLeftBetween (h after : History) (image : List ℕ) : Type 0 where

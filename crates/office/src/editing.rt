@@ -14,6 +14,7 @@ ghost use Rattle.office.specs.Stops.{IsLeftBetween};
 ghost use Rattle.office_inputs.specs.Changes.{changed_days};
 ghost use Rattle.office_inputs.specs.Places.{IsPlaceOf};
 ghost use Rattle.office_inputs.specs.Touched.{interval};
+ghost use Rattle.records.specs.Payloads.{Holds};
 ghost use Rattle.register.specs.Asked.{needs_days};
 ghost use Rattle.register.specs.Registered.{IsReady, KeepsClaims, MarksClaims};
 
@@ -97,6 +98,7 @@ impl<D: Disk> Office<D> {
     /// happened, which claims are out and the disk are as before, also after `NoMemory`.
     fn prepare(&mut self, piece: &Record, place: Place, days: &[Day]) -> Result<Text, NoMemory>
         requires new { named (edits_of self.old.register.history.events) piece.now.edit.reference ≡ None }
+        requires holds { Holds self.old.register.history.format piece.now.edit.comment }
         requires place { IsPlaceOf (stations_at self.old.register.history.events) piece.now.edit.site place }
         requires days { days.now ≡ changed_days (stations_at self.old.register.history.events) piece.now.edit }
         ensures history { self.new.register.history ≡ self.old.register.history }
@@ -104,11 +106,12 @@ impl<D: Disk> Office<D> {
         ensures disk { self.new.disk ≡ self.old.disk }
         ensures any_moment { IsSome (D.content self.old.disk) → LeavesOnly D.Disk self.old.disk self.new.disk (IsLeftBetween self.old.register.history self.new.register.history) }
         ensures room { OnOk result (IsReady self.new.register piece.now.edit) }
-        ensures next { IfOk result (λ bytes. IsNext piece.now bytes) }
+        ensures next { IfOk result (λ bytes. IsNext self.old.register.history.format piece.now bytes) }
     {
         // this runs nothing: it tells the proof that each record of the code is in the grammar
-        keeps_grammar(piece);
-        let bytes = encode_and_close(self.alloc, piece)?;
+        let format = self.register.format();
+        keeps_grammar(piece, format);
+        let bytes = encode_and_close(self.alloc, piece, format)?;
         self.register.prepare(piece.edit(), place, days)?;
         Ok(bytes)
     }
@@ -126,7 +129,7 @@ impl<D: Disk> Office<D> {
         requires place { IsPlaceOf (stations_at self.old.register.history.events) piece.edit.site place }
         requires days { days.now ≡ changed_days (stations_at self.old.register.history.events) piece.edit }
         requires room { IsReady self.old.register piece.edit }
-        requires next { IsNext piece bytes.now }
+        requires next { IsNext self.old.register.history.format piece bytes.now }
         ensures accepted { IfOk result (λ told. (told.repeated ≡ false) × IsTaken self.old.register.history piece.edit self.new.register.history told.number false) }
         ensures claims { IfOk result (λ told. MarksClaims self.old.register self.new.register piece.edit) }
         ensures fault { IfErr result (λ refusal. (in_doubt : Bool) × (refusal ≡ Refusal.JournalFault in_doubt) × IsFaulted self.old.register.history piece.edit self.new.register.history in_doubt) }

@@ -23,15 +23,16 @@ pub(crate) fn keep<D: Disk>(
 ) -> Result<(), NotKept>
     requires in_doubt { journal.old.in_doubt ≡ is_some doubt.old }
     requires fits { journal.old.gate + 1 + length bytes.now ≤ journal.old.limit }
-    requires next { IsNext piece.now bytes.now }
+    requires next { IsNext journal.old.format piece.now bytes.now }
     ensures keeps { (pieces : List Record) → Holds pieces doubt.old journal.old → Keeps pieces piece.now doubt.new journal.new result }
     ensures leaves { Leaves doubt.old piece.now doubt.new result }
     ensures in_doubt { journal.new.in_doubt ≡ is_some doubt.new }
     ensures any_moment { (pieces : List Record) → Holds pieces doubt.old journal.old
-        → LeavesOnly D.Disk journal.old.disk journal.new.disk (IsLeftKeeping pieces doubt.old (flown piece.now doubt.new result)) }
+        → LeavesOnly D.Disk journal.old.disk journal.new.disk (IsLeftKeeping journal.old.format pieces doubt.old (flown piece.now doubt.new result)) }
     ensures calls { (pieces : List Record) → Holds pieces doubt.old journal.old
         → Lists (D.content journal.old.disk) (D.calls journal.old.disk) (D.calls journal.new.disk) (D.faults journal.new.disk) (KeepCalls (is_some doubt.old) result) }
     ensures gate { journal.new.gate ≡ gate_of journal.old.gate (length bytes.now) result }
+    ensures format { journal.new.format ≡ journal.old.format }
     ensures limit { journal.new.limit ≡ journal.old.limit }
     ensures untold { D.content journal.old.disk ≡ None → D.content journal.new.disk ≡ None }
     ensures counted { D.faults journal.old.disk ≤ D.faults journal.new.disk }
@@ -56,11 +57,12 @@ pub(crate) fn keep<D: Disk>(
 fn settle<D: Disk>(journal: &mut Journal<D>) -> Result<(), DiskFailed>
     ensures settled { (pieces : List Record) (left : Option Record) → Holds pieces left journal.old → Settles pieces left journal.new result }
     ensures any_moment { (pieces : List Record) (left : Option Record) → Holds pieces left journal.old
-        → LeavesOnly D.Disk journal.old.disk journal.new.disk (StandsFor pieces left) }
+        → LeavesOnly D.Disk journal.old.disk journal.new.disk (StandsFor journal.old.format pieces left) }
     ensures calls { Lists (D.content journal.old.disk) (D.calls journal.old.disk) (D.calls journal.new.disk) (D.faults journal.new.disk) (SettleCalls journal.old.in_doubt result) }
     ensures doubtful { OnErr result (journal.old.in_doubt ≡ true) }
     ensures in_doubt { journal.new.in_doubt ≡ is_err result }
     ensures gate { journal.new.gate ≡ journal.old.gate }
+    ensures format { journal.new.format ≡ journal.old.format }
     ensures limit { journal.new.limit ≡ journal.old.limit }
     ensures untold { D.content journal.old.disk ≡ None → D.content journal.new.disk ≡ None }
     ensures counted { D.faults journal.old.disk ≤ D.faults journal.new.disk }

@@ -35,6 +35,7 @@ ghost use Rattle.recompute.specs.Jobs.{DayJob};
 ghost use Rattle.recompute.specs.declared.jobs.Publish.{Publish};
 ghost use Rattle.recompute.specs.declared.jobs.Publish.TheVariants.{Foreign, Published};
 ghost use Rattle.records.specs.Sheets.{Record};
+ghost use Rattle.records.specs.declared.formats.Format.{Format};
 ghost use Rattle.register.specs.Keeping.{KeepsToTheLimit};
 ghost use Rattle.register.specs.Registered.{Registered};
 
@@ -56,9 +57,9 @@ pub fn an_office_stands_on_its_disk<D: Disk>(office: &Office<D>)
 /// stop may leave.
 pub fn an_accepted_edit_leaves_no_doubt<D: Disk>(office: &Office<D>)
     ensures settled { (old new : History) (edit : Edit) (number : ℕ) → IsTaken old edit new number false → doubt new ≡ None }
-    ensures now { doubt office.now.register.history ≡ None → IfSome (D.content office.now.disk) (IsJournalOf (accepted office.now.register.history.events)) }
+    ensures now { doubt office.now.register.history ≡ None → IfSome (D.content office.now.disk) (IsJournalOf office.now.register.history.format (accepted office.now.register.history.events)) }
     ensures images { doubt office.now.register.history ≡ None → IsSome (D.content office.now.disk) → (image : List ℕ) → D.may_leave office.now.disk image
-        → IsJournalOf (accepted office.now.register.history.events) image }
+        → IsJournalOf office.now.register.history.format (accepted office.now.register.history.events) image }
 {
     let _ = &office.journal;
 }
@@ -69,12 +70,12 @@ pub fn an_accepted_edit_leaves_no_doubt<D: Disk>(office: &Office<D>)
 /// told its number.
 pub fn whatever_is_left_opens()
     ensures opens { (h : History) (image : List ℕ) → IsLegal h → IsLeft h image → MayOpen h [] image }
-    ensures any_moment { (h after : History) (image : List ℕ) → IsLegal after → after.limits ≡ h.limits → (left : IsLeftBetween h after image)
+    ensures any_moment { (h after : History) (image : List ℕ) → IsLegal after → after.limits ≡ h.limits → after.format ≡ h.format → (left : IsLeftBetween h after image)
         → MayOpen (go_on h left.since) left.behind image }
-    ensures header { (h : History) (behind : List Event) (image : List ℕ) → MayOpen h behind image → HasHeader image }
+    ensures header { (h : History) (behind : List Event) (image : List ℕ) → MayOpen h behind image → HasHeader h.format image }
     ensures undamaged { (h : History) (behind : List Event) (image : List ℕ) (at : ℕ) → MayOpen h behind image → ¬ IsDamagedFor h.limits at image }
     ensures repeated { (h : History) (behind : List Event) (pieces : List Record) (image : List ℕ) (place : ℕ) (edit : Edit) → MayOpen h behind image
-        → IsJournalOf pieces image → slice_get (edits_of h.events) place ≡ Some edit → verdict (reopen h.limits pieces) edit ≡ Repeats (place + 1) }
+        → IsJournalOf h.format pieces image → slice_get (edits_of h.events) place ≡ Some edit → verdict (reopen h.limits h.format pieces) edit ≡ Repeats (place + 1) }
 {}
 
 /// A journal is damaged for an office at one gate at most: the first one without a record, or with one that is not accepted.
@@ -96,9 +97,10 @@ pub fn accepted_edits_stay()
     ensures repeated { (old new : Registered) (before after : List Step) (edit : Edit) (told : Accepted) → IsLegal old.history
         → GoesOver old (before ++ AnEdit edit (Ok told) ∷ after) new → verdict new.history edit ≡ Repeats told.number }
     ensures limits { (old new : Registered) (steps : List Step) → GoesOver old steps new → new.history.limits ≡ old.history.limits }
+    ensures format { (old new : Registered) (steps : List Step) → GoesOver old steps new → new.history.format ≡ old.history.format }
     ensures limit { (old new : Registered) (steps : List Step) → All IsCall steps → GoesOver old steps new → KeepsToTheLimit old.history
         → KeepsToTheLimit new.history }
-    ensures limit_from_opening { (old new : Registered) (steps : List Step) (pieces : List Record) → old.history ≡ reopen old.history.limits pieces
+    ensures limit_from_opening { (old new : Registered) (steps : List Step) (pieces : List Record) → old.history ≡ reopen old.history.limits old.history.format pieces
         → GoesOver old steps new → KeepsToTheLimit old.history → KeepsToTheLimit new.history }
 {}
 
@@ -107,7 +109,7 @@ pub fn accepted_edits_stay()
 pub fn faults_are_counted()
     ensures steps { (old new : Registered) (steps : List Step) (before now : ℕ) → GoesOverCounting old before steps new now → HasCounted old.history before
         → HasCounted new.history now }
-    ensures opened { (limits : Limits) (pieces : List Record) (count : ℕ) → HasCounted (reopen limits pieces) count }
+    ensures opened { (limits : Limits) (format : Format) (pieces : List Record) (count : ℕ) → HasCounted (reopen limits format pieces) count }
 {}
 
 /// Stopped at any moment, between two calls or inside one, the journal has the edits that were accepted before, all that were
@@ -115,11 +117,11 @@ pub fn faults_are_counted()
 /// edit.
 pub fn no_acknowledged_edit_is_lost()
     ensures between { (old at : Registered) (before : List Step) (image : List ℕ) (pieces : List Record) → GoesOver old before at → IsLeft at.history image
-        → IsJournalOf pieces image
+        → IsJournalOf at.history.format pieces image
         → (more : List Record) × (length more ≤ 1) × All (MayBeFound at.history None) more
         × (map edit_of pieces ≡ (edits_of old.history.events ++ added before) ++ map edit_of more) }
     ensures inside { (old at new : Registered) (before : List Step) (step : Step) (image : List ℕ) (pieces : List Record) → GoesOver old before at
-        → IsCall step → IsStep at step new → IsLeftBetween at.history new.history image → IsJournalOf pieces image
+        → IsCall step → IsStep at step new → IsLeftBetween at.history new.history image → IsJournalOf at.history.format pieces image
         → (more : List Record) × (length more ≤ 1) × All (MayBeFound at.history (cut_off step)) more
         × (map edit_of pieces ≡ (edits_of old.history.events ++ added before) ++ map edit_of more) }
 {}

@@ -1,9 +1,9 @@
 //! The office of one thread: what it keeps in memory, and the journal on a disk.
 
-ghost use Rattle.std.specs.Prelude.{◌≡◌, ◌≤◌, ℕ, List, length, option_map, IsSome, IfOk, IfSome};
+ghost use Rattle.std.specs.Prelude.{◌≡◌, ◌↔◌, ◌⊎◌, ◌<◌, ◌≤◌, ℕ, List, length, option_map, None, IsSome, IfOk, IfSome};
 ghost use Rattle.approval.specs.Statuses.{approved_days};
 ghost use Rattle.fixed_units.specs.Calendar.{days_of_calendar};
-ghost use Rattle.history.specs.Accepted.{accepted, record_numbered, stations_at};
+ghost use Rattle.history.specs.Accepted.{accepted, edit_numbered, record_numbered, stations_at};
 ghost use Rattle.history.specs.Awaited.{answer_at, pending_days};
 ghost use Rattle.history.specs.Sheets.{shown_at};
 ghost use Rattle.history.specs.Statuses.{status_at};
@@ -15,11 +15,12 @@ ghost use Rattle.register.specs.Asked.{answer_told, sheet_told};
 
 use approval::Status;
 use devices::Disk;
+use edits::Edit;
 use fixed_units::{Day, NoMemory, Site};
 use history::Doubt;
 use journal::Journal;
 use office_inputs::{Inputs, Limits, Station};
-use records::Record;
+use records::{Format, Record};
 use register::{Answer, Register, Sheet};
 use std::alloc::Global;
 use std::marker::Model;
@@ -77,6 +78,13 @@ impl<D: Disk> Office<D> {
         self.register.limits()
     }
 
+    /// The format of the journal.
+    pub fn format(&self) -> Format
+        ensures { result ≡ self.now.register.history.format }
+    {
+        self.register.format()
+    }
+
     /// How many events the history has: accepted edits, publications and faults.
     pub fn events(&self) -> u64
         ensures { result ≡ length self.now.register.history.events }
@@ -96,6 +104,15 @@ impl<D: Disk> Office<D> {
         ensures { option_map (λ piece. piece.now) result ≡ record_numbered self.now.register.history.events number }
     {
         self.register.edit(number)
+    }
+
+    /// The accepted edit of a number, from 1 on. `None` exactly where the number is 0 or above that of the accepted edits. It takes no
+    /// memory.
+    pub fn edit_at(&self, number: u64) -> Option<&Edit>
+        ensures edit { option_map (λ edit. edit.now) result ≡ edit_numbered self.now.register.history.events number }
+        ensures none { result ≡ None ↔ (number ≡ 0) ⊎ (length (accepted self.now.register.history.events) < number) }
+    {
+        self.register.edit_at(number)
     }
 
     /// How many days are pending.

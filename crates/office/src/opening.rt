@@ -84,7 +84,7 @@ fn replay<D: Disk>(
     ensures disk { OnlyReads D.Disk opening.old.ahead.disk opening.new.ahead.disk }
     ensures done { OnOk result (D.faults opening.new.ahead.disk ≡ D.faults opening.old.ahead.disk) }
 {
-    let mut register = Register::new(alloc, limits);
+    let mut register = Register::new(alloc, limits, opening.format());
     read_all(alloc, opening, &mut register)?;
     a_history_is_legal(&register);
     Ok(register)
@@ -116,6 +116,7 @@ fn read_next<D: Disk>(
     requires { (pieces : List Record) × HasReadmitted register.old.history.limits pieces register.old opening.old }
     ensures reads { (pieces : List Record) → HasReadmitted register.old.history.limits pieces register.old opening.old → ReadsNext register.old.history.limits pieces register.new opening.new result }
     ensures limits { OnOk result (register.new.history.limits ≡ register.old.history.limits) }
+    ensures format { opening.new.format ≡ opening.old.format }
     ensures ended { result ≡ Ok false → opening.new.ended ≡ true }
     ensures within { result ≡ Ok true → opening.old.gate < 2 ^ 64 }
     ensures refused { IfErr result (λ fault. IsReadFault (D.content opening.new.ahead.disk) register.old.history.limits fault (D.faults opening.old.ahead.disk) (D.faults opening.new.ahead.disk)) }

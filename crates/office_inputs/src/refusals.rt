@@ -87,6 +87,8 @@ pub enum Refusal {
     Locked(Day),
     /// The history has no room.
     HistoryFull(Full),
+    /// The edit has a comment, and a journal of the first format holds none.
+    NoComments,
     /// The journal has no room.
     JournalFull,
     /// There is no memory for the edit.
@@ -114,6 +116,7 @@ impl Refusal {
             Refusal::AlreadyApproved(..) => "a day to be reviewed is approved",
             Refusal::Locked(..) => "an approved day would change",
             Refusal::HistoryFull(..) => "the history is full",
+            Refusal::NoComments => "the journal's format holds no comment",
             Refusal::JournalFull => "the journal is full",
             Refusal::NoMemory => "there is no memory for the edit",
             Refusal::JournalFault(..) => "the disk of the journal failed",

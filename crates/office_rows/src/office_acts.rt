@@ -17,6 +17,7 @@ use office::{Accepted, Answer, Office};
 use office_inputs::Refusal;
 use recompute::Job;
 use row_lines::parted;
+use site_texts::write_site;
 use std::alloc::Global;
 use std::marker::Brand;
 use std::sync::ledger::{Blank, Ledger};
@@ -44,6 +45,7 @@ impl Bench for OfficeBench {
             "publish-first" => publish(&mut self.office, first(&mut self.jobs), came),
             "look" => look(&self.office, rest, came),
             "answer" => answer(&self.office, rest, came),
+            "edit-at" => edit_at(&self.office, rest, came),
             _ => act_alone(alloc, &mut self.office, act, came),
         }
     }
@@ -118,6 +120,40 @@ fn push_found(found: Result<Option<Job>, NoMemory>, came: &mut Text) -> Result<(
         Ok(None) => came.push_slice(b"none"),
         Err(NoMemory) => Err(NoMemory),
     }
+}
+
+/// `edit-at NUMBER`: who made the accepted edit of this number, under which reference and of which site, and its comment if it has one.
+fn edit_at(office: &Office<MemoryDisk>, rest: &str, came: &mut Text) -> Result<(), NoMemory> {
+    match rest.parse() {
+        Ok(number) => push_edit(office.edit_at(number), came),
+        Err(_) => came.push_slice(b"not well formed"),
+    }
+}
+
+fn push_edit(edit: Option<&Edit>, came: &mut Text) -> Result<(), NoMemory> {
+    match edit {
+        Some(edit) => {
+            push_signed(edit, came)?;
+            push_comment(edit.comment.as_slice(), came)
+        }
+        None => came.push_slice(b"none"),
+    }
+}
+
+fn push_signed(edit: &Edit, came: &mut Text) -> Result<(), NoMemory> {
+    came.push_slice(edit.by.as_slice())?;
+    came.push_slice(b" ")?;
+    came.push_slice(edit.reference.as_slice())?;
+    came.push_slice(b" ")?;
+    write_site(edit.site, came)
+}
+
+fn push_comment(comment: &[u8], came: &mut Text) -> Result<(), NoMemory> {
+    if comment.is_empty() {
+        return Ok(());
+    }
+    came.push_slice(b" # ")?;
+    came.push_slice(comment)
 }
 
 /// `answer DAY`: what is answered for a day.

@@ -1,6 +1,7 @@
-//! Blocks of an office over a disk in memory. `with journal NAME ..` names the records that its journal has at first, and `with failing
-//! N ..` the calls of the disk that fail. Each line `-- open -> ..` opens an office on the disk, on which the rows behind it are played,
-//! and closes the one before; behind `-- closed` stand rows on the disk that is left.
+//! Blocks of an office over a disk in memory. `with journal NAME ..` names the records that its journal has at first, where `J2` before
+//! the names stands for the second format, and `with failing N ..` the calls of the disk that fail. Each line `-- open -> ..` opens an
+//! office on the disk, on which the rows behind it are played, and closes the one before; behind `-- closed` stand rows on the disk that
+//! is left.
 
 use crate::blocks::{Bench, given, limits_of, play_on};
 use crate::office_acts::OfficeBench;
@@ -22,9 +23,18 @@ pub fn play<'a>(alloc: Global, book: &str, block: &'a str, came: &mut Text) -> E
     }
 }
 
+/// The header of a journal, and the names of its records.
+fn headed(names: &str) -> (&'static [u8], &str) {
+    match names.strip_prefix("J2") {
+        Some(names) => (b"STREAMOFFICE-J2\n", names),
+        None => (b"STREAMOFFICE-J1\n", names),
+    }
+}
+
 /// The journal of records.
 fn journal_of(alloc: Global, book: &str, names: &str) -> Option<Vec<u8>> {
-    let mut bytes = b"STREAMOFFICE-J1\n".to_vec(alloc).ok()?;
+    let (header, names) = headed(names);
+    let mut bytes = header.to_vec(alloc).ok()?;
     if add_records(&mut bytes, book, names) {
         Some(bytes)
     } else {
@@ -175,7 +185,8 @@ impl Bench for Shut {
 }
 
 impl Bench for MemoryDisk {
-    /// `calls`: how many calls there were. `journal NAME ..`: whether it has the journal of these records, byte by byte.
+    /// `calls`: how many calls there were. `journal NAME ..`, `journal J2 NAME ..`: whether it has the journal of these records, byte by
+    /// byte.
     fn act(
         &mut self,
         alloc: Global,

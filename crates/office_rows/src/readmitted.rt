@@ -1,11 +1,14 @@
 //! What is said to the records that an office is opened with, of which a book has the bytes: lines `record NAME HEXADECIMAL`, the bytes
 //! of a record in a journal without its gate.
 
+ghost use Rattle.std.specs.Prelude.{IfSome};
+ghost use Rattle.records.specs.Payloads.{Holds};
+
 use crate::blocks::{Bench, play_on};
 use crate::told::{push_number_behind, push_refusal};
 use fixed_units::{NoMemory, Text};
 use office_inputs::Limits;
-use records::{Record, decode};
+use records::{Format, Record, decode};
 use register::{NotReadmitted, Register};
 use row_lines::{Ended, parted};
 use std::alloc::Global;
@@ -43,7 +46,9 @@ fn tell_with(
     book: &str,
     second: &str,
     came: &mut Text,
-) -> Result<(), NoMemory> {
+) -> Result<(), NoMemory>
+    requires { Holds Format.First first.edit.comment }
+{
     match record(alloc, book, second) {
         Some(second) => tell(readmitted(alloc, first, second), came),
         None => came.push_slice(b"not well formed"),
@@ -53,8 +58,11 @@ fn tell_with(
 /// What is said to two records, and with how many edits an office is opened then.
 type Said = (Result<(), NotReadmitted>, Result<(), NotReadmitted>, u64);
 
-fn readmitted(alloc: Global, first: Record, second: Record) -> Said {
-    let mut register = Register::new(alloc, Limits::usual());
+fn readmitted(alloc: Global, first: Record, second: Record) -> Said
+    requires first { Holds Format.First first.edit.comment }
+    requires second { Holds Format.First second.edit.comment }
+{
+    let mut register = Register::new(alloc, Limits::usual(), Format::First);
     let said = register.readmit(first);
     let next = register.readmit(second);
     (said, next, register.opened())
@@ -75,13 +83,18 @@ fn push_said(said: Result<(), NotReadmitted>, came: &mut Text) -> Result<(), NoM
     }
 }
 
-/// The record of a name.
-fn record(alloc: Global, book: &str, name: &str) -> Option<Record> {
+/// The record of a name, in the first format.
+fn record(alloc: Global, book: &str, name: &str) -> Option<Record>
+    ensures { IfSome result (λ piece. Holds Format.First piece.edit.comment) }
+{
     let mut bytes = Vec::new(alloc);
     if !add_record(&mut bytes, book, name) {
         return None;
     }
-    decode(alloc, bytes.get(4..)?).ok()
+    match decode(alloc, bytes.get(4..)?, Format::First) {
+        Ok(piece) => Some(piece),
+        Err(_) => None,
+    }
 }
 
 /// Whether the bytes of the record of a name are added.

@@ -1,9 +1,9 @@
-//! Edits as a row spells them: `[by INITIALS] [as REFERENCE] [at SITE] WORD ARGUMENTS`, usually by AB, as r-1, at 01646500. Stages,
-//! amounts and discharges are in feet and in cubic feet per second.
+//! Edits as a row spells them: `[by INITIALS] [as REFERENCE] [at SITE] WORD ARGUMENTS`, usually by AB, as r-1, at 01646500, and behind
+//! ` # ` the comment where there is one. Stages, amounts and discharges are in feet and in cubic feet per second.
 
 use crate::sent_changes::change;
 use civil_days::{read_day, read_instant};
-use edits::{By, Edit, Ref, What};
+use edits::{By, Comment, Edit, Ref, What};
 use fixed_units::{Day, Micro, Second, Site, read_decimal};
 use row_lines::parted;
 use site_texts::read_site;
@@ -14,6 +14,27 @@ pub const POTOMAC: &str = "01646500";
 
 /// The edit of a text, where it is one and there is memory for it.
 pub fn edit(alloc: Global, text: &str) -> Option<Box<Edit>> {
+    match text.split_once(" # ") {
+        Some((text, comment)) => commented(alloc, text, comment),
+        None => uncommented(alloc, text),
+    }
+}
+
+fn commented(alloc: Global, text: &str, comment: &str) -> Option<Box<Edit>> {
+    match (
+        uncommented(alloc, text),
+        Comment::new(alloc, comment.as_bytes()),
+    ) {
+        (Some(edit), Ok(Some(comment))) => with_comment(alloc, edit, comment),
+        _ => None,
+    }
+}
+
+fn with_comment(alloc: Global, edit: Box<Edit>, comment: Comment) -> Option<Box<Edit>> {
+    Box::new(alloc, Box::into_inner(edit).with_comment(comment)).ok()
+}
+
+fn uncommented(alloc: Global, text: &str) -> Option<Box<Edit>> {
     let (by, text) = led(text, "by ", "AB");
     let (reference, text) = led(text, "as ", "r-1");
     let (place, text) = led(text, "at ", POTOMAC);

@@ -60,6 +60,7 @@ fn push_refusal_of_office(refusal: Refusal, came: &mut Text) -> Result<(), NoMem
         Refusal::RefReused(edit) => push_number_behind(b"reference of edit ", edit, came),
         Refusal::HistoryFull(Full::Events) => came.push_slice(b"no room for events"),
         Refusal::HistoryFull(Full::Cells) => came.push_slice(b"no room for cells"),
+        Refusal::NoComments => came.push_slice(b"no comments"),
         Refusal::JournalFull => came.push_slice(b"no room in the journal"),
         Refusal::JournalFault(false) => came.push_slice(b"journal fault"),
         Refusal::JournalFault(true) => came.push_slice(b"journal fault in doubt"),

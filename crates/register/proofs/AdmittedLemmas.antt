@@ -12,6 +12,7 @@ use Rattle.history.proofs.VerdictLemmas.{first_none, later_none, none_mapped}
 use Rattle.office_inputs.specs.Refusals as inputs
 use Rattle.office_inputs.specs.declared.refusals.Refusal.{Refusal}
 use Rattle.office_inputs.specs.declared.refusals.Refusal.TheVariants.{Locked}
+use Rattle.records.specs.Payloads.{Holds}
 use Rattle.records.specs.Sheets.{AreSheetsOf, Record}
 use Rattle.register.specs.Asked.{readmission_refusal, refused_at_once, reused}
 use Rattle.register.proofs.JudgedLemmas.{apart}
@@ -31,9 +32,10 @@ none_at_once h edit none =
     ∙ ap (λ (o : Option Refusal). or_else o (refused_by_statuses h edit)) (first_none (refused_by_stations h edit) (or_else (refused_by_statuses h edit) locked) behind)
     ∙ first_none (refused_by_statuses h edit) locked later
 
-pub may_be_kept : (h : History) (piece : Record) → AreSheetsOf piece.edit.what piece.sheets → readmission_refusal h piece.edit ≡ None
-    → MayBeKept h.limits h.events piece
-may_be_kept h piece sheets none =
+pub may_be_kept : (h : History) (piece : Record) → AreSheetsOf piece.edit.what piece.sheets → Holds h.format piece.edit.comment
+    → readmission_refusal h piece.edit ≡ None
+    → MayBeKept h.limits h.format h.events piece
+may_be_kept h piece sheets held none =
     let edit = piece.edit in
     let locked = refused_as_locked h edit in
     let rest = or_else (refused_by_stations h edit) (or_else (refused_by_statuses h edit) locked) in
@@ -45,6 +47,7 @@ may_be_kept h piece sheets none =
       stations = first_none (refused_by_stations h edit) (or_else (refused_by_statuses h edit) locked) behind;
       statuses = none_mapped inputs.refusal_for_objection (objection_at h.events edit) (first_none (refused_by_statuses h edit) locked later);
       unlocked = none_mapped Locked (locked_at h.events edit) (later_none (refused_by_statuses h edit) locked later);
+      holds = held;
     }
 
 -- an edit that is refused at once, and one that is not: only a lock may refuse it then

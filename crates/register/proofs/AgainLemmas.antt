@@ -139,14 +139,14 @@ no_longer_opened pieces =
     omega (arith, records, whole, event)
 
 -- so it keeps to the limit
-pub opened_keeps_to : (h : History) → IsNoLonger h.events → KeepsToTheLimit h → KeepsToTheLimit (reopen h.limits (accepted h.events))
+pub opened_keeps_to : (h : History) → IsNoLonger h.events → KeepsToTheLimit h → KeepsToTheLimit (reopen h.limits h.format (accepted h.events))
 opened_keeps_to h k keeps =
     let event = length-map (accepted h.events) (λ (p : Record). Accepted p) in
     omega (arith, k, keeps, event)
 
 -- also with the record of an edit that would be accepted
 pub opened_with_keeps_to : (h : History) (edit : Edit) → verdict h edit ≡ Accepts → IsNoLonger h.events
-    → KeepsToTheLimit (reopen h.limits (accepted h.events ++ record_of h edit ∷ []))
+    → KeepsToTheLimit (reopen h.limits h.format (accepted h.events ++ record_of h edit ∷ []))
 opened_with_keeps_to h edit v k =
-    subst (λ (l : List Record). KeepsToTheLimit (reopen h.limits l)) (accepted_accepted h.events (record_of h edit))
+    subst (λ (l : List Record). KeepsToTheLimit (reopen h.limits h.format l)) (accepted_accepted h.events (record_of h edit))
     (opened_keeps_to (after_edit h edit) (no_longer_accepted h.events (record_of h edit) k) (edit_keeps_to h edit v))

@@ -47,12 +47,12 @@ some_published events count =
 
 -- no event more
 pub went_nowhere : (h : History) → h ≡ go_on h []
-went_nowhere h = ap (λ (l : List Event). record { opened = h.opened; limits = h.limits; events = l }) (sym (append-nil h.events))
+went_nowhere h = ap (λ (l : List Event). record { opened = h.opened; limits = h.limits; format = h.format; events = l }) (sym (append-nil h.events))
 
 -- one day, and then others
 one_then_others : (h : History) (d : SiteDay) (days : List SiteDay) → after_publications (after_publications h (d ∷ [])) days ≡ after_publications h (d ∷ days)
 one_then_others h d days =
-    ap (λ (l : List Event). record { opened = h.opened; limits = h.limits; events = l }) (append_assoc h.events (publication d ∷ []) (map publication days))
+    ap (λ (l : List Event). record { opened = h.opened; limits = h.limits; format = h.format; events = l }) (append_assoc h.events (publication d ∷ []) (map publication days))
 
 pub legal_published : (h : History) (days : List SiteDay) → ArePublished h.events days → IsLegal h → IsLegal (after_publications h days)
 legal_published h [] p k = subst IsLegal (went_nowhere h) k

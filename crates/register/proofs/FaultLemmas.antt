@@ -20,6 +20,7 @@ use Rattle.office_inputs.specs.Kept.{InForce, AreStations}
 use Rattle.office_inputs.specs.Stations.{place_of, stations_of}
 use Rattle.station_inputs.specs.Stations.{StationState}
 use Rattle.records.specs.Sheets.{Record}
+use Rattle.records.specs.declared.formats.Format.{Format}
 use Rattle.office_inputs.specs.declared.limits.Limits.{Limits}
 use Rattle.register.specs.Keeping.{Keeps, KeepsToTheLimit}
 use Rattle.register.specs.References.{Placed}
@@ -62,14 +63,14 @@ fault_fits h edit doubt rising v small =
     omega (arith, room, small)
 
 -- what is kept in memory after a fault
-module _ (opened : ℕ) (inputs : InForce) (cells : List KeptDays) (places : List Placed) (statuses : List KeptSite) (spare : ℕ) (events : List Event)
-    (pieces : List Record) (count bytes : ℕ) (kept : Keeps (registered opened inputs cells places statuses spare events) pieces count bytes)
-    (now : Registered) (view : registered opened inputs cells places statuses spare events ≡ now) (edit : Edit) (accepts : verdict now.history edit ≡ Accepts)
+module _ (opened : ℕ) (format : Format) (inputs : InForce) (cells : List KeptDays) (places : List Placed) (statuses : List KeptSite) (spare : ℕ) (events : List Event)
+    (pieces : List Record) (count bytes : ℕ) (kept : Keeps (registered opened format inputs cells places statuses spare events) pieces count bytes)
+    (now : Registered) (view : registered opened format inputs cells places statuses spare events ≡ now) (edit : Edit) (accepts : verdict now.history edit ≡ Accepts)
     (stations : AreStations inputs.kept) (limits : Limits) (same : limits ≡ inputs.limits) (small : limits.events < 2 ^ 64) (doubt : Option Record)
     (may : MayLeaveInDoubt now.history edit doubt) where
   fits_here : length (events ++ Faulted doubt ∷ []) + length (pending_days (events ++ Faulted doubt ∷ [])) < 2 ^ 64
   fits_here =
-      fault_fits (record { opened = opened; limits = inputs.limits; events = events }) edit doubt
+      fault_fits (record { opened = opened; limits = inputs.limits; format = format; events = events }) edit doubt
       (rising_stations inputs.kept (stations_at events) stations kept.stations)
       (subst (λ (r : Registered). verdict r.history edit ≡ Accepts) (sym view) accepts)
       (subst (λ (l : Limits). l.events < 2 ^ 64) same small)
@@ -81,17 +82,17 @@ module _ (opened : ℕ) (inputs : InForce) (cells : List KeptDays) (places : Lis
       let counted = kept.events_are in
       omega (arith, fits, one, counted)
 
-  pub keeps_fault : (since : List Event) → since ≡ events ++ Faulted doubt ∷ [] → Keeps (registered opened inputs cells places statuses spare since) pieces (count + 1) bytes
+  pub keeps_fault : (since : List Event) → since ≡ events ++ Faulted doubt ∷ [] → Keeps (registered opened format inputs cells places statuses spare since) pieces (count + 1) bytes
   keeps_fault since e =
-      subst (λ (x : List Event). Keeps (registered opened inputs cells places statuses spare x) pieces (count + 1) bytes) (sym e)
-      (keeps_faulted opened inputs cells places statuses spare events pieces count bytes kept doubt (count + 1)
-      (left_may_be_kept (record { opened = opened; limits = inputs.limits; events = events }) edit doubt
+      subst (λ (x : List Event). Keeps (registered opened format inputs cells places statuses spare x) pieces (count + 1) bytes) (sym e)
+      (keeps_faulted opened format inputs cells places statuses spare events pieces count bytes kept doubt (count + 1)
+      (left_may_be_kept (record { opened = opened; limits = inputs.limits; format = format; events = events }) edit doubt
       (subst (λ (r : Registered). verdict r.history edit ≡ Accepts) (sym view) accepts) kept.legal
       (subst (λ (r : Registered). MayLeaveInDoubt r.history edit doubt) (sym view) may)) refl fits_here)
 
   pub ready_after_fault : (since : List Event) → since ≡ events ++ Faulted doubt ∷ [] → (other : Edit) → IsReady now other
-      → IsReady (registered opened inputs cells places statuses spare since) other
+      → IsReady (registered opened format inputs cells places statuses spare since) other
   ready_after_fault since e other h =
-      subst (λ (x : List Event). IsReady (registered opened inputs cells places statuses spare x) other) (sym e)
-      (ready_kept opened inputs cells places statuses events spare (events ++ Faulted doubt ∷ []) other (accepted_faulted events doubt)
+      subst (λ (x : List Event). IsReady (registered opened format inputs cells places statuses spare x) other) (sym e)
+      (ready_kept opened format inputs cells places statuses events spare (events ++ Faulted doubt ∷ []) other (accepted_faulted events doubt)
       (subst (λ (r : Registered). IsReady r other) (sym view) h))

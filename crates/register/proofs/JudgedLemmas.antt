@@ -5,8 +5,8 @@ use Rattle.std.proofs.lemmas.Bool.{false≢true}
 use Rattle.edits.specs.declared.content.Edit.{Edit}
 use Rattle.history.specs.Accepted.{Numbered, edits_of, named, stations_at}
 use Rattle.history.specs.Events.{History}
-use Rattle.history.specs.Verdicts.{Refuses, or_else, refused_as_awaiting, refused_as_locked, refused_by_stations, refused_by_statuses, refusal_of, verdict, verdict_by, verdict_of_refusal}
-use Rattle.history.proofs.VerdictLemmas.{first_none, full_of, later_none}
+use Rattle.history.specs.Verdicts.{Refuses, or_else, refused_as_awaiting, refused_as_locked, refused_by_stations, refused_by_statuses, refused_for_room, refusal_of, verdict, verdict_by, verdict_of_refusal}
+use Rattle.history.proofs.VerdictLemmas.{first_none, later_none}
 use Rattle.office_inputs.specs.Kept.{in_force}
 use Rattle.office_inputs.specs.Refusals as inputs
 use Rattle.office_inputs.specs.declared.refusals.Refusal.{Refusal}
@@ -21,24 +21,24 @@ apart None (Some refusal) c rest = refl
 apart (Some refusal) b c rest = refl
 
 module _ (h : History) (edit : Edit) (new : named (edits_of h.events) edit.reference ≡ None) where
-  behind : verdict h edit ≡ verdict_of_refusal (or_else (refused_before_days h edit) (or_else (refused_as_locked h edit) (full_of h edit)))
+  behind : verdict h edit ≡ verdict_of_refusal (or_else (refused_before_days h edit) (or_else (refused_as_locked h edit) (refused_for_room h edit)))
   behind =
       ap (λ (o : Option Numbered). verdict_by o edit (refusal_of h edit)) new
-      ∙ ap verdict_of_refusal (apart (refused_by_stations h edit) (refused_by_statuses h edit) (refused_as_awaiting h edit) (or_else (refused_as_locked h edit) (full_of h edit)))
+      ∙ ap verdict_of_refusal (apart (refused_by_stations h edit) (refused_by_statuses h edit) (refused_as_awaiting h edit) (or_else (refused_as_locked h edit) (refused_for_room h edit)))
 
   pub is_refused_before : (refusal : Refusal) → refused_before_days h edit ≡ Some refusal → verdict h edit ≡ Refuses refusal
-  is_refused_before refusal e = behind ∙ ap (λ (o : Option Refusal). verdict_of_refusal (or_else o (or_else (refused_as_locked h edit) (full_of h edit)))) e
+  is_refused_before refusal e = behind ∙ ap (λ (o : Option Refusal). verdict_of_refusal (or_else o (or_else (refused_as_locked h edit) (refused_for_room h edit)))) e
 
-  unrefused_before : refused_before_days h edit ≡ None → verdict h edit ≡ verdict_of_refusal (or_else (refused_as_locked h edit) (full_of h edit))
-  unrefused_before none = behind ∙ ap (λ (o : Option Refusal). verdict_of_refusal (or_else o (or_else (refused_as_locked h edit) (full_of h edit)))) none
+  unrefused_before : refused_before_days h edit ≡ None → verdict h edit ≡ verdict_of_refusal (or_else (refused_as_locked h edit) (refused_for_room h edit))
+  unrefused_before none = behind ∙ ap (λ (o : Option Refusal). verdict_of_refusal (or_else o (or_else (refused_as_locked h edit) (refused_for_room h edit)))) none
 
   pub is_locked_out : refused_before_days h edit ≡ None → (refusal : Refusal) → refused_as_locked h edit ≡ Some refusal → verdict h edit ≡ Refuses refusal
-  is_locked_out none refusal e = unrefused_before none ∙ ap (λ (o : Option Refusal). verdict_of_refusal (or_else o (full_of h edit))) e
+  is_locked_out none refusal e = unrefused_before none ∙ ap (λ (o : Option Refusal). verdict_of_refusal (or_else o (refused_for_room h edit))) e
 
-  pub is_judged : refused_before_days h edit ≡ None → refused_as_locked h edit ≡ None → (full : Option Refusal) → full_of h edit ≡ full → verdict h edit ≡ verdict_of_refusal full
+  pub is_judged : refused_before_days h edit ≡ None → refused_as_locked h edit ≡ None → (full : Option Refusal) → refused_for_room h edit ≡ full → verdict h edit ≡ verdict_of_refusal full
   is_judged none unlocked full e =
       unrefused_before none
-      ∙ ap (λ (o : Option Refusal). verdict_of_refusal (or_else o (full_of h edit))) unlocked
+      ∙ ap (λ (o : Option Refusal). verdict_of_refusal (or_else o (refused_for_room h edit))) unlocked
       ∙ ap verdict_of_refusal e
 
 -- what does not refuse it before a look at its days

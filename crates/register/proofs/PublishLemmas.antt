@@ -21,6 +21,7 @@ use Rattle.recompute.specs.Jobs.{DayJob, outcome_by, outcome_of}
 use Rattle.recompute.specs.declared.jobs.Publish.TheVariants as publish
 use Rattle.recompute.proofs.OutcomeLemmas.{outcome_where_awaited}
 use Rattle.records.specs.Sheets.{Record}
+use Rattle.records.specs.declared.formats.Format.{Format}
 use Rattle.register.specs.Asked.{outcome_at}
 use Rattle.register.specs.Keeping.{Keeps, Tells}
 use Rattle.register.specs.References.{Placed}
@@ -61,17 +62,17 @@ due_awaits cells stations job h =
     (outcome_where_awaited o job.awaits same (λ _. published_same o job.awaits same h)).0.0 h
 
 -- the cells and the inputs in force tell what becomes of a publication
-pub told_of_cells : (opened : ℕ) (inputs : InForce) (cells : List KeptDays) (places : List Placed) (statuses : List KeptSite) (spare : ℕ) (events : List Event)
-    (pieces : List Record) (count bytes : ℕ) → Keeps (registered opened inputs cells places statuses spare events) pieces count bytes
+pub told_of_cells : (opened : ℕ) (format : Format) (inputs : InForce) (cells : List KeptDays) (places : List Placed) (statuses : List KeptSite) (spare : ℕ) (events : List Event)
+    (pieces : List Record) (count bytes : ℕ) → Keeps (registered opened format inputs cells places statuses spare events) pieces count bytes
     → (job : DayJob) → IsDay job.day → outcome_at events job ≡ publish.Published → outcome_of cells (in_force inputs) job ≡ publish.Published
-told_of_cells opened inputs cells places statuses spare events pieces count bytes kept job day due =
+told_of_cells opened format inputs cells places statuses spare events pieces count bytes kept job day due =
     ap (λ (o : Option ℕ). outcome_by o job.awaits (same_inputs job.inputs (inputs_of_day (in_force inputs) job.site job.day)))
     (kept.cells_tell.awaited_told job.site job.day day)
     ∙ ap (λ (s : List StationState). outcome_by (awaited events job.site job.day) job.awaits (same_inputs job.inputs (inputs_of_day s job.site job.day))) kept.stations
     ∙ due
 
-module _ (opened : ℕ) (inputs : InForce) (cells : List KeptDays) (places : List Placed) (statuses : List KeptSite) (spare : ℕ) (events : List Event)
-    (pieces : List Record) (count bytes : ℕ) (kept : Keeps (registered opened inputs cells places statuses spare events) pieces count bytes)
+module _ (opened : ℕ) (format : Format) (inputs : InForce) (cells : List KeptDays) (places : List Placed) (statuses : List KeptSite) (spare : ℕ) (events : List Event)
+    (pieces : List Record) (count bytes : ℕ) (kept : Keeps (registered opened format inputs cells places statuses spare events) pieces count bytes)
     (stations : AreStations inputs.kept) (rising : IsRising station_rank cells) (new : List KeptDays) (new_rising : IsRising station_rank new)
     (job : DayJob) (value : DayValue) (day : IsDay job.day) (told : outcome_of cells (in_force inputs) job ≡ publish.Published)
     (publishes : Publishes cells new job.site job.day value) (computed : value ≡ day_value (inputs_of_day (in_force inputs) job.site job.day)) where
@@ -111,10 +112,10 @@ module _ (opened : ℕ) (inputs : InForce) (cells : List KeptDays) (places : Lis
       let less = one_less in
       omega (arith, counted, fits, less)
 
-  pub kept_published : Keeps (registered opened inputs new places statuses spare more) pieces (count + 1) bytes
+  pub kept_published : Keeps (registered opened format inputs new places statuses spare more) pieces (count + 1) bytes
   kept_published =
       let whole : length more ≡ length events + 1 = length-append events (Published job.site job.day ∷ []) in
       let fits = kept.fits in
       let less = one_less in
-      keeps_published opened inputs cells places statuses spare events pieces count bytes kept job.site job.day value new (count + 1) was_pending is_value publishes refl
+      keeps_published opened format inputs cells places statuses spare events pieces count bytes kept job.site job.day value new (count + 1) was_pending is_value publishes refl
       (omega (arith, whole, fits, less))

@@ -14,13 +14,14 @@ use Rattle.office_inputs.specs.Kept as kept_inputs
 use Rattle.office_inputs.specs.Stations.{stations_of}
 use Rattle.recompute.specs.Cells as kept_cells
 use Rattle.records.specs.Sheets.{Record}
+use Rattle.records.specs.declared.formats.Format.{Format}
 use Rattle.register.specs.References.{Placed, IsPlacedFor}
 use Rattle.register.specs.Registered.{registered, IsReady}
 
-module _ (opened : ℕ) (inputs : InForce) (cells : List KeptDays) (references : List Placed) (statuses : List KeptSite) (events : List Event) where
+module _ (opened : ℕ) (format : Format) (inputs : InForce) (cells : List KeptDays) (references : List Placed) (statuses : List KeptSite) (events : List Event) where
   -- events that accept no edit leave the room for an edit
   pub ready_kept : (spare : ℕ) (more : List Event) (edit : Edit) → accepted more ≡ accepted events
-      → IsReady (registered opened inputs cells references statuses spare events) edit → IsReady (registered opened inputs cells references statuses spare more) edit
+      → IsReady (registered opened format inputs cells references statuses spare events) edit → IsReady (registered opened format inputs cells references statuses spare more) edit
   ready_kept spare more edit same h = record {
     inputs = h.inputs;
     cells = subst (λ (ps : List Record). kept_cells.HasRoom cells edit.site (changed_days (stations_of (map edit_of ps)) edit)) (sym same) h.cells;
@@ -34,7 +35,7 @@ module _ (opened : ℕ) (inputs : InForce) (cells : List KeptDays) (references :
       → days ≡ changed_days (stations_at events) edit → kept_cells.HasRoom cells edit.site days → kept_statuses.HasRoom statuses edit
       → pieces ≡ accepted events → place ≡ length pieces
       → told ≡ edit.reference → IsPlacedFor references told place
-      → used + 1 ≤ capacity → IsReady (registered opened inputs cells references statuses (capacity - used) events) edit
+      → used + 1 ≤ capacity → IsReady (registered opened format inputs cells references statuses (capacity - used) events) edit
   ready_made capacity used place pieces edit days told i d c s p n same r room =
       let few : place ≡ length (edits_of events) = n ∙ ap (λ (ps : List Record). length ps) p ∙ sym (length-map (accepted events) edit_of) in
       record {

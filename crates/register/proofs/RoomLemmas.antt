@@ -20,8 +20,10 @@ use Rattle.office_inputs.specs.Changes.{keeps_day, changed_days}
 use Rattle.office_inputs.specs.Kept.{AreStations}
 use Rattle.office_inputs.specs.Stations.{place_of}
 use Rattle.recompute.specs.Cells.{awaited_in, span_in, waiting, cell_count_after}
+use Rattle.records.specs.Frames.{before_payload}
 use Rattle.records.specs.Payloads.{payload}
 use Rattle.records.specs.Sheets.{Record}
+use Rattle.records.specs.declared.formats.Format.{Format}
 use Rattle.register.specs.Keeping.{Keeps, Tells}
 use Rattle.register.specs.Registered.{Registered}
 use Rattle.register.proofs.KeepsLemmas.{journal_more}
@@ -30,9 +32,9 @@ use Rattle.register.proofs.WaitingLemmas.{waiting_count, cells_counted}
 use Rattle.rising.specs.Lists.{IsRising}
 
 -- the journal is longer by the record
-pub journal_with : (events : List Event) (piece : Record)
-    → journal_size (accepted (events ++ Accepted piece ∷ [])) ≡ journal_size (accepted events) + (5 + length (payload piece))
-journal_with events piece = ap journal_size (accepted_accepted events piece) ∙ journal_more (accepted events) piece
+pub journal_with : (format : Format) (events : List Event) (piece : Record)
+    → journal_size format (accepted (events ++ Accepted piece ∷ [])) ≡ journal_size format (accepted events) + (before_payload + length (payload format piece))
+journal_with format events piece = ap (journal_size format) (accepted_accepted events piece) ∙ journal_more format (accepted events) piece
 
 -- a checked sum
 pub checked_counts : (o : Option ℕ) (n m : ℕ) → SomeIff o (n < 2 ^ 64) n → n ≡ m → IfSome o (λ k. k ≡ m)

@@ -114,7 +114,7 @@ pub record IsOnTheWay (old new : Registered) (count : ℕ) : Type 0 where
   pub left : pending_days new.history.events ≡ drop count (pending_days old.history.events)
 
 after_events : History → List Event → History
-after_events h events = record { opened = h.opened; limits = h.limits; events = events }
+after_events h events = record { opened = h.opened; limits = h.limits; format = h.format; events = events }
 
 pub on_the_way : (r : Registered) → IsOnTheWay r r 0
 unfolding after_events

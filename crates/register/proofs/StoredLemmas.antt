@@ -38,6 +38,7 @@ use Rattle.office_inputs.specs.Stations as in_force
 use Rattle.office_inputs.specs.Stations.{day_of_station, inputs_of_day, place_of, station_of, stations_after, with_changed}
 use Rattle.office_inputs.specs.declared.limits.Limits.{Limits}
 use Rattle.records.specs.Sheets.{Record}
+use Rattle.records.specs.declared.formats.Format.{Format}
 use Rattle.register.proofs.ReviewLemmas.{days_spanned}
 use Rattle.rising.specs.Lists.{at, put}
 use Rattle.rising.proofs.Placing.{at_put, at_put_other}
@@ -94,7 +95,7 @@ day_sheet text from to day span within =
     (ap (λ (days : List ℤ). slice_get days k) (days_spanned from to span.begins span.ends o)
     ∙ days_get from (count_of (to +ℤ pos 1 -ℤ from)) k few ∙ ap (λ (d : ℤ). Some d) here)
 
-module _ (limits : Limits) (first : List Record) (site : SiteNumber) (day : ℤ) (is : IsDay day) where
+module _ (limits : Limits) (format : Format) (first : List Record) (site : SiteNumber) (day : ℤ) (is : IsDay day) where
   abbrev IsStored : List Event → Type 0
   IsStored events = IsFromScratch events site day
 
@@ -152,22 +153,22 @@ module _ (limits : Limits) (first : List Record) (site : SiteNumber) (day : ℤ)
             ∙ ap (λ (v : DayValue). Some (sheet piece.edit.site day v true)) value;
       }
 
-  accepted_step : (events : List Event) (piece : Record) (b : Bool) → same_site piece.edit.site site ≡ b → MayBeKept limits events piece → IsMade events piece
+  accepted_step : (events : List Event) (piece : Record) (b : Bool) → same_site piece.edit.site site ≡ b → MayBeKept limits format events piece → IsMade events piece
       → Told events → Told (events ++ Accepted piece ∷ [])
   accepted_step events piece false e m made told approved late =
-      told_on events (Accepted piece) (standing_elsewhere events piece site day e) (inputs_step limits site day is events piece m) told approved late
+      told_on events (Accepted piece) (standing_elsewhere events piece site day e) (inputs_step limits format site day is events piece m) told approved late
   accepted_step events piece true e m made told approved late =
       elim (approved_behind events piece site day e approved) [
-        | inl same ↦ told_on events (Accepted piece) same (inputs_step limits site day is events piece m) told approved late
+        | inl same ↦ told_on events (Accepted piece) same (inputs_step limits format site day is events piece m) told approved late
         | inr a ↦ approved_now events piece made e a approved
       ]
 
   other_step : (events : List Event) (e : Event) → accepted (events ++ e ∷ []) ≡ accepted events → Told events → Told (events ++ e ∷ [])
   other_step events e same told =
-      let one = same_records limits site day is events e same in
+      let one = same_records limits format site day is events e same in
       told_on events e one.standing (λ approved. one.inputs) told
 
-  one_step : (e : Event) (since done : List Event) → IsOrderly limits ((map Accepted first ++ done) ++ e ∷ since)
+  one_step : (e : Event) (since done : List Event) → IsOrderly limits format ((map Accepted first ++ done) ++ e ∷ since)
       → ((before after : List Event) (piece : Record) → done ++ e ∷ since ≡ before ++ Accepted piece ∷ after → IsMade (map Accepted first ++ before) piece)
       → Told (map Accepted first ++ done) → Told ((map Accepted first ++ done) ++ e ∷ [])
   one_step (Accepted piece) since done k made told =
@@ -179,7 +180,7 @@ module _ (limits : Limits) (first : List Record) (site : SiteNumber) (day : ℤ)
       other_step (map Accepted first ++ done) (Faulted left) (accepted_faulted (map Accepted first ++ done) left) told
 
   -- event after event since the opening
-  told_since : (since done : List Event) → IsOrderly limits ((map Accepted first ++ done) ++ since)
+  told_since : (since done : List Event) → IsOrderly limits format ((map Accepted first ++ done) ++ since)
       → ((before after : List Event) (piece : Record) → done ++ since ≡ before ++ Accepted piece ∷ after → IsMade (map Accepted first ++ before) piece)
       → Told (map Accepted first ++ done) → Told ((map Accepted first ++ done) ++ since)
   told_since [] done k made told = subst Told (sym (append-nil (map Accepted first ++ done))) told
@@ -189,7 +190,7 @@ module _ (limits : Limits) (first : List Record) (site : SiteNumber) (day : ℤ)
       let whole : (map Accepted first ++ (done ++ e ∷ [])) ++ since ≡ events ++ e ∷ since =
       ap (λ (l : List Event). l ++ since) (sym behind) ∙ append_assoc events (e ∷ []) since in
       subst Told whole
-      (told_since since (done ++ e ∷ []) (subst (IsOrderly limits) (sym whole) k)
+      (told_since since (done ++ e ∷ []) (subst (IsOrderly limits format) (sym whole) k)
       (λ before after piece s. made before after piece (sym (append_assoc done (e ∷ []) since) ∙ s))
       (subst Told behind (one_step e since done k made told)))
 
@@ -200,12 +201,12 @@ module _ (limits : Limits) (first : List Record) (site : SiteNumber) (day : ℤ)
       let few : length (accepted (map Accepted first ++ [])) ≡ length first = ap (λ (e : List Event). length (accepted e)) (append-nil (map Accepted first)) ∙ ap length (accepted_all first) in
       absurd (omega (arith, l, few, late))
 
-  pub stored_since : (since : List Event) → IsOrderly limits (map Accepted first ++ since)
+  pub stored_since : (since : List Event) → IsOrderly limits format (map Accepted first ++ since)
       → ((before after : List Event) (piece : Record) → since ≡ before ++ Accepted piece ∷ after → IsMade (map Accepted first ++ before) piece)
       → Told (map Accepted first ++ since)
   stored_since since k made =
       let whole : (map Accepted first ++ []) ++ since ≡ map Accepted first ++ since = ap (λ (l : List Event). l ++ since) (append-nil (map Accepted first)) in
-      subst Told whole (told_since since [] (subst (IsOrderly limits) (sym whole) k) made none_first)
+      subst Told whole (told_since since [] (subst (IsOrderly limits format) (sym whole) k) made none_first)
 
 -- what holds of all holds of each
 of_each : (P : Record → Type 0) (pieces : List Record) (k : ℕ) (piece : Record) → All P pieces → slice_get pieces k ≡ Some piece → P piece

@@ -14,8 +14,10 @@ use Rattle.office_inputs.specs.Changes.{changed_days}
 use Rattle.office_inputs.specs.Kept.{InForce, in_force}
 use Rattle.office_inputs.specs.Stations.{stations_after}
 use Rattle.recompute.specs.Cells.{Marks}
+use Rattle.records.specs.Frames.{before_payload}
 use Rattle.records.specs.Payloads.{payload}
 use Rattle.records.specs.Sheets.{Record}
+use Rattle.records.specs.declared.formats.Format.{Format}
 use Rattle.register.specs.Keeping.{Keeps}
 use Rattle.register.specs.References.{Placed}
 use Rattle.register.specs.Registered.{Registered, registered, IsReady}
@@ -28,34 +30,34 @@ pub record MayBeTaken (now : Registered) (opened : ℕ) (piece : Record) (days :
   pub days_are : days ≡ changed_days (stations_at now.history.events) piece.edit
   pub room : IsReady now piece.edit
   pub counted : length now.history.events + 1 + length (pending_days (with_record now.history piece)) < 2 ^ 64
-  pub size_is : size ≡ journal_size (accepted (with_record now.history piece))
+  pub size_is : size ≡ journal_size now.history.format (accepted (with_record now.history piece))
   pub size_fits : size < 2 ^ 64
 
-module _ (opened : ℕ) (inputs : InForce) (cells : List KeptDays) (places : List Placed) (statuses : List KeptSite) (spare : ℕ) (events : List Event)
-    (pieces : List Record) (count bytes : ℕ) (kept : Keeps (registered opened inputs cells places statuses spare events) pieces count bytes) where
+module _ (opened : ℕ) (format : Format) (inputs : InForce) (cells : List KeptDays) (places : List Placed) (statuses : List KeptSite) (spare : ℕ) (events : List Event)
+    (pieces : List Record) (count bytes : ℕ) (kept : Keeps (registered opened format inputs cells places statuses spare events) pieces count bytes) where
   taken_here : (opened_with : ℕ) (piece : Record) (days : List ℤ) (size : ℕ)
-      → MayBeTaken (registered opened inputs cells places statuses spare events) opened_with piece days size
+      → MayBeTaken (registered opened format inputs cells places statuses spare events) opened_with piece days size
       → (new : InForce) (more : List KeptDays) (standings : List KeptSite) (room number : ℕ) → in_force new ≡ stations_after (in_force inputs) piece.edit → new.limits ≡ inputs.limits
       → number ≡ length pieces + 1 → Marks cells more piece.edit.site days number → Stands statuses standings number piece.edit days
-      → Keeps (registered opened_with new more places standings room (events ++ Accepted piece ∷ [])) (pieces ++ piece ∷ []) (count + 1) size
+      → Keeps (registered opened_with format new more places standings room (events ++ Accepted piece ∷ [])) (pieces ++ piece ∷ []) (count + 1) size
   taken_here opened_with piece days size may new more standings room number s l n m st =
       let one = length-append events (Accepted piece ∷ []) in
       let counted = may.counted in
-      keeps_accepted opened inputs cells places statuses spare events pieces count bytes kept opened_with piece new more standings room number (count + 1) size may.legal s l n
+      keeps_accepted opened format inputs cells places statuses spare events pieces count bytes kept opened_with piece new more standings room number (count + 1) size may.legal s l n
       (subst (λ (d : List ℤ). Marks cells more piece.edit.site d number) may.days_are m)
       (subst (λ (d : List ℤ). Stands statuses standings number piece.edit d) may.days_are st) may.room.reference refl
-      (may.size_is ∙ ap journal_size (accepted_accepted events piece) ∙ journal_more (accepted events) piece
-      ∙ ap (λ k. k + (5 + length (payload piece))) (sym kept.journal_is))
+      (may.size_is ∙ ap (journal_size format) (accepted_accepted events piece) ∙ journal_more format (accepted events) piece
+      ∙ ap (λ k. k + (before_payload + length (payload format piece))) (sym kept.journal_is))
       may.size_fits (omega (arith, one, counted))
 
-  pub keeps_taken : (now : Registered) → registered opened inputs cells places statuses spare events ≡ now
+  pub keeps_taken : (now : Registered) → registered opened format inputs cells places statuses spare events ≡ now
       → (opened_with : ℕ) (piece : Record) (days : List ℤ) (size : ℕ) → MayBeTaken now opened_with piece days size
       → (new : InForce) (more : List KeptDays) (standings : List KeptSite) (room number : ℕ) (since : List Event) (known : List Record)
       → in_force new ≡ stations_after (in_force inputs) piece.edit → new.limits ≡ inputs.limits
       → number ≡ length pieces + 1 → Marks cells more piece.edit.site days number → Stands statuses standings number piece.edit days
       → since ≡ events ++ Accepted piece ∷ [] → known ≡ pieces ++ piece ∷ []
-      → Keeps (registered opened_with new more places standings room since) known (count + 1) size
+      → Keeps (registered opened_with format new more places standings room since) known (count + 1) size
   keeps_taken now view opened_with piece days size may new more standings room number since known s l n m st e k =
-      subst (λ (x : List Event). Keeps (registered opened_with new more places standings room x) known (count + 1) size) (sym e)
-      (subst (λ (x : List Record). Keeps (registered opened_with new more places standings room (events ++ Accepted piece ∷ [])) x (count + 1) size) (sym k)
+      subst (λ (x : List Event). Keeps (registered opened_with format new more places standings room x) known (count + 1) size) (sym e)
+      (subst (λ (x : List Record). Keeps (registered opened_with format new more places standings room (events ++ Accepted piece ∷ [])) x (count + 1) size) (sym k)
       (taken_here opened_with piece days size (subst (λ (r : Registered). MayBeTaken r opened_with piece days size) (sym view) may) new more standings room number s l n m st))

@@ -43,7 +43,7 @@ pub record Keeps (r : Registered) (pieces : List Record) (events journal_bytes :
   pub stations : in_force r.inputs ≡ stations_at r.history.events
   pub pieces_are : pieces ≡ accepted r.history.events
   pub events_are : events ≡ length r.history.events
-  pub journal_is : journal_bytes ≡ journal_size (accepted r.history.events)
+  pub journal_is : journal_bytes ≡ journal_size r.history.format (accepted r.history.events)
   pub journal_fits : journal_bytes < 2 ^ 64
   pub cells_tell : Tells r.history.events r.cells
   pub statuses_tell : TellsStatuses r.history.events r.statuses

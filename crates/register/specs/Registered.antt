@@ -17,6 +17,7 @@ use Rattle.office_inputs.specs.Kept.{InForce}
 use Rattle.recompute.specs.Cells as kept_cells
 use Rattle.recompute.specs.Cells.{is_out_in}
 use Rattle.recompute.specs.Jobs.{DayJob}
+use Rattle.records.specs.declared.formats.Format.{Format}
 use Rattle.register.specs.References.{Placed, IsPlacedFor}
 
 -- what happened; beside it the inputs, the cells, the places of references and the statuses as they are kept, and for how many more edits
@@ -29,9 +30,9 @@ pub record Registered : Type 0 where
   pub statuses : List KeptSite
   pub spare : ℕ
 
-abbrev pub registered : ℕ → InForce → List KeptDays → List Placed → List KeptSite → ℕ → List Event → Registered
-registered opened inputs cells references statuses spare events = record {
-  history = record { opened = opened; limits = inputs.limits; events = events };
+abbrev pub registered : ℕ → Format → InForce → List KeptDays → List Placed → List KeptSite → ℕ → List Event → Registered
+registered opened format inputs cells references statuses spare events = record {
+  history = record { opened = opened; limits = inputs.limits; format = format; events = events };
   inputs = inputs;
   cells = cells;
   references = references;

@@ -10,6 +10,7 @@ ghost use Rattle.history.specs.Legal.{IsLegal};
 ghost use Rattle.history.specs.Verdicts.{Accepts, record_of, refused_by_stations, verdict, with_record};
 ghost use Rattle.office_inputs.specs.Changes.{changed_days};
 ghost use Rattle.office_inputs.specs.Places.{IsPlaceOf};
+ghost use Rattle.records.specs.Payloads.{Holds};
 ghost use Rattle.register.specs.Asked.{IsNotReadmitted, readmission_refusal, refused_at_once};
 ghost use Rattle.register.specs.Registered.{IsReady, KeepsClaims, MarksClaims, NoneOut};
 
@@ -78,7 +79,7 @@ impl Register {
         requires days { days.now ≡ changed_days (stations_at self.old.history.events) piece.edit }
         requires room { IsReady self.old piece.edit }
         requires events { length self.old.history.events + 1 + length (pending_days (with_record self.old.history piece)) < 2 ^ 64 }
-        requires bytes { journal_bytes ≡ journal_size (accepted (with_record self.old.history piece)) }
+        requires bytes { journal_bytes ≡ journal_size self.old.history.format (accepted (with_record self.old.history piece)) }
         ensures history { self.new.history ≡ after_record opened self.old.history piece }
         ensures claims { MarksClaims self.old self.new piece.edit }
     {
@@ -111,7 +112,7 @@ impl Register {
         self.past.record(&Recorded::faulted(doubt));
     }
 
-    /// Accepts an edit by its record while an office is opened with it.
+    /// Accepts an edit by its record, whose comment the format of the journal holds, while an office is opened with it.
     ///
     /// # Errors
     ///
@@ -119,8 +120,9 @@ impl Register {
     /// its days refuse it, or where it would change an approved day, and [`NotReadmitted::NoMemory`] where there was none, or the events or the bytes of the journal could not be counted. What happened
     /// is then as before.
     pub fn readmit(&mut self, piece: Record) -> Result<(), NotReadmitted>
-        requires { self.old.history ≡ reopen self.old.history.limits (accepted self.old.history.events) }
-        ensures history { OnOk result (self.new.history ≡ reopen self.old.history.limits (accepted self.old.history.events ++ piece ∷ [])) }
+        requires opening { self.old.history ≡ reopen self.old.history.limits self.old.history.format (accepted self.old.history.events) }
+        requires holds { Holds self.old.history.format piece.edit.comment }
+        ensures history { OnOk result (self.new.history ≡ reopen self.old.history.limits self.old.history.format (accepted self.old.history.events ++ piece ∷ [])) }
         ensures lawful { OnOk result (readmission_refusal self.old.history piece.edit ≡ None) }
         ensures refused { IfErr result (IsNotReadmitted self.old.history piece.edit) }
         ensures same { OnErr result (self.new.history ≡ self.old.history) }
@@ -138,8 +140,9 @@ impl Register {
         requires name { blank.name ≡ L.name }
         requires parts { blank.parts ≡ L.parts }
         requires some { 0 < blank.parts }
-        requires opening { self.old.history ≡ reopen self.old.history.limits (accepted self.old.history.events) }
-        ensures history { OnOk result (self.new.history ≡ reopen self.old.history.limits (accepted self.old.history.events ++ piece ∷ [])) }
+        requires opening { self.old.history ≡ reopen self.old.history.limits self.old.history.format (accepted self.old.history.events) }
+        requires holds { Holds self.old.history.format piece.edit.comment }
+        ensures history { OnOk result (self.new.history ≡ reopen self.old.history.limits self.old.history.format (accepted self.old.history.events ++ piece ∷ [])) }
         ensures lawful { OnOk result (readmission_refusal self.old.history piece.edit ≡ None) }
         ensures refused { IfErr result (IsNotReadmitted self.old.history piece.edit) }
         ensures same { OnErr result (self.new.history ≡ self.old.history) }
@@ -171,11 +174,12 @@ impl Register {
 
     /// Accepts an edit that is not refused at once and changes these days, while an office is opened with it.
     fn readmit_on(&mut self, piece: Record, place: Place, days: &[Day]) -> Result<(), NotReadmitted>
-        requires opening { self.old.history ≡ reopen self.old.history.limits (accepted self.old.history.events) }
+        requires opening { self.old.history ≡ reopen self.old.history.limits self.old.history.format (accepted self.old.history.events) }
+        requires holds { Holds self.old.history.format piece.edit.comment }
         requires at_once { refused_at_once self.old.history piece.edit ≡ None }
         requires place { IsPlaceOf (stations_at self.old.history.events) piece.edit.site place }
         requires days { days.now ≡ changed_days (stations_at self.old.history.events) piece.edit }
-        ensures history { OnOk result (self.new.history ≡ reopen self.old.history.limits (accepted self.old.history.events ++ piece ∷ [])) }
+        ensures history { OnOk result (self.new.history ≡ reopen self.old.history.limits self.old.history.format (accepted self.old.history.events ++ piece ∷ [])) }
         ensures lawful { OnOk result (readmission_refusal self.old.history piece.edit ≡ None) }
         ensures refused { IfErr result (IsNotReadmitted self.old.history piece.edit) }
         ensures same { OnErr result (self.new.history ≡ self.old.history) }
@@ -194,11 +198,12 @@ impl Register {
         place: Place,
         days: &[Day],
     ) -> Result<(), NotReadmitted>
-        requires opening { self.old.history ≡ reopen self.old.history.limits (accepted self.old.history.events) }
+        requires opening { self.old.history ≡ reopen self.old.history.limits self.old.history.format (accepted self.old.history.events) }
+        requires holds { Holds self.old.history.format piece.edit.comment }
         requires lawful { readmission_refusal self.old.history piece.edit ≡ None }
         requires place { IsPlaceOf (stations_at self.old.history.events) piece.edit.site place }
         requires days { days.now ≡ changed_days (stations_at self.old.history.events) piece.edit }
-        ensures history { OnOk result (self.new.history ≡ reopen self.old.history.limits (accepted self.old.history.events ++ piece ∷ [])) }
+        ensures history { OnOk result (self.new.history ≡ reopen self.old.history.limits self.old.history.format (accepted self.old.history.events ++ piece ∷ [])) }
         ensures refused { IfErr result (IsNotReadmitted self.old.history piece.edit) }
         ensures same { OnErr result (self.new.history ≡ self.old.history) }
         ensures claims { NoneOut self.old → NoneOut self.new }
@@ -226,7 +231,7 @@ impl Register {
         ensures claims { KeepsClaims self.old self.new }
         ensures room { OnOk result (IsReady self.new piece.now.edit) }
         ensures events { OnOk result (length self.old.history.events + 1 + length (pending_days (with_record self.old.history piece.now)) < 2 ^ 64) }
-        ensures bytes { IfOk result (λ bytes. bytes ≡ journal_size (accepted (with_record self.old.history piece.now))) }
+        ensures bytes { IfOk result (λ bytes. bytes ≡ journal_size self.old.history.format (accepted (with_record self.old.history piece.now))) }
     {
         if self.events_after(piece, days).is_none() {
             return Err(NoMemory);

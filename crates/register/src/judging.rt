@@ -5,13 +5,13 @@ ghost use Rattle.edits.specs.Same.{is_same};
 ghost use Rattle.history.specs.Accepted.{accepted, edits_of, stations_at, named, cell_count, journal_size};
 ghost use Rattle.history.specs.Awaited.{pending_days};
 ghost use Rattle.history.specs.Events.{History};
-ghost use Rattle.history.specs.Verdicts.{or_else, record_of, refused_where, refused_as_locked, refused_by_stations, is_full_of_events, is_full_of_cells, is_journal_full, verdict, with_record, Repeats, Refuses};
+ghost use Rattle.history.specs.Verdicts.{record_of, refused_as_locked, refused_by_stations, refused_for_room, is_full_of_events, is_full_of_cells, is_comment_barred, is_journal_full, verdict, with_record, Repeats, Refuses};
 ghost use Rattle.office_inputs.specs.Changes.{changed_days};
 ghost use Rattle.office_inputs.specs.Places.{IsPlaceOf};
 ghost use Rattle.office_inputs.specs.Touched.{interval};
-ghost use Rattle.office_inputs.specs.declared.refusals.Full.TheVariants as fulls;
-ghost use Rattle.office_inputs.specs.declared.refusals.Refusal.TheVariants.{RefReused, HistoryFull, JournalFull};
+ghost use Rattle.office_inputs.specs.declared.refusals.Refusal.TheVariants.{RefReused};
 ghost use Rattle.recompute.specs.Cells.{awaited_in};
+ghost use Rattle.records.specs.Frames.{before_payload};
 ghost use Rattle.records.specs.Payloads.{payload};
 ghost use Rattle.register.specs.Asked.{TellsChanged, TellsPlace, TellsRecord, verdict_told, needs_days, refused_before_days};
 
@@ -23,7 +23,7 @@ use edits::Edit;
 use fixed_units::{Day, NoMemory, Site};
 use office_inputs::{Full, Place, Refusal, stations_keep_to_their_ranges};
 use recompute::pending_days_stand_by_site;
-use records::{Record, record_len};
+use records::{BEFORE_PAYLOAD, Format, Record, record_len};
 use std::sync::ledger::Ledger;
 
 impl Register {
@@ -123,18 +123,21 @@ impl Register {
         }
     }
 
-    /// For what there is no room, of an edit that changes these days: its events, its cells or its record.
+    /// For what there is no room, of an edit that changes these days: its events, its cells, its comment or its record.
     fn lacks_room(&self, piece: &Record, days: &[Day]) -> Option<Refusal>
         requires lawful { refused_by_stations self.now.history piece.now.edit ≡ None }
         requires made { piece.now ≡ record_of self.now.history piece.now.edit }
         requires days { days.now ≡ changed_days (stations_at self.now.history.events) piece.now.edit }
-        ensures { result ≡ or_else (refused_where (is_full_of_events self.now.history piece.now.edit) (HistoryFull fulls.Events)) (or_else (refused_where (is_full_of_cells self.now.history piece.now.edit) (HistoryFull fulls.Cells)) (refused_where (is_journal_full self.now.history piece.now.edit) JournalFull)) }
+        ensures { result ≡ refused_for_room self.now.history piece.now.edit }
     {
         if self.lacks_events(piece, days) {
             return Some(Refusal::HistoryFull(Full::Events));
         }
         if self.lacks_cells(piece.edit(), days) {
             return Some(Refusal::HistoryFull(Full::Cells));
+        }
+        if self.bars_comment(piece.edit()) {
+            return Some(Refusal::NoComments);
         }
         if self.lacks_bytes(piece) {
             return Some(Refusal::JournalFull);
@@ -161,6 +164,13 @@ impl Register {
         stations_keep_to_their_ranges(&self.inputs);
         pending_days_stand_by_site(&self.cells);
         self.cells.cells_after(edit.site, days) > self.inputs.limits().cells
+    }
+
+    /// Whether the format of the journal does not hold an edit's comment.
+    fn bars_comment(&self, edit: &Edit) -> bool
+        ensures { result ≡ is_comment_barred self.now.history edit.now }
+    {
+        !self.format.holds(&edit.comment)
     }
 
     /// Whether the journal would be too long with a record.
@@ -199,18 +209,19 @@ impl Register {
 
     /// How many bytes the journal would have with a record, or `None` where that cannot be counted.
     pub(crate) fn journal_after(&self, piece: &Record) -> Option<u64>
-        ensures counted { IfSome result (λ bytes. bytes ≡ journal_size (accepted (with_record self.now.history piece.now))) }
-        ensures most { result ≡ None → 2 ^ 64 ≤ journal_size (accepted (with_record self.now.history piece.now)) }
+        ensures counted { IfSome result (λ bytes. bytes ≡ journal_size self.now.history.format (accepted (with_record self.now.history piece.now))) }
+        ensures most { result ≡ None → 2 ^ 64 ≤ journal_size self.now.history.format (accepted (with_record self.now.history piece.now)) }
     {
-        self.journal_bytes.checked_add(block_len(piece))
+        self.journal_bytes
+            .checked_add(block_len(piece, self.format))
     }
 }
 
-/// How many bytes of a journal a record takes: a gate, the length of its payload in four bytes, and the payload.
-fn block_len(piece: &Record) -> u64
-    ensures { result ≡ 5 + length (payload piece.now) }
+/// How many bytes of a journal a record takes in a format: a gate, the length of its payload in four bytes, and the payload.
+fn block_len(piece: &Record, format: Format) -> u64
+    ensures { result ≡ before_payload + length (payload format piece.now) }
 {
-    5 + record_len(piece) as u64
+    BEFORE_PAYLOAD + record_len(piece, format) as u64
 }
 
 /// The verdict of an edit under the reference of an accepted one.

@@ -2,7 +2,7 @@
 
 ghost use Rattle.std.specs.Prelude.{◌≡◌, [], length, map, option_map};
 ghost use Rattle.approval.specs.Statuses.{approved_days};
-ghost use Rattle.history.specs.Accepted.{accepted, edits_of, stations_at, named, record_numbered};
+ghost use Rattle.history.specs.Accepted.{accepted, edits_of, stations_at, named, edit_numbered, record_numbered};
 ghost use Rattle.history.specs.After.{reopen};
 ghost use Rattle.history.specs.Awaited.{answer_at, pending_days};
 ghost use Rattle.history.specs.Statuses.{status_at};
@@ -15,16 +15,17 @@ use crate::answers::Answer;
 use crate::references::References;
 use approval::{Status, Statuses};
 use chronicle::Chronicle;
+use edits::Edit;
 use fixed_units::{Day, Site};
 use history::Recorded;
 use office_inputs::{Inputs, Limits, Station, stations_keep_to_their_ranges};
 use recompute::{Cells, pending_days_stand_by_site};
-use records::Record;
+use records::{Format, HEADER_LEN, Record};
 use std::alloc::Global;
 use std::marker::Model;
 
 /// The bytes of a journal of no records: its header and the closed gate.
-const EMPTY_JOURNAL: u64 = 17;
+const EMPTY_JOURNAL: u64 = HEADER_LEN + 1;
 
 /// What an office keeps in memory. Contracts see its history, and beside it what is in force, the cells, the places of references and
 /// for how many more edits there is room.
@@ -32,6 +33,8 @@ pub struct Register {
     pub(crate) alloc: Global,
     /// With how many edits the office was opened.
     pub(crate) opened: u64,
+    /// The format of the journal.
+    pub(crate) format: Format,
     pub(crate) inputs: Inputs,
     pub(crate) cells: Cells,
     pub(crate) references: References,
@@ -57,9 +60,9 @@ impl Model for Register {
 
     ghost coded = { Prim.hlevel (codes, edit.the_row.coded) };
 
-    ghost view = { λ r. registered r.opened r.inputs r.cells r.references r.statuses (vec_capacity r.pieces - vec_len r.pieces) r.past };
+    ghost view = { λ r. registered r.opened r.format r.inputs r.cells r.references r.statuses (vec_capacity r.pieces - vec_len r.pieces) r.past };
 
-    ghost invariant = { λ r. Keeps (registered r.opened r.inputs r.cells r.references r.statuses (vec_capacity r.pieces - vec_len r.pieces) r.past) r.pieces.items r.events r.journal_bytes };
+    ghost invariant = { λ r. Keeps (registered r.opened r.format r.inputs r.cells r.references r.statuses (vec_capacity r.pieces - vec_len r.pieces) r.past) r.pieces.items r.events r.journal_bytes };
 }
 
 /// By hand, so that a drop is one call wherever a register is dropped.
@@ -68,6 +71,7 @@ impl Drop for Register {
         let Register {
             alloc: _,
             opened: _,
+            format: _,
             inputs: _inputs,
             cells: _cells,
             references: _references,
@@ -81,14 +85,15 @@ impl Drop for Register {
 }
 
 impl Register {
-    /// Of no edit. It takes no memory.
-    pub fn new(alloc: Global, limits: Limits) -> Register
-        ensures history { result.history ≡ reopen limits [] }
+    /// Of no edit, and a journal of this format. It takes no memory.
+    pub fn new(alloc: Global, limits: Limits, format: Format) -> Register
+        ensures history { result.history ≡ reopen limits format [] }
         ensures claims { NoneOut result }
     {
         Register {
             alloc,
             opened: 0,
+            format,
             inputs: Inputs::new(alloc, limits),
             cells: Cells::new(alloc),
             references: References::new(alloc),
@@ -105,6 +110,13 @@ impl Register {
         ensures { result ≡ self.now.history.limits }
     {
         self.inputs.limits()
+    }
+
+    /// The format of the journal.
+    pub fn format(&self) -> Format
+        ensures { result ≡ self.now.history.format }
+    {
+        self.format
     }
 
     /// With how many edits the office was opened.
@@ -134,6 +146,14 @@ impl Register {
     {
         let place = number.checked_sub(1)?;
         self.pieces.get(place as usize)
+    }
+
+    /// The accepted edit of a number, or `None` exactly where the number is 0 or above that of the last one. It takes no memory.
+    pub fn edit_at(&self, number: u64) -> Option<&Edit>
+        ensures { option_map (λ edit. edit.now) result ≡ edit_numbered self.now.history.events number }
+    {
+        let piece = self.edit(number)?;
+        Some(piece.edit())
     }
 
     /// The record of the accepted edit that a reference names, with its number.

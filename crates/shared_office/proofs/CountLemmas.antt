@@ -14,7 +14,7 @@ use Rattle.shared_office.specs.Entries.{CanEnd}
 
 -- a call goes on by some events
 pub goes_on : (h : History) (asked : Option Edit) (edits : List Edit) (new : History) → Course h asked edits new → (added : List Event) × (new ≡ go_on h added)
-goes_on h asked edits new (Still e is) = ([], is ∙ ap (λ (l : List Event). record { opened = h.opened; limits = h.limits; events = l }) (sym (append-nil h.events)))
+goes_on h asked edits new (Still e is) = ([], is ∙ ap (λ (l : List Event). record { opened = h.opened; limits = h.limits; format = h.format; events = l }) (sym (append-nil h.events)))
 goes_on h asked edits new (Taken edit its e v is) = (Accepted (record_of h edit) ∷ [], is)
 goes_on h asked edits new (Failed edit left its e v may is) = (Faulted left ∷ [], is)
 goes_on h asked edits new (Shown days e p is) = (map publication days, is)
@@ -23,7 +23,7 @@ goes_on h asked edits new (Shown days e p is) = (map publication days, is)
 owed_after : (h : History) (days : List SiteDay) → ArePublished h.events days
     → length (after_publications h days).events + length (pending_days (after_publications h days).events) ≤ length h.events + length (pending_days h.events)
 owed_after h days p =
-    published_keep (record { opened = h.opened; limits = record h.limits { events = length h.events + length (pending_days h.events) }; events = h.events }) days p
+    published_keep (record { opened = h.opened; limits = record h.limits { events = length h.events + length (pending_days h.events) }; format = h.format; events = h.events }) days p
     (omega arith)
 
 pub can_end_after : (h : History) (asked : Option Edit) (edits : List Edit) (new : History) → Course h asked edits new → CanEnd h → CanEnd new

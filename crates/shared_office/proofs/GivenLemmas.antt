@@ -48,7 +48,7 @@ module _ (fixed : Fixed) (at later : List Entry) (on : IsPrefix at later) where
       let d = found_day (events_in at) job o pending found in
       let since : events_in at ++ events_in on.0 ≡ events_in later = sym (events_on at on.0) ∙ ap events_in on.1 in
       subst (λ (j : DayJob). ComesOutAsAwaited (history_of fixed later) j (outcome_at (history_of fixed later).events j)) (sym d.2)
-      (subst (λ (events : List Event). (ComesOutAsAwaited (record { opened = fixed.opened; limits = fixed.limits; events = events }) (job_at (events_in at) d.0)
+      (subst (λ (events : List Event). (ComesOutAsAwaited (record { opened = fixed.opened; limits = fixed.limits; format = fixed.format; events = events }) (job_at (events_in at) d.0)
       (outcome_at events (job_at (events_in at) d.0)))) since
       (job_outcome (events_in at) (events_in on.0) d.0 (awaited_some (awaited (events_in at) d.0.site d.0.day) d.3)))
 

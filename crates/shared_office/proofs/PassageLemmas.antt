@@ -24,12 +24,12 @@ use Rattle.records.specs.Sheets.{Record}
 
 -- a history goes on by no event
 pub go_on_none : (h : History) → go_on h [] ≡ h
-go_on_none h = ap (λ (e : List Event). record { opened = h.opened; limits = h.limits; events = e }) (append-nil h.events)
+go_on_none h = ap (λ (e : List Event). record { opened = h.opened; limits = h.limits; format = h.format; events = e }) (append-nil h.events)
 
 -- days were published, and then others
 pub published_on : (h : History) (days more : List SiteDay) → after_publications (after_publications h days) more ≡ after_publications h (days ++ more)
 published_on h days more =
-    ap (λ (e : List Event). record { opened = h.opened; limits = h.limits; events = e })
+    ap (λ (e : List Event). record { opened = h.opened; limits = h.limits; format = h.format; events = e })
     (append_assoc h.events (map publication days) (map publication more) ∙ ap (λ (e : List Event). h.events ++ e) (sym (map-append publication days more)))
 
 -- days were published, and nothing else happened
@@ -152,6 +152,7 @@ module _ {D : Type 0} (g : Ghosts D) where
   passes_refused h after edit (refusals.AlreadyApproved day) old new is counted cause leaves told = passes_none h after old new is.1 counted leaves told
   passes_refused h after edit (refusals.Locked day) old new is counted cause leaves told = passes_none h after old new is.1 counted leaves told
   passes_refused h after edit (refusals.HistoryFull full) old new is counted cause leaves told = passes_none h after old new is.1 counted leaves told
+  passes_refused h after edit refusals.NoComments old new is counted cause leaves told = passes_none h after old new is.1 counted leaves told
   passes_refused h after edit refusals.JournalFull old new is counted cause leaves told = passes_none h after old new is.1 counted leaves told
   passes_refused h after edit refusals.NoMemory old new is counted cause leaves told = passes_none h after old new is counted leaves told
   passes_refused h after edit (refusals.JournalFault in_doubt) old new is counted cause leaves told =

@@ -11,12 +11,12 @@ use Rattle.office.specs.Stops.{IsLeft, IsLeftBefore, IsLeftBetween}
 
 -- no event more
 went_nowhere : (h : History) → h ≡ go_on h []
-went_nowhere h = ap (λ (l : List Event). record { opened = h.opened; limits = h.limits; events = l }) (sym (append-nil h.events))
+went_nowhere h = ap (λ (l : List Event). record { opened = h.opened; limits = h.limits; format = h.format; events = l }) (sym (append-nil h.events))
 
 -- more events, and then others
 went_on : (h : History) (since behind : List Event) → go_on (go_on h since) behind ≡ go_on h (since ++ behind)
 went_on h since behind =
-    ap (λ (l : List Event). record { opened = h.opened; limits = h.limits; events = l }) (append_assoc h.events since behind)
+    ap (λ (l : List Event). record { opened = h.opened; limits = h.limits; format = h.format; events = l }) (append_assoc h.events since behind)
 
 -- what is left now is left on the way to what is now
 left_now : (h : History) (image : List ℕ) → IsLeft h image → IsLeftBetween h h image

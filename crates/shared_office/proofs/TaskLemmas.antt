@@ -74,7 +74,7 @@ events_more list added = events_on list (map Happened added) ∙ ap (λ zs. even
 
 pub history_on : (fixed : Fixed) (list : List Entry) (added : List Event) → history_of fixed (with_events list added) ≡ go_on (history_of fixed list) added
 history_on fixed list added =
-    ap (λ (events : List Event). record { opened = fixed.opened; limits = fixed.limits; events = events })
+    ap (λ (events : List Event). record { opened = fixed.opened; limits = fixed.limits; format = fixed.format; events = events })
     (events_more list added)
 
 ends_on : (told : Bool) (list : List Entry) → IsPrefix list (if told then list else list ++ Ending ∷ [])
@@ -128,7 +128,7 @@ module _ {D : Type 0} {g : Ghosts D} where
   pub history_told : (s : Shared D g) (fixed : Fixed) → fixed_of s ≡ fixed → history_of fixed (listed s) ≡ s.office.register.history
   history_told s fixed e =
       subst (λ (f : Fixed). history_of f (listed s) ≡ s.office.register.history) e
-      (ap (λ (events : List Event). record { opened = s.office.register.history.opened; limits = s.office.register.history.limits; events = events })
+      (ap (λ (events : List Event). record { opened = s.office.register.history.opened; limits = s.office.register.history.limits; format = s.office.register.history.format; events = events })
       (events_of_entries s.ending s.office.register.history.events))
 
   -- and so it is of the office that was lent

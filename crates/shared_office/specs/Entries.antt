@@ -31,11 +31,11 @@ before_ending (Ending ∷ more) = []
 
 -- the part that never changes
 abbrev pub fixed_part : History → Fixed
-fixed_part h = record { opened = h.opened; limits = h.limits }
+fixed_part h = record { opened = h.opened; limits = h.limits; format = h.format }
 
 -- the history of a shared office whose list is this one
 abbrev pub history_of : Fixed → List Entry → History
-history_of fixed list = record { opened = fixed.opened; limits = fixed.limits; events = events_in list }
+history_of fixed list = record { opened = fixed.opened; limits = fixed.limits; format = fixed.format; events = events_in list }
 
 -- a list that goes on by these events
 abbrev pub with_events : List Entry → List Event → List Entry

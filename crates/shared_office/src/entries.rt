@@ -2,6 +2,7 @@
 
 use history::Recorded;
 use office_inputs::Limits;
+use records::Format;
 
 /// An entry of the list of a shared office.
 #[derive(Drop)]
@@ -19,4 +20,6 @@ pub struct Fixed {
     pub opened: u64,
     /// The numbers that it keeps to.
     pub limits: Limits,
+    /// The format of its journal.
+    pub format: Format,
 }

@@ -9,4 +9,4 @@ use Rattle.office_inputs.specs.declared.limits.Limits.{Limits}
 use Rattle.register.specs.Registered.{Registered}
 
 pub counted : (content : Option (List ℕ)) (limits : Limits) (r : Registered) (count : ℕ) → IsOpened content limits r → HasCounted r.history count
-counted content limits r count opened = subst (λ (h : History). HasCounted h count) (sym opened.reopened) (opened_counted limits opened.pieces count)
+counted content limits r count opened = subst (λ (h : History). HasCounted h count) (sym opened.reopened) (opened_counted limits r.history.format opened.pieces count)

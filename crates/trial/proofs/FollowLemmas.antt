@@ -14,7 +14,7 @@ use Rattle.trial_orders.specs.References.{IsAsked}
 
 same_asked : (number : ℕ) (by : List ℕ) (site : SiteNumber) (what : What) (e f : Edit) → IsAsked number by site what e → IsAsked number by site what f → e ≡ f
 same_asked number by site what e f a b =
-    same_edit e f (a.by_is ∙ sym b.by_is) (a.reference_is ∙ sym b.reference_is) (a.site_is ∙ sym b.site_is) (a.what_is ∙ sym b.what_is)
+    same_edit e f (a.by_is ∙ sym b.by_is) (a.reference_is ∙ sym b.reference_is) (a.site_is ∙ sym b.site_is) (a.comment_is ∙ sym b.comment_is) (a.what_is ∙ sym b.what_is)
 
 same_next : (t a b : Trial) (order : Order) → Follows t order a → Follows t order b → a ≡ b
 same_next t a b (Ask by site what) f g = f.2 ∙ ap (after_asking t) (same_asked (t.asked + 1) by site what f.0 g.0 f.1 g.1) ∙ sym g.2

@@ -5,6 +5,7 @@ use Rattle.history.specs.After.{after_edit, after_settlement, reopen}
 use Rattle.history.specs.Events.{History}
 use Rattle.history.specs.Verdicts.{Verdict, Accepts, Refuses, Repeats, verdict}
 use Rattle.office_inputs.specs.Usual.{usual}
+use Rattle.records.specs.declared.formats.Format.TheVariants.{Second}
 use Rattle.trial.specs.Refusals.{locks}
 use Rattle.trial_orders.specs.Orders.{Order, Ask, Settle}
 use Rattle.trial_orders.specs.References.{IsAsked}
@@ -15,9 +16,9 @@ pub record Trial : Type 0 where
   pub asked : ℕ
   pub locked : ℕ
 
--- before the first order: an office that is opened on a journal of no records
+-- before the first order: an office that is opened on a journal of no records, of the second format
 abbrev pub beginning : Trial
-beginning = record { history = reopen usual []; asked = 0; locked = 0 }
+beginning = record { history = reopen usual Second []; asked = 0; locked = 0 }
 
 -- one edit more was asked, and this was said to it
 abbrev pub after_verdict : Verdict → Trial → Edit → Trial

@@ -7,6 +7,7 @@ ghost use Rattle.history.specs.Awaited.{pending_days};
 ghost use Rattle.office.specs.Openings.{IsOpened};
 ghost use Rattle.trial.specs.Figures.{IsTrialText, publications, text_of};
 ghost use Rattle.office_inputs.specs.Usual.{usual};
+ghost use Rattle.records.specs.declared.formats.Format.TheVariants.{Second};
 ghost use Rattle.trial.specs.Trials.{beginning};
 
 use crate::disks::ScratchDisk;
@@ -16,6 +17,7 @@ use devices::Disk;
 use fixed_units::{NoMemory, Text};
 use office::Office;
 use office_inputs::Limits;
+use records::Format;
 use std::alloc::Global;
 
 /// The sum of the mean discharges is told modulo this.
@@ -26,7 +28,8 @@ const TOTALS: u64 = 1_000_000_000;
 ///
 /// # Errors
 ///
-/// [`NoMemory`]. A fault of the trial's disk is told as that too, and so is a new journal with a record: neither happens where there is memory.
+/// [`NoMemory`]. A fault of the trial's disk is told as that too, and so is a new journal with a record or of the first format: none of these
+/// happens where there is memory.
 pub fn run_trial(alloc: Global, number: u32) -> Result<Text, NoMemory>
     ensures { IfOk result (IsTrialText number) }
 {
@@ -36,20 +39,24 @@ pub fn run_trial(alloc: Global, number: u32) -> Result<Text, NoMemory>
 
 /// An office over a new journal on a disk in memory, with the usual limits.
 fn new_office(alloc: Global) -> Result<Office<ScratchDisk>, NoMemory>
-    ensures { IfOk result (λ office. office.register.history ≡ reopen usual []) }
+    ensures { IfOk result (λ office. office.register.history ≡ reopen usual Second []) }
 {
     let office = office_over(alloc, new_journal(alloc)?)?;
-    // This does not happen: the journal is new, so no record was read. The disk tells no content, so the proof knows it by this test alone.
+    // This does not happen: the journal is new, so no record was read, and of the second format. The disk tells no content, so the proof knows
+    // it by this test alone.
     if office.events() > 0 {
         return Err(NoMemory);
     }
-    Ok(office)
+    match office.format() {
+        Format::Second => Ok(office),
+        Format::First => Err(NoMemory),
+    }
 }
 
 /// A disk in memory with a new journal.
 fn new_journal(alloc: Global) -> Result<ScratchDisk, NoMemory> {
     let mut disk = ScratchDisk::empty(alloc);
-    match journal::init(&mut disk) {
+    match journal::init(&mut disk, Format::Second) {
         Ok(()) => Ok(disk),
         Err(_) => Err(NoMemory),
     }
@@ -67,7 +74,7 @@ fn office_over(alloc: Global, disk: ScratchDisk) -> Result<Office<ScratchDisk>, 
 
 /// The text of the trial of a number, whose orders are asked of an office over a new journal.
 fn run_over<D: Disk + Drop>(alloc: Global, office: Office<D>, number: u32) -> Result<Text, NoMemory>
-    requires { office.register.history ≡ reopen usual [] }
+    requires { office.register.history ≡ reopen usual Second [] }
     ensures { IfOk result (IsTrialText number) }
 {
     let mut run = Run::new(alloc, office);

@@ -12,9 +12,9 @@ use Rattle.history.proofs.ApprovedLemmas.{Stays, approved_stays, sheet_stays}
 use Rattle.history.proofs.laws.an_approved_day_does_not_move.Goals as goal
 
 stays : (h : History) (events since : List Event) (site : SiteNumber) (day : ℤ) → IsLegal h → (is : IsDay day) → h.events ≡ events ++ since
-    → is_approved (status_at events site day) ≡ true → NoneRescinds site day (edits_of since) → Stays h.limits site day is events (events ++ since)
+    → is_approved (status_at events site day) ≡ true → NoneRescinds site day (edits_of since) → Stays h.limits h.format site day is events (events ++ since)
 stays h events since site day legal is e approved none =
-    approved_stays h.limits site day is since events (subst (IsOrderly h.limits) e legal.orderly) approved none
+    approved_stays h.limits h.format site day is since events (subst (IsOrderly h.limits h.format) e legal.orderly) approved none
 
 pub returns-clause-standing : goal.returns-clause-standing
 returns-clause-standing c h events since site day legal is e approved none =

@@ -19,6 +19,9 @@ returns-clause-repeated c old new before after edit told legal goes = told_ever_
 pub returns-clause-limits : goal.returns-clause-limits
 returns-clause-limits c old new steps goes = (adds_steps old steps new goes).limits
 
+pub returns-clause-format : goal.returns-clause-format
+returns-clause-format c old new steps goes = (adds_steps old steps new goes).format
+
 pub returns-clause-limit_from_opening : goal.returns-clause-limit_from_opening
 returns-clause-limit_from_opening c old new steps pieces opened goes keeps = limit_from_opening old new steps pieces opened goes keeps
 

@@ -5,7 +5,7 @@ pub returns-clause-opens : goal.returns-clause-opens
 returns-clause-opens c h image legal left = may_open h image legal left
 
 pub returns-clause-any_moment : goal.returns-clause-any_moment
-returns-clause-any_moment c h after image legal same left = may_open_between h after image legal same left
+returns-clause-any_moment c h after image legal limits format left = may_open_between h after image legal limits format left
 
 pub returns-clause-header : goal.returns-clause-header
 returns-clause-header c h behind image o = has_header h behind image o

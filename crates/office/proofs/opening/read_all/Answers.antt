@@ -11,7 +11,7 @@ loop-smaller g c =
     let h = c.loop.invariant.read in
     let next : (piece : Record) × HasReadmitted c.loop.register.history.limits (h.0 ++ piece ∷ []) c.read_next.new.register c.read_next.new.opening =
     rw c.if-branch.true at c.in_ok-read_next.ensures.reads h.0 h.1 in
-    let moves = gate_moves h.0 next.0 _ _ h.1.read next.1.read in
+    let moves = gate_moves h.0 next.0 _ _ c.read_next.ensures.format h.1.read next.1.read in
     let within = c.in_ok-read_next.ensures.within (ap (λ (b : Bool). Ok b) c.if-branch.true) in
     omega arith
 

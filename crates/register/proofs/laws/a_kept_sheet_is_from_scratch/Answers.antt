@@ -14,8 +14,8 @@ from_scratch : (h : History) (site : SiteNumber) (day : ℤ) → IsLegal h → I
 from_scratch h site day legal is approved late =
     let events = ap (λ (x : History). x.events) legal.opened in
     let opened = ap (λ (x : History). x.opened) legal.opened in
-    subst (λ (l : List Event). Told h.limits legal.first site day is l) (sym events)
-    (stored_since h.limits legal.first site day is legal.since (subst (IsOrderly h.limits) events legal.orderly) legal.made)
+    subst (λ (l : List Event). Told h.limits h.format legal.first site day is l) (sym events)
+    (stored_since h.limits h.format legal.first site day is legal.since (subst (IsOrderly h.limits h.format) events legal.orderly) legal.made)
     approved (subst (λ n. n < (standing_at h.events site day).edit) opened late)
 
 pub returns-clause-approval : goal.returns-clause-approval

@@ -4,7 +4,7 @@ use Rattle.edits.specs.declared.content.Edit.{Edit}
 use Rattle.history.specs.After.{MayLeaveInDoubt, leaves_doubt, left_by}
 use Rattle.history.specs.Events.{Accepted, Faulted, History}
 use Rattle.history.specs.Verdicts.{Accepts, record_of, verdict}
-use Rattle.journal.specs.Keeping.{Holds}
+use Rattle.journal.specs.Keeping.{Holds, IsNext}
 use Rattle.journal.specs.Moments.{LeavesOnly}
 use Rattle.journal.specs.Writing.{Lists}
 use Rattle.office.specs.Edits.{FaultCalls, IsFaulted, IsTaken}
@@ -14,14 +14,24 @@ use Rattle.office.specs.Stops.{IsLeftBetween}
 use Rattle.office.proofs.EditLemmas.{does_fit, may_leave, stands_faulted, stands_accepted, is_faulted, is_taken, leaves_between, fault_calls_inside}
 use Rattle.records.specs.Payloads.{encoded_and_closed}
 use Rattle.records.specs.Sheets.{Record}
+use Rattle.records.specs.declared.formats.Format.{Format}
 use Rattle.office.proofs.offices.Office.keep_and_accept.Goals as goal
 
 pub keep-requires-clause-fits : goal.keep-requires-clause-fits
 keep-requires-clause-fits g c =
     let made : c.args.piece ≡ record_of c.self.inside.register.history c.args.piece.edit =
     subst (λ (o : Officed g.row.D.Denot). c.args.piece ≡ record_of o.register.history c.args.piece.edit) (sym c.self.view_is) c.requires.made in
+    let next : IsNext c.self.inside.register.history.format c.args.piece c.args.bytes.now =
+    subst (λ (o : Officed g.row.D.Denot). IsNext o.register.history.format c.args.piece c.args.bytes.now) (sym c.self.view_is) c.requires.next in
     does_fit c.self.inside.register.history c.self.inside.doubt c.self.inside.journal c.self.invariant c.args.piece.edit c.args.bytes.now
-    (subst (λ (o : Officed g.row.D.Denot). verdict o.register.history c.args.piece.edit ≡ Accepts) (sym c.self.view_is) c.requires.verdict) (c.requires.next.1 ∙ ap encoded_and_closed made)
+    (subst (λ (o : Officed g.row.D.Denot). verdict o.register.history c.args.piece.edit ≡ Accepts) (sym c.self.view_is) c.requires.verdict)
+    (next.1 ∙ ap (encoded_and_closed c.self.inside.register.history.format) made)
+
+pub keep-requires-clause-next : goal.keep-requires-clause-next
+keep-requires-clause-next g c =
+    let next : IsNext c.self.inside.register.history.format c.args.piece c.args.bytes.now =
+    subst (λ (o : Officed g.row.D.Denot). IsNext o.register.history.format c.args.piece c.args.bytes.now) (sym c.self.view_is) c.requires.next in
+    subst (λ (f : Format). IsNext f c.args.piece c.args.bytes.now) (sym c.self.invariant.format) next
 
 -- a fault
 pub fault-requires-clause-doubt : goal.fault-requires-clause-doubt
@@ -37,7 +47,7 @@ pub invariant_of-self : goal.invariant_of-self
 invariant_of-self g c =
     subst (λ (h : History). Stands h c.keep.new.doubt c.keep.new.journal) (sym c.fault.ensures.history)
     (stands_faulted c.self.inside.register.history c.self.inside.doubt c.self.inside.journal c.self.invariant c.keep.new.journal c.keep.new.doubt
-    c.in-Err.ensures.gate c.keep.ensures.limit c.keep.ensures.in_doubt c.keep.ensures.untold c.in-Err.ensures.keeps)
+    c.keep.ensures.format c.in-Err.ensures.gate c.keep.ensures.limit c.keep.ensures.in_doubt c.keep.ensures.untold c.in-Err.ensures.keeps)
 
 pub returns-in-Err-clause-fault : goal.returns-in-Err-clause-fault
 returns-in-Err-clause-fault g c =
@@ -80,9 +90,11 @@ pub invariant_of-self-2 : goal.invariant_of-self-2
 invariant_of-self-2 g c =
     let made : c.args.piece ≡ record_of c.self.inside.register.history c.args.piece.edit =
     subst (λ (o : Officed g.row.D.Denot). c.args.piece ≡ record_of o.register.history c.args.piece.edit) (sym c.self.view_is) c.requires.made in
+    let next : IsNext c.self.inside.register.history.format c.args.piece c.args.bytes.now =
+    subst (λ (o : Officed g.row.D.Denot). IsNext o.register.history.format c.args.piece c.args.bytes.now) (sym c.self.view_is) c.requires.next in
     subst (λ (h : History). Stands h c.keep.new.doubt c.keep.new.journal) (sym c.accept.ensures.history)
     (stands_accepted c.self.inside.register.history c.self.inside.doubt c.self.inside.journal c.self.invariant c.args.piece.edit c.args.bytes.now
-    c.keep.new.journal c.keep.new.doubt c.in_default.ensures.leaves (c.requires.next.1 ∙ ap encoded_and_closed made) c.in_default.ensures.gate c.keep.ensures.limit c.keep.ensures.in_doubt
+    c.keep.new.journal c.keep.new.doubt c.in_default.ensures.leaves (next.1 ∙ ap (encoded_and_closed c.self.inside.register.history.format) made) c.keep.ensures.format c.in_default.ensures.gate c.keep.ensures.limit c.keep.ensures.in_doubt
     c.keep.ensures.untold
     (subst (λ (p : Record). (pieces : List Record) → Holds pieces c.self.inside.doubt c.self.inside.journal → Holds (pieces ++ p ∷ []) None c.keep.new.journal)
     made c.in_default.ensures.keeps))

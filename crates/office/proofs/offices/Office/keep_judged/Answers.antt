@@ -1,6 +1,7 @@
 -- Where room was wanting, nothing was asked of the disk.
 use Rattle.std.specs.Prelude.{◌≡◌, [], Err}
 use Rattle.std.proofs.Common.{false, refl, sym, subst}
+use Rattle.history.proofs.VerdictLemmas.{accepted_parts, accepts_holds}
 use Rattle.journal.specs.Writing.{Lists}
 use Rattle.office.specs.Edits.{EditCalls, IsTaken}
 use Rattle.office.specs.declared.offices.Accepted.{Accepted}
@@ -8,6 +9,12 @@ use Rattle.office_inputs.specs.declared.refusals.Refusal.TheVariants.{NoMemory}
 use Rattle.office.proofs.ClaimLemmas.{claims_behind}
 use Rattle.office.proofs.RefusedLemmas.{lists_none}
 use Rattle.office.proofs.offices.Office.keep_judged.Goals as goal
+
+pub prepare-requires-clause-new : goal.prepare-requires-clause-new
+prepare-requires-clause-new g c = (accepted_parts c.args.self.now.register.history c.args.piece.edit c.requires.verdict).new
+
+pub prepare-requires-clause-holds : goal.prepare-requires-clause-holds
+prepare-requires-clause-holds g c = accepts_holds c.args.self.now.register.history c.args.piece.edit c.requires.verdict
 
 pub returns-in_default-clause-calls : goal.returns-in_default-clause-calls
 returns-in_default-clause-calls g c =

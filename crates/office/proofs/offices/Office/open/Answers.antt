@@ -3,15 +3,23 @@ use Rattle.std.specs.Prelude.{ℕ, List, None, Option}
 use Rattle.std.proofs.Common.{refl, subst, ◌∙◌}
 use Rattle.devices.specs.Disks.{IsDurable}
 use Rattle.journal.specs.Moments.{IsContent}
-use Rattle.office.proofs.ReplayLemmas.{durable_still, opened_stands, reads_behind, synced_behind}
+use Rattle.office.specs.Openings.{IsOpened}
+use Rattle.office.proofs.ReplayLemmas.{durable_still, is_opened, opened_stands, reads_behind, synced_behind}
 use Rattle.office.proofs.offices.Office.open.Goals as goal
 
 pub over-requires : goal.over-requires
 over-requires g c =
     let read = c.in-Ok.ensures in
     opened_stands c.args.limits c.args.limits read.all.0 c.in-Ok.register c.replay.new.opening None c.finish-journal.result refl read.all.1
-    refl c.finish-journal.ensures.disk c.finish-journal.ensures.gate c.finish-journal.ensures.limit c.finish-journal.ensures.in_doubt c.finish-journal.ensures.holds
+    refl c.finish-journal.ensures.disk c.finish-journal.ensures.format c.finish-journal.ensures.gate c.finish-journal.ensures.limit c.finish-journal.ensures.in_doubt c.finish-journal.ensures.holds
     (durable_still _ _ _ _ c.replay.ensures.disk.same c.replay.ensures.disk.images c.in_ok-opening.ensures.durable)
+
+pub returns-in-Ok-clause-opened : goal.returns-in-Ok-clause-opened
+returns-in-Ok-clause-opened g c =
+    let read = c.in-Ok.ensures in
+    rw c.over.ensures.register
+    (subst (λ (o : Option (List ℕ)). IsOpened o c.args.limits c.in-Ok.register) (c.replay.ensures.disk.same ∙ c.in_ok-opening.ensures.same)
+    (is_opened c.args.limits read.all.0 c.in-Ok.register c.replay.new.opening read.all.1 read.legal))
 
 pub returns-in-Ok-clause-durable : goal.returns-in-Ok-clause-durable
 returns-in-Ok-clause-durable g c =

@@ -40,8 +40,8 @@ pub take_in-requires-clause-bytes : goal.take_in-requires-clause-bytes
 take_in-requires-clause-bytes c =
     let told = ap (λ (l : Limits). l.journal_bytes) c.limits.ensures ∙ ap (λ (r : Registered). r.history.limits.journal_bytes) c.self.view_is in
     let small : c.args.self.now.history.limits.journal_bytes < 2 ^ 64 = omega (arith, told) in
-    let parts = subst (λ (p : Record). journal_size (accepted (with_record c.args.self.now.history p)) ≤ c.args.self.now.history.limits.journal_bytes)
+    let parts = subst (λ (p : Record). journal_size c.args.self.now.history.format (accepted (with_record c.args.self.now.history p)) ≤ c.args.self.now.history.limits.journal_bytes)
     (sym c.requires.made) (accepted_parts c.args.self.now.history c.args.piece.edit c.requires.verdict).journal in
     c.unwrap_or-bytes.ensures
-    ∙ counted_bytes c.journal_after.result 18446744073709551615 (journal_size (accepted (with_record c.args.self.now.history c.args.piece)))
+    ∙ counted_bytes c.journal_after.result 18446744073709551615 (journal_size c.args.self.now.history.format (accepted (with_record c.args.self.now.history c.args.piece)))
     c.journal_after.ensures.counted c.journal_after.ensures.most (omega (arith, small, parts))

@@ -13,3 +13,6 @@ returns-in-Some-clause-verdict g c =
 pub judge_new-requires : goal.judge_new-requires
 judge_new-requires g c =
     named_as _ c.named.result c.args.self.now.history c.args.edit c.as_slice.result.now c.as_slice.ensures.codes c.named.ensures None c.in_default.is
+
+pub returns-in-Some-clause-place : goal.returns-in-Some-clause-place
+returns-in-Some-clause-place g c = c.judge_again.ensures.place c.args.self.now.history

@@ -29,5 +29,5 @@ returns c =
     let its = has_own c.as_slice.result.now c.args.reference.now place piece c.in_ok-place.ensures.found
     (ap (λ l. slice_get l place) (c.as_slice.ensures.value ∙ sym c.deref.ensures.value) ∙ here) in
     rw (← c.self.view_is)
-    (own_stands (record { opened = c.self.inside.opened; limits = c.self.inside.inputs.limits; events = c.self.inside.past }) c.self.invariant.legal
+    (own_stands (record { opened = c.self.inside.opened; limits = c.self.inside.inputs.limits; format = c.self.inside.format; events = c.self.inside.past }) c.self.invariant.legal
     c.args.reference.now place piece (ap (λ l. slice_get l place) (sym (c.deref.ensures.value ∙ c.self.invariant.pieces_are)) ∙ here) its)

@@ -14,7 +14,7 @@ use Rattle.register.proofs.registers.Register.prepare.Goals as goal
 
 pub returns-clause-room : goal.returns-clause-room
 returns-clause-room c =
-    on_ok_weaker c.put.result (λ placed. ready_made c.self.inside.opened c.prepare_at.new.self c.prepare.new.self c.put.new.self c.prepare-2.new.self c.self.inside.past
+    on_ok_weaker c.put.result (λ placed. ready_made c.self.inside.opened c.self.inside.format c.prepare_at.new.self c.prepare.new.self c.put.new.self c.prepare-2.new.self c.self.inside.past
     (vec_capacity c.reserve.new.self) (vec_len c.reserve.new.self) c.len-number.result c.self.inside.pieces.items c.args.edit.now c.args.days.now c.as_slice.result.now
     c.in_ok-prepare_at.ensures.room
     (c.requires.days ∙ ap (λ (r : Registered). changed_days (stations_at r.history.events) c.args.edit.now) (sym c.self.view_is))
@@ -23,9 +23,9 @@ returns-clause-room c =
 
 pub invariant_of-self-2 : goal.invariant_of-self-2
 invariant_of-self-2 c =
-    subst (λ (pieces : List Record). Keeps (registered c.self.inside.opened c.prepare_at.new.self c.prepare.new.self c.put.new.self c.prepare-2.new.self (vec_capacity c.reserve.new.self - vec_len c.reserve.new.self) c.self.inside.past) pieces c.self.inside.events c.self.inside.journal_bytes)
+    subst (λ (pieces : List Record). Keeps (registered c.self.inside.opened c.self.inside.format c.prepare_at.new.self c.prepare.new.self c.put.new.self c.prepare-2.new.self (vec_capacity c.reserve.new.self - vec_len c.reserve.new.self) c.self.inside.past) pieces c.self.inside.events c.self.inside.journal_bytes)
     (sym c.reserve.ensures.items)
-    (keeps_prepared c.self.inside.opened c.self.inside.inputs c.self.inside.cells c.self.inside.references c.self.inside.statuses
+    (keeps_prepared c.self.inside.opened c.self.inside.format c.self.inside.inputs c.self.inside.cells c.self.inside.references c.self.inside.statuses
     (vec_capacity c.self.inside.pieces - vec_len c.self.inside.pieces) c.self.inside.past c.self.inside.pieces.items c.self.inside.events c.self.inside.journal_bytes
     c.self.invariant c.prepare_at.new.self c.prepare.new.self c.put.new.self c.prepare-2.new.self (vec_capacity c.reserve.new.self - vec_len c.reserve.new.self)
     c.prepare_at.ensures.stations c.prepare_at.ensures.limits c.prepare.ensures.same

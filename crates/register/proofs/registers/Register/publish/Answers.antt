@@ -12,7 +12,7 @@ pub overflow_add-self : goal.overflow_add-self
 overflow_add-self c =
     let same_day : c.day-day.result ≡ c.args.done.job.day = cc in
     let counted : c.self.inside.events + 1 < 2 ^ 64 =
-    room _ _ _ _ _ _ _ _ _ _ c.self.invariant c.stations_keep_to_their_ranges.ensures c.pending_days_stand_by_site.ensures.rising
+    room _ _ _ _ _ _ _ _ _ _ _ c.self.invariant c.stations_keep_to_their_ranges.ensures c.pending_days_stand_by_site.ensures.rising
     _ c.pending_days_stand_by_site-2.ensures.rising c.args.done.job c.args.done.value (subst IsDay same_day c.day_is_in_range.ensures)
     (sym c.in-Published.ensures.outcome) (c.in-Published.ensures.published refl) (c.in-Published.ensures.value refl) in
     omega arith
@@ -22,8 +22,8 @@ invariant_of-self-2 c =
     let same_day : c.day-day.result ≡ c.args.done.job.day = cc in
     let more : c.record_publication.new.past ≡ c.self.inside.past ++ Published c.args.done.job.site c.args.done.job.day ∷ [] = cc in
     let r = c.self.inside in
-    subst (λ (events : List Event). Keeps (registered r.opened r.inputs c.publish-told.new.self r.references r.statuses (vec_capacity r.pieces - vec_len r.pieces) events)
+    subst (λ (events : List Event). Keeps (registered r.opened r.format r.inputs c.publish-told.new.self r.references r.statuses (vec_capacity r.pieces - vec_len r.pieces) events)
     r.pieces.items (r.events + 1) r.journal_bytes) (sym more)
-    (kept_published _ _ _ _ _ _ _ _ _ _ c.self.invariant c.stations_keep_to_their_ranges.ensures c.pending_days_stand_by_site.ensures.rising
+    (kept_published _ _ _ _ _ _ _ _ _ _ _ c.self.invariant c.stations_keep_to_their_ranges.ensures c.pending_days_stand_by_site.ensures.rising
     _ c.pending_days_stand_by_site-2.ensures.rising c.args.done.job c.args.done.value (subst IsDay same_day c.day_is_in_range.ensures)
     (sym c.in-Published.ensures.outcome) (c.in-Published.ensures.published refl) (c.in-Published.ensures.value refl))

@@ -21,7 +21,7 @@ pub publish_due-requires : goal.publish_due-requires
 publish_due-requires c =
     let same_day : c.day-day.result ≡ c.args.done.job.day = cc in
     due_awaits c.self.inside.cells (in_force c.self.inside.inputs) c.args.done.job
-    (told_of_cells _ _ _ _ _ _ _ _ _ _ c.self.invariant c.args.done.job (subst IsDay same_day c.day_is_in_range.ensures)
+    (told_of_cells _ _ _ _ _ _ _ _ _ _ _ c.self.invariant c.args.done.job (subst IsDay same_day c.day_is_in_range.ensures)
     (ap (λ (r : Registered). outcome_at r.history.events c.args.done.job) c.self.view_is ∙ c.requires))
 
 module _ (c : After-pending_days_stand_by_site-2) where
@@ -32,7 +32,7 @@ module _ (c : After-pending_days_stand_by_site-2) where
 
   told : outcome_of c.self.inside.cells (in_force c.self.inside.inputs) c.args.done.job ≡ publish.Published
   told =
-      told_of_cells _ _ _ _ _ _ _ _ _ _ c.self.invariant c.args.done.job its_day
+      told_of_cells _ _ _ _ _ _ _ _ _ _ _ c.self.invariant c.args.done.job its_day
       (ap (λ (r : Registered). outcome_at r.history.events c.args.done.job) c.self.view_is ∙ c.requires)
 
   computed : c.args.done.value ≡ day_value (inputs_of_day (in_force c.self.inside.inputs) c.args.done.job.site c.args.done.job.day)
@@ -42,7 +42,7 @@ pub overflow_add-self : goal.overflow_add-self
 overflow_add-self c =
     let w = (goal.at.overflow_add-self c).After-pending_days_stand_by_site-2 in
     let counted : c.self.inside.events + 1 < 2 ^ 64 =
-    room _ _ _ _ _ _ _ _ _ _ c.self.invariant c.stations_keep_to_their_ranges.ensures c.pending_days_stand_by_site.ensures.rising
+    room _ _ _ _ _ _ _ _ _ _ _ c.self.invariant c.stations_keep_to_their_ranges.ensures c.pending_days_stand_by_site.ensures.rising
     _ c.pending_days_stand_by_site-2.ensures.rising c.args.done.job c.args.done.value (its_day w) (told w) c.publish_due.ensures.published (computed w) in
     omega arith
 
@@ -51,9 +51,9 @@ invariant_of-self c =
     let w = (goal.at.invariant_of-self c).After-pending_days_stand_by_site-2 in
     let more : c.record_publication.new.past ≡ c.self.inside.past ++ Published c.args.done.job.site c.args.done.job.day ∷ [] = cc in
     let r = c.self.inside in
-    subst (λ (events : List Event). Keeps (registered r.opened r.inputs c.publish_due.new.self r.references r.statuses (vec_capacity r.pieces - vec_len r.pieces) events)
+    subst (λ (events : List Event). Keeps (registered r.opened r.format r.inputs c.publish_due.new.self r.references r.statuses (vec_capacity r.pieces - vec_len r.pieces) events)
     r.pieces.items (r.events + 1) r.journal_bytes) (sym more)
-    (kept_published _ _ _ _ _ _ _ _ _ _ c.self.invariant c.stations_keep_to_their_ranges.ensures c.pending_days_stand_by_site.ensures.rising
+    (kept_published _ _ _ _ _ _ _ _ _ _ _ c.self.invariant c.stations_keep_to_their_ranges.ensures c.pending_days_stand_by_site.ensures.rising
     _ c.pending_days_stand_by_site-2.ensures.rising c.args.done.job c.args.done.value (its_day w) (told w) c.publish_due.ensures.published (computed w))
 
 pub returns-clause-pending : goal.returns-clause-pending
@@ -61,6 +61,6 @@ returns-clause-pending c =
     let w = (goal.at.returns-clause-pending c).After-pending_days_stand_by_site-2 in
     let more : c.record_publication.new.past ≡ c.self.inside.past ++ Published c.args.done.job.site c.args.done.job.day ∷ [] = cc in
     ap (λ (events : List Event). length (pending_days events) + 1) more
-    ∙ one_less _ _ _ _ _ _ _ _ _ _ c.self.invariant c.stations_keep_to_their_ranges.ensures c.pending_days_stand_by_site.ensures.rising
+    ∙ one_less _ _ _ _ _ _ _ _ _ _ _ c.self.invariant c.stations_keep_to_their_ranges.ensures c.pending_days_stand_by_site.ensures.rising
     _ c.pending_days_stand_by_site-2.ensures.rising c.args.done.job c.args.done.value (its_day w) (told w) c.publish_due.ensures.published (computed w)
     ∙ ap (λ (r : Registered). length (pending_days r.history.events)) c.self.view_is

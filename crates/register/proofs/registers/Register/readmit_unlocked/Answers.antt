@@ -22,7 +22,7 @@ take_in-requires-clause-legal c =
     let opened : c.self.inside.opened ≡ h.opened = ap (λ (r : Registered). r.history.opened) c.self.view_is ∙ ap (λ (x : History). x.opened) same in
     subst (λ (x : History). IsLegal (after_record (c.self.inside.opened + 1) x c.args.piece)) (sym same)
     (subst (λ n. IsLegal (after_record (n + 1) h c.args.piece)) (sym opened)
-    (legal_opened h c.args.piece c.requires.opening legal (may_be_kept h c.args.piece c.sheets.ensures.lawful c.requires.lawful)))
+    (legal_opened h c.args.piece c.requires.opening legal (may_be_kept h c.args.piece c.sheets.ensures.lawful c.requires.holds c.requires.lawful)))
 
 without_memory : {T : Type 0} (r : Result T NotReadmitted) (h : History) (edit : Edit) → IsErrAnd r (λ told. told ≡ opening.NoMemory) → refused_at_once h edit ≡ None
     → IfErr r (IsNotReadmitted h edit)
@@ -40,7 +40,7 @@ returns-in_err-bytes-clause-refused c =
 pub take_in-requires-clause-lawful : goal.take_in-requires-clause-lawful
 take_in-requires-clause-lawful c =
     subst (λ (x : History). refused_by_stations x c.args.piece.edit ≡ None) (sym c.in_ok-bytes.ensures.history)
-    (may_be_kept c.args.self.now.history c.args.piece c.sheets.ensures.lawful c.requires.lawful).stations
+    (may_be_kept c.args.self.now.history c.args.piece c.sheets.ensures.lawful c.requires.holds c.requires.lawful).stations
 
 pub returns-clause-claims : goal.returns-clause-claims
 returns-clause-claims c = λ none site day.

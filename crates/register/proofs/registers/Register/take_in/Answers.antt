@@ -20,7 +20,7 @@ apply-requires-clause-rising c = changed_rise (stations_at c.args.self.now.histo
 
 pub invariant_of-self : goal.invariant_of-self
 invariant_of-self c =
-    keeps_taken c.self.inside.opened c.self.inside.inputs c.self.inside.cells c.self.inside.references c.self.inside.statuses
+    keeps_taken c.self.inside.opened c.self.inside.format c.self.inside.inputs c.self.inside.cells c.self.inside.references c.self.inside.statuses
     (vec_capacity c.self.inside.pieces - vec_len c.self.inside.pieces) c.self.inside.past c.self.inside.pieces.items c.self.inside.events c.self.inside.journal_bytes
     c.self.invariant c.args.self.now c.self.view_is c.args.opened c.args.piece c.args.days.now c.args.journal_bytes
     (record {

@@ -32,6 +32,7 @@ module _ (fixed : Fixed) (from : List Entry) where
   in_one (asks.SheetOf site day) reply reads is = is
   in_one (asks.Daily site from' to) reply reads is = is
   in_one (asks.Measurement site number) reply reads is = is
+  in_one (asks.EditOf number) reply reads is = is
   in_one (asks.Turns zero) reply reads is = is
   in_one (asks.Turns (suc n)) reply reads is = absurd (omega (arith, reads))
   in_one asks.Settle reply reads is = absurd reads

@@ -213,6 +213,7 @@ module _ (old : Registered) (none : NoneOut old) where
   own (asks.SheetOf site day) reply next told same = by_none (asks.SheetOf site day) reply next same refl
   own (asks.Daily site from to) reply next told same = days_own site from to reply next told same
   own (asks.Measurement site number) reply next told same = by_none (asks.Measurement site number) reply next same refl
+  own (asks.EditOf number) reply next told same = by_none (asks.EditOf number) reply next same refl
   own (asks.Turns count) reply next told same = turned count count reply next same
   own asks.Settle reply next told same = settled_all reply next same
   own asks.Counts reply next told same = by_none asks.Counts reply next same refl
@@ -225,6 +226,7 @@ module _ (old : Registered) (none : NoneOut old) where
   failed (asks.SheetOf site day) reply next fails = absurd fails
   failed (asks.Daily site from to) reply next fails = absurd fails
   failed (asks.Measurement site number) reply next fails = absurd fails
+  failed (asks.EditOf number) reply next fails = absurd fails
   failed (asks.Turns count) reply next fails = absurd fails
   failed asks.Settle reply next fails = absurd fails
   failed asks.Counts reply next fails = absurd fails
@@ -237,6 +239,7 @@ module _ (old : Registered) (none : NoneOut old) where
   forgone (asks.SheetOf site day) reply next told left = by_none (asks.SheetOf site day) reply next left refl
   forgone (asks.Daily site from to) reply next told left = by_none (asks.Daily site from to) reply next left (inr (refl, told))
   forgone (asks.Measurement site number) reply next told left = by_none (asks.Measurement site number) reply next left refl
+  forgone (asks.EditOf number) reply next told left = by_none (asks.EditOf number) reply next left refl
   forgone (asks.Turns count) reply next told left = turned count left.0 reply next left.2
   forgone asks.Settle reply next told left = settled left.0 reply next left.1 left.2
   forgone asks.Counts reply next told left = by_none asks.Counts reply next left refl

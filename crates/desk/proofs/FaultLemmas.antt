@@ -5,7 +5,7 @@ use Rattle.std.proofs.Common.{refl, ap, ◌∙◌, inl, inr, arith}
 use Rattle.std.proofs.lemmas.List.Sums.{sum_by-cons}
 use Rattle.approval.specs.declared.status.Status.{Status}
 use Rattle.edits.specs.declared.content.Edit.{Edit}
-use Rattle.desk.specs.Replies.{AreReplies, Fails, IsAnswered, IsLeftBy, day_reply, departure_reply, edit_reply, fault_reply, history_after, history_by, measurement_reply, reply_to, sheet_reply, station_reply, table_reply, tells_fault}
+use Rattle.desk.specs.Replies.{AreReplies, Fails, IsAnswered, IsLeftBy, accepted_edit_reply, day_reply, departure_reply, edit_reply, fault_reply, history_after, history_by, measurement_reply, reply_to, sheet_reply, station_reply, table_reply, tells_fault}
 use Rattle.desk.specs.Replying.{IsAnsweredBy, IsReplied, IsTold, memory_reply}
 use Rattle.shared_office.proofs.PassageLemmas.{Publishes}
 use Rattle.desk.proofs.TurnLemmas.{publishes_turns}
@@ -26,6 +26,7 @@ use Rattle.http_api.specs.declared.asks.Denied.TheVariants as denials
 use Rattle.http_api.specs.declared.replies.Reply.TheVariants as replies
 use Rattle.measurements.specs.declared.departures.Departure.{Departure}
 use Rattle.records.specs.Sheets.{Record}
+use Rattle.records.specs.declared.formats.Format.{Format}
 use Rattle.office.proofs.CountLemmas.{fault_count-append, none_accepted, none_published, one_accepted, one_faulted}
 use Rattle.office.proofs.RefusedLemmas.{not_a_fault}
 use Rattle.office.specs.Counting.{fault_count}
@@ -56,6 +57,7 @@ plain_refused (refusals.NotApproved day) none = refl
 plain_refused (refusals.AlreadyApproved day) none = refl
 plain_refused (refusals.Locked day) none = refl
 plain_refused (refusals.HistoryFull full) none = refl
+plain_refused refusals.NoComments none = refl
 plain_refused refusals.JournalFull none = refl
 plain_refused refusals.NoMemory none = refl
 plain_refused (refusals.JournalFault in_doubt) none = absurd (none in_doubt refl)
@@ -121,6 +123,11 @@ unfolding bytes_of digits
 plain_measurement number None = refl
 plain_measurement number (Some station) = plain_departure _
 
+plain_accepted_edit : (edit : Option Edit) → tells_fault (accepted_edit_reply edit) ≡ false
+unfolding bytes_of digits
+plain_accepted_edit None = refl
+plain_accepted_edit (Some edit) = refl
+
 pub plain_turned : (pending published : ℕ) → tells_fault (bytes_of (replies.Turned pending published)) ≡ false
 unfolding bytes_of digits
 plain_turned pending published = refl
@@ -142,6 +149,7 @@ plain_own h (asks.DayOf site day) = plain_day _ _
 plain_own h (asks.SheetOf site day) = plain_sheet _
 plain_own h (asks.Daily site from to) = plain_table _ _
 plain_own h (asks.Measurement site number) = plain_measurement number _
+plain_own h (asks.EditOf number) = plain_accepted_edit _
 plain_own h (asks.Turns count) = plain_turned _ _
 plain_own h asks.Settle = plain_turned _ _
 plain_own h asks.Counts = plain_counts _ _
@@ -176,6 +184,7 @@ own_none h (asks.DayOf site day) = refl
 own_none h (asks.SheetOf site day) = refl
 own_none h (asks.Daily site from to) = refl
 own_none h (asks.Measurement site number) = refl
+own_none h (asks.EditOf number) = refl
 own_none h (asks.Turns count) = published_none h _ (publishes_turns count h)
 own_none h asks.Settle = published_none h _ (record { days = pending_days h.events; after_is = refl })
 own_none h asks.Counts = refl
@@ -187,6 +196,7 @@ left_none h (asks.DayOf site day) next left = ap (λ (x : History). fault_count 
 left_none h (asks.SheetOf site day) next left = ap (λ (x : History). fault_count x.events) left
 left_none h (asks.Daily site from to) next left = ap (λ (x : History). fault_count x.events) left
 left_none h (asks.Measurement site number) next left = ap (λ (x : History). fault_count x.events) left
+left_none h (asks.EditOf number) next left = ap (λ (x : History). fault_count x.events) left
 left_none h (asks.Turns count) next left =
     ap (λ (x : History). fault_count x.events) left.2 ∙ published_none h _ (publishes_turns left.0 h)
 left_none h asks.Settle next left = published_none h next (record { days = _; after_is = left.2 })
@@ -253,6 +263,7 @@ failed h (asks.DayOf site day) reply next fails = absurd fails
 failed h (asks.SheetOf site day) reply next fails = absurd fails
 failed h (asks.Daily site from to) reply next fails = absurd fails
 failed h (asks.Measurement site number) reply next fails = absurd fails
+failed h (asks.EditOf number) reply next fails = absurd fails
 failed h (asks.Turns count) reply next fails = absurd fails
 failed h asks.Settle reply next fails = absurd fails
 failed h asks.Counts reply next fails = absurd fails
@@ -314,8 +325,8 @@ pub count_reopened : (pieces : List Record) (since : List Event) → fault_count
 count_reopened [] since = refl
 count_reopened (piece ∷ pieces) since = count_reopened pieces since
 
-pub all_opened : (limits : Limits) (pieces : List Record) (ms : List Message) (rs : List (List ℕ)) (after : History)
-    → AreReplies (reopen limits pieces) ms rs after → fault_count after.events ≡ count_by tells_fault rs
-all_opened limits pieces ms rs after is =
-    let whole = all_told (reopen limits pieces) ms rs after is in
+pub all_opened : (limits : Limits) (format : Format) (pieces : List Record) (ms : List Message) (rs : List (List ℕ)) (after : History)
+    → AreReplies (reopen limits format pieces) ms rs after → fault_count after.events ≡ count_by tells_fault rs
+all_opened limits format pieces ms rs after is =
+    let whole = all_told (reopen limits format pieces) ms rs after is in
     omega (arith, whole, none_accepted pieces)

@@ -140,6 +140,7 @@ module _ (fixed : Fixed) where
   held_answer (asks.SheetOf site day) reply xs is = held_at_once (asks.SheetOf site day) reply xs is
   held_answer (asks.Daily site from to) reply xs is = held_at_once (asks.Daily site from to) reply xs is
   held_answer (asks.Measurement site number) reply xs is = held_at_once (asks.Measurement site number) reply xs is
+  held_answer (asks.EditOf number) reply xs is = held_at_once (asks.EditOf number) reply xs is
   held_answer asks.Counts reply xs is = held_at_once asks.Counts reply xs is
 
   held_on : (xs ys : Holdings) → AreHeld xs → AreHeld ys → AreHeld (xs ++ ys)

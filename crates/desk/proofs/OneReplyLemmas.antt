@@ -22,6 +22,7 @@ failed_not h (asks.DayOf site day) reply next failed own = failed
 failed_not h (asks.SheetOf site day) reply next failed own = failed
 failed_not h (asks.Daily site from to) reply next failed own = failed
 failed_not h (asks.Measurement site number) reply next failed own = failed
+failed_not h (asks.EditOf number) reply next failed own = failed
 failed_not h (asks.Turns count) reply next failed own = failed
 failed_not h asks.Settle reply next failed own = failed
 failed_not h asks.Counts reply next failed own = failed

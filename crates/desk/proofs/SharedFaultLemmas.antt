@@ -70,6 +70,7 @@ module _ (fixed : Fixed) where
   answer_holds (asks.SheetOf site day) reply xs is = at_once (asks.SheetOf site day) reply xs is
   answer_holds (asks.Daily site from to) reply xs is = at_once (asks.Daily site from to) reply xs is
   answer_holds (asks.Measurement site number) reply xs is = at_once (asks.Measurement site number) reply xs is
+  answer_holds (asks.EditOf number) reply xs is = at_once (asks.EditOf number) reply xs is
   answer_holds asks.Counts reply xs is = at_once asks.Counts reply xs is
 
   reply_holds : (coming rest : Holdings) (message : Message) (reply : List ℕ) → IsReplied (Uses fixed) coming message reply rest → Holds coming reply rest

@@ -41,7 +41,7 @@ goes_on_further h mid next first rest = record {
   events = first.events ++ rest.events;
   is =
       rest.is ∙ ap (λ (x : History). go_on x rest.events) first.is
-      ∙ ap (λ (l : List Event). record { opened = h.opened; limits = h.limits; events = l }) (append_assoc h.events first.events rest.events);
+      ∙ ap (λ (l : List Event). record { opened = h.opened; limits = h.limits; format = h.format; events = l }) (append_assoc h.events first.events rest.events);
 }
 
 step_goes_on : (old : Registered) (step : Step) (new : Registered) → IsCall step → IsStep old step new → GoesOn old.history new.history
@@ -117,7 +117,7 @@ stopped_now old steps register is =
 
 went_on : (h : History) (since behind : List Event) → go_on h (since ++ behind) ≡ go_on (go_on h since) behind
 went_on h since behind =
-    ap (λ (l : List Event). record { opened = h.opened; limits = h.limits; events = l }) (sym (append_assoc h.events since behind))
+    ap (λ (l : List Event). record { opened = h.opened; limits = h.limits; format = h.format; events = l }) (sym (append_assoc h.events since behind))
 
 module _ (register : Registered) (image : List ℕ) where
   stopped_first : (old new : Registered) → GoesOver old [] new → IsLeftBetween old.history new.history image
@@ -181,37 +181,41 @@ module _ (register : Registered) (image : List ℕ) where
       ]
 
 -- what is left of a legal history may be opened: it is the journal of the edits that were accepted up to that point, and of at most one more
-left_opens : (h after : History) (image : List ℕ) (pieces : List Record) → IsLegal after → after.limits ≡ h.limits → (left : IsLeftBetween h after image)
-    → IsJournalOf pieces image
-    → IsLegal (reopen h.limits pieces)
+left_opens : (h after : History) (image : List ℕ) (pieces : List Record) → IsLegal after → after.limits ≡ h.limits → after.format ≡ h.format
+    → (left : IsLeftBetween h after image)
+    → IsJournalOf h.format pieces image
+    → IsLegal (reopen h.limits h.format pieces)
     × ((more : List Record) × (length more ≤ 1) × (pieces ≡ accepted (h.events ++ left.since) ++ more))
-left_opens h after image pieces legal same left journal =
-    let o = may_open_between h after image legal same left in
-    let are = one_list pieces (accepted (h.events ++ left.since) ++ o.more) image journal o.found in
-    (subst (λ (l : List Record). IsLegal (reopen h.limits l)) (sym are) o.legal, (o.more, o.few, are))
+left_opens h after image pieces legal limits format left journal =
+    let o = may_open_between h after image legal limits format left in
+    let are = one_list h.format pieces (accepted (h.events ++ left.since) ++ o.more) image journal o.found in
+    (subst (λ (l : List Record). IsLegal (reopen h.limits h.format l)) (sym are) o.legal, (o.more, o.few, are))
 
 -- Behind some of the steps a stop leads to the office that is opened on it, and the records that it is opened on are few more than those
 -- up to that point.
 pub record StopIn (old : Registered) (steps : List Step) (since : List Event) (pieces : List Record) : Type 0 where
-  pub at : Stopped old steps (at_history old (reopen old.history.limits pieces))
-  pub legal : IsLegal (reopen old.history.limits pieces)
+  pub at : Stopped old steps (at_history old (reopen old.history.limits old.history.format pieces))
+  pub legal : IsLegal (reopen old.history.limits old.history.format pieces)
   pub few : (more : List Record) × (length more ≤ 1) × (pieces ≡ accepted (old.history.events ++ since) ++ more)
 
 pub stop_inside : (old : Registered) (steps : List Step) (new : Registered) (image : List ℕ) (pieces : List Record) → NoneOut old
     → IsLegal old.history → All IsCall steps → GoesOver old steps new → (left : IsLeftBetween old.history new.history image)
-    → IsJournalOf pieces image → StopIn old steps left.since pieces
+    → IsJournalOf old.history.format pieces image → StopIn old steps left.since pieces
 stop_inside old steps new image pieces none legal calls over left journal =
-    let limits = ap (λ (h : History). h.limits) (steps_go_on old steps new calls over).is in
-    let opens = left_opens old.history new.history image pieces (legal_steps old steps new over legal) limits left journal in
-    let register = at_history old (reopen old.history.limits pieces) in
+    let on = (steps_go_on old steps new calls over).is in
+    let limits = ap (λ (h : History). h.limits) on in
+    let format = ap (λ (h : History). h.format) on in
+    let opens = left_opens old.history new.history image pieces (legal_steps old steps new over legal) limits format left journal in
+    let register = at_history old (reopen old.history.limits old.history.format pieces) in
     let opened : IsOpened (Some image) old.history.limits register =
     record { pieces = pieces; found = journal; reopened = refl; legal = opens.0; claims = none } in
     record { at = stopped register image old steps new calls over left opened; legal = opens.0; few = opens.1 }
 
 -- the steps that lead to it
 pub stop_in_course : (old : Registered) (steps : List Step) (new : Registered) (image : List ℕ) (pieces : List Record) → NoneOut old
-    → IsLegal old.history → All IsCall steps → GoesOver old steps new → IsLeftBetween old.history new.history image → IsJournalOf pieces image
-    → (all : List Step) × GoesOver old all (at_history old (reopen old.history.limits pieces)) × IsLegal (reopen old.history.limits pieces)
+    → IsLegal old.history → All IsCall steps → GoesOver old steps new → IsLeftBetween old.history new.history image
+    → IsJournalOf old.history.format pieces image
+    → (all : List Step) × GoesOver old all (at_history old (reopen old.history.limits old.history.format pieces)) × IsLegal (reopen old.history.limits old.history.format pieces)
 stop_in_course old steps new image pieces none legal calls over left journal =
     let s = stop_inside old steps new image pieces none legal calls over left journal in
     (s.at.before ++ AStop (cut_before s.at.behind) s.at.found ∷ [], s.at.over, s.legal)

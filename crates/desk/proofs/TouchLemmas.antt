@@ -250,6 +250,7 @@ module _ (fixed : Fixed) where
   answered_alone from (asks.SheetOf site day) reply xs to is t = at_once from (asks.SheetOf site day) reply xs to is t
   answered_alone from (asks.Daily site first last) reply xs to is t = at_once from (asks.Daily site first last) reply xs to is t
   answered_alone from (asks.Measurement site number) reply xs to is t = at_once from (asks.Measurement site number) reply xs to is t
+  answered_alone from (asks.EditOf number) reply xs to is t = at_once from (asks.EditOf number) reply xs to is t
   answered_alone from asks.Counts reply xs to is t = at_once from asks.Counts reply xs to is t
 
   -- messages

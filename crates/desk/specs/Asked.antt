@@ -16,6 +16,7 @@ IsReading (asks.DayOf site day) = ⊤
 IsReading (asks.SheetOf site day) = ⊤
 IsReading (asks.Daily site from to) = ⊤
 IsReading (asks.Measurement site number) = ⊤
+IsReading (asks.EditOf number) = ⊤
 IsReading (asks.Turns count) = count ≡ 0
 IsReading asks.Settle = ⊥
 IsReading asks.Counts = ⊤

@@ -102,6 +102,7 @@ module _ (fixed : Fixed) where
   IsAnswered (asks.SheetOf site day) reply xs = IsAnsweredAtOnce (asks.SheetOf site day) reply xs
   IsAnswered (asks.Daily site from to) reply xs = IsAnsweredAtOnce (asks.Daily site from to) reply xs
   IsAnswered (asks.Measurement site number) reply xs = IsAnsweredAtOnce (asks.Measurement site number) reply xs
+  IsAnswered (asks.EditOf number) reply xs = IsAnsweredAtOnce (asks.EditOf number) reply xs
   IsAnswered asks.Counts reply xs = IsAnsweredAtOnce asks.Counts reply xs
 
   -- the holdings of an ask are the first of those that are still to come

@@ -65,6 +65,7 @@ AreStepsOf (asks.Daily site from to) reply steps =
     × (reply ≡ table_reply kept (flat_map (λ day. day_row day (status day) (told day)) (days_within from to))))
     ⊎ IsForgone reply steps
 AreStepsOf (asks.Measurement site number) reply steps = steps ≡ []
+AreStepsOf (asks.EditOf number) reply steps = steps ≡ []
 AreStepsOf (asks.Turns count) reply steps = All IsATurn steps
 AreStepsOf asks.Settle reply steps = (told : Result ℕ NoMemory) × (steps ≡ ASettlement told ∷ [])
 AreStepsOf asks.Counts reply steps = steps ≡ []

@@ -7,7 +7,7 @@ use Rattle.desk.specs.Replying.{memory_reply}
 use Rattle.desk.specs.Replying as replying
 use Rattle.edits.specs.declared.content.Edit.{Edit}
 use Rattle.fixed_units.specs.Quantities.{SiteNumber}
-use Rattle.history.specs.Accepted.{accepted, stations_at}
+use Rattle.history.specs.Accepted.{accepted, edit_numbered, stations_at}
 use Rattle.history.specs.After.{after_edit, after_publications, after_settlement, after_turns}
 use Rattle.history.specs.Awaited.{DayAnswer, answer_at, pending_days}
 use Rattle.history.specs.Awaited as days
@@ -16,6 +16,7 @@ use Rattle.history.specs.Sheets.{Shown, shown_at}
 use Rattle.history.specs.Sheets as shown
 use Rattle.history.specs.Statuses.{status_at}
 use Rattle.history.specs.Verdicts.{Verdict, Repeats, Refuses, Accepts, verdict}
+use Rattle.http_api.specs.AcceptedEdits.{accepted_edit_text}
 use Rattle.http_api.specs.Days.{answer_members, status_member, value_members}
 use Rattle.http_api.specs.Replies.{bytes_of, status_by}
 use Rattle.http_api.specs.Stations.{station_text}
@@ -93,6 +94,11 @@ abbrev pub measurement_reply : ℕ → Option StationState → List ℕ
 measurement_reply number None = bytes_of replies.NoStation
 measurement_reply number (Some station) = departure_reply (departure_of number station)
 
+-- the reply for an accepted edit
+abbrev pub accepted_edit_reply : Option Edit → List ℕ
+accepted_edit_reply None = bytes_of replies.NoEdit
+accepted_edit_reply (Some edit) = answer_bytes (accepted_edit_text edit)
+
 -- the reply once days were published: how many are pending then, and how many publications there were, which is how many events more
 -- the history has
 abbrev pub turned_reply : History → History → List ℕ
@@ -106,6 +112,7 @@ history_after h (asks.DayOf site day) = h
 history_after h (asks.SheetOf site day) = h
 history_after h (asks.Daily site from to) = h
 history_after h (asks.Measurement site number) = h
+history_after h (asks.EditOf number) = h
 history_after h (asks.Turns count) = after_turns count h
 history_after h asks.Settle = after_settlement h
 history_after h asks.Counts = h
@@ -118,6 +125,7 @@ reply_to h (asks.DayOf site day) = day_reply (status_at h.events site day) (answ
 reply_to h (asks.SheetOf site day) = sheet_reply (shown_at h.events site day)
 reply_to h (asks.Daily site from to) = daily_reply h.events site from to
 reply_to h (asks.Measurement site number) = measurement_reply number (station_of (stations_at h.events) site)
+reply_to h (asks.EditOf number) = accepted_edit_reply (edit_numbered h.events number)
 reply_to h (asks.Turns count) = turned_reply h (after_turns count h)
 reply_to h asks.Settle = turned_reply h (after_settlement h)
 reply_to h asks.Counts = bytes_of (replies.Counts (length (accepted h.events)) (length (pending_days h.events)))
@@ -142,6 +150,7 @@ Fails h (asks.DayOf site day) reply next = ⊥
 Fails h (asks.SheetOf site day) reply next = ⊥
 Fails h (asks.Daily site from to) reply next = ⊥
 Fails h (asks.Measurement site number) reply next = ⊥
+Fails h (asks.EditOf number) reply next = ⊥
 Fails h (asks.Turns count) reply next = ⊥
 Fails h asks.Settle reply next = ⊥
 Fails h asks.Counts reply next = ⊥
@@ -154,6 +163,7 @@ IsLeftBy h (asks.DayOf site day) next = next ≡ h
 IsLeftBy h (asks.SheetOf site day) next = next ≡ h
 IsLeftBy h (asks.Daily site from to) next = next ≡ h
 IsLeftBy h (asks.Measurement site number) next = next ≡ h
+IsLeftBy h (asks.EditOf number) next = next ≡ h
 IsLeftBy h (asks.Turns count) next = (turns : ℕ) × (turns ≤ count) × (next ≡ after_turns turns h)
 IsLeftBy h asks.Settle next = (count : ℕ) × (count ≤ length (pending_days h.events)) × (next ≡ after_publications h (take count (pending_days h.events)))
 IsLeftBy h asks.Counts next = next ≡ h

@@ -174,6 +174,7 @@ pub(crate) fn tell<D: Disk>(office: &Office<D>, ask: Ask, texts: &mut Texts) -> 
         Ask::SheetOf(site, day) => tell_sheet(office, site, day, texts),
         Ask::Daily(site, from, to) => tell_daily(office, site, from, to, texts),
         Ask::Measurement(site, number) => tell_measurement(office, site, number, texts),
+        Ask::EditOf(number) => tell_accepted_edit(office, number, texts),
         Ask::Counts => tell_counts(office, texts),
         Ask::Turns(_) => texts.make(&Reply::Turned {
             pending: office.pending(),
@@ -244,6 +245,20 @@ fn tell_measurement<D: Disk>(
     match station_departure(station, number) {
         Some(departure) => texts.make(&Reply::Measurement(departure)),
         None => texts.make(&Reply::NoMeasurement),
+    }
+}
+
+/// Tells by whom and why an accepted edit was made.
+fn tell_accepted_edit<D: Disk>(
+    office: &Office<D>,
+    number: u64,
+    texts: &mut Texts,
+) -> Result<(), NoMemory>
+    ensures { OnOk result (texts.new.reply ≡ reply_to office.now.register.history (asks.EditOf number)) }
+{
+    match office.edit_at(number) {
+        Some(edit) => texts.make(&Reply::EditOf(edit)),
+        None => texts.make(&Reply::NoEdit),
     }
 }
 

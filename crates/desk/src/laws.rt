@@ -27,6 +27,7 @@ ghost use Rattle.office.specs.Steps.{AStop, GoesOver, IsCall, Step, added};
 ghost use Rattle.office.specs.Stops.{IsLeftBetween};
 ghost use Rattle.office_inputs.specs.declared.limits.Limits.{Limits};
 ghost use Rattle.records.specs.Sheets.{Record};
+ghost use Rattle.records.specs.declared.formats.Format.{Format};
 ghost use Rattle.register.specs.Registered.{NoneOut, Registered};
 ghost use Rattle.shared_office.specs.Entries.{events_in, history_of};
 ghost use Rattle.shared_office.specs.Holdings.{Holding, Follow};
@@ -50,8 +51,8 @@ pub fn replies_are_one()
 pub fn each_fault_has_its_reply()
     ensures joined { (h after : History) (messages : List Message) (replies : List (List ℕ)) → AreReplies h messages replies after
         → fault_count after.events ≡ fault_count h.events + count_by tells_fault replies }
-    ensures all { (limits : Limits) (pieces : List Record) (after : History) (messages : List Message) (replies : List (List ℕ))
-        → AreReplies (reopen limits pieces) messages replies after → fault_count after.events ≡ count_by tells_fault replies }
+    ensures all { (limits : Limits) (format : Format) (pieces : List Record) (after : History) (messages : List Message) (replies : List (List ℕ))
+        → AreReplies (reopen limits format pieces) messages replies after → fault_count after.events ≡ count_by tells_fault replies }
 {}
 
 /// An edit that is told want of memory leaves the history as it was, and behind a lock its holding adds nothing.
@@ -154,8 +155,8 @@ pub fn acknowledged_edits_stay()
 /// These are those of the edits that were accepted up to that point, and at most one more.
 pub fn a_stop_in_a_course_is_a_step()
     ensures { (old new : Registered) (steps : List Step) (image : List ℕ) (pieces : List Record) → NoneOut old → IsLegal old.history
-        → All IsCall steps → GoesOver old steps new → (left : IsLeftBetween old.history new.history image) → IsJournalOf pieces image
+        → All IsCall steps → GoesOver old steps new → (left : IsLeftBetween old.history new.history image) → IsJournalOf old.history.format pieces image
         → (opened : Registered) × (before behind : List Step) × (found : Option Record) × (more : List Record) × (steps ≡ before ++ behind)
-        × GoesOver old (before ++ AStop (cut_before behind) found ∷ []) opened × (opened.history ≡ reopen old.history.limits pieces)
+        × GoesOver old (before ++ AStop (cut_before behind) found ∷ []) opened × (opened.history ≡ reopen old.history.limits old.history.format pieces)
         × NoneOut opened × IsLegal opened.history × (length more ≤ 1) × (pieces ≡ accepted (old.history.events ++ left.since) ++ more) }
 {}

@@ -8,7 +8,7 @@ use Rattle.matchit.specs.Route.{scan}
 use Rattle.matchit.specs.Seek.{slash, has_slash}
 use Rattle.http_api.specs.Routes.{Begins, IsSpelled, tokens_of, RoutesAreApart}
 use Rattle.http_api.specs.declared.routes.Route.{Route}
-use Rattle.http_api.specs.declared.routes.Route.TheVariants.{Edits, Rating, Turns, Settle, Status, Station, DayOf, SheetOf, Daily, Measurement}
+use Rattle.http_api.specs.declared.routes.Route.TheVariants.{Edits, Rating, Turns, Settle, Status, Station, DayOf, SheetOf, Daily, Measurement, EditOf}
 
 -- what is behind a parameter is nothing, or begins with a slash
 abbrev pub ends_part : List ℕ → Bool
@@ -118,6 +118,7 @@ told_apart DayOf DayOf = inl refl
 told_apart SheetOf SheetOf = inl refl
 told_apart Daily Daily = inl refl
 told_apart Measurement Measurement = inl refl
+told_apart EditOf EditOf = inl refl
 told_apart Edits Rating = inr refl
 told_apart Edits Turns = inr refl
 told_apart Edits Settle = inr refl
@@ -127,6 +128,7 @@ told_apart Edits DayOf = inr refl
 told_apart Edits SheetOf = inr refl
 told_apart Edits Daily = inr refl
 told_apart Edits Measurement = inr refl
+told_apart Edits EditOf = inr refl
 told_apart Rating Edits = inr refl
 told_apart Rating Turns = inr refl
 told_apart Rating Settle = inr refl
@@ -136,6 +138,7 @@ told_apart Rating DayOf = inr refl
 told_apart Rating SheetOf = inr refl
 told_apart Rating Daily = inr refl
 told_apart Rating Measurement = inr refl
+told_apart Rating EditOf = inr refl
 told_apart Turns Edits = inr refl
 told_apart Turns Rating = inr refl
 told_apart Turns Settle = inr refl
@@ -145,6 +148,7 @@ told_apart Turns DayOf = inr refl
 told_apart Turns SheetOf = inr refl
 told_apart Turns Daily = inr refl
 told_apart Turns Measurement = inr refl
+told_apart Turns EditOf = inr refl
 told_apart Settle Edits = inr refl
 told_apart Settle Rating = inr refl
 told_apart Settle Turns = inr refl
@@ -154,6 +158,7 @@ told_apart Settle DayOf = inr refl
 told_apart Settle SheetOf = inr refl
 told_apart Settle Daily = inr refl
 told_apart Settle Measurement = inr refl
+told_apart Settle EditOf = inr refl
 told_apart Status Edits = inr refl
 told_apart Status Rating = inr refl
 told_apart Status Turns = inr refl
@@ -163,6 +168,7 @@ told_apart Status DayOf = inr refl
 told_apart Status SheetOf = inr refl
 told_apart Status Daily = inr refl
 told_apart Status Measurement = inr refl
+told_apart Status EditOf = inr refl
 told_apart Station Edits = inr refl
 told_apart Station Rating = inr refl
 told_apart Station Turns = inr refl
@@ -172,6 +178,7 @@ told_apart Station DayOf = inr refl
 told_apart Station SheetOf = inr refl
 told_apart Station Daily = inr refl
 told_apart Station Measurement = inr refl
+told_apart Station EditOf = inr refl
 told_apart DayOf Edits = inr refl
 told_apart DayOf Rating = inr refl
 told_apart DayOf Turns = inr refl
@@ -181,6 +188,7 @@ told_apart DayOf Station = inr refl
 told_apart DayOf SheetOf = inr refl
 told_apart DayOf Daily = inr refl
 told_apart DayOf Measurement = inr refl
+told_apart DayOf EditOf = inr refl
 told_apart SheetOf Edits = inr refl
 told_apart SheetOf Rating = inr refl
 told_apart SheetOf Turns = inr refl
@@ -190,6 +198,7 @@ told_apart SheetOf Station = inr refl
 told_apart SheetOf DayOf = inr refl
 told_apart SheetOf Daily = inr refl
 told_apart SheetOf Measurement = inr refl
+told_apart SheetOf EditOf = inr refl
 told_apart Daily Edits = inr refl
 told_apart Daily Rating = inr refl
 told_apart Daily Turns = inr refl
@@ -199,6 +208,7 @@ told_apart Daily Station = inr refl
 told_apart Daily DayOf = inr refl
 told_apart Daily SheetOf = inr refl
 told_apart Daily Measurement = inr refl
+told_apart Daily EditOf = inr refl
 told_apart Measurement Edits = inr refl
 told_apart Measurement Rating = inr refl
 told_apart Measurement Turns = inr refl
@@ -208,6 +218,17 @@ told_apart Measurement Station = inr refl
 told_apart Measurement DayOf = inr refl
 told_apart Measurement SheetOf = inr refl
 told_apart Measurement Daily = inr refl
+told_apart Measurement EditOf = inr refl
+told_apart EditOf Edits = inr refl
+told_apart EditOf Rating = inr refl
+told_apart EditOf Turns = inr refl
+told_apart EditOf Settle = inr refl
+told_apart EditOf Status = inr refl
+told_apart EditOf Station = inr refl
+told_apart EditOf DayOf = inr refl
+told_apart EditOf SheetOf = inr refl
+told_apart EditOf Daily = inr refl
+told_apart EditOf Measurement = inr refl
 
 pub are_apart : RoutesAreApart
 are_apart one other target h k =

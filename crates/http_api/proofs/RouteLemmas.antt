@@ -17,34 +17,35 @@ use Rattle.http_api.proofs.FittingLemmas.{AllSpelled, seek_spelled}
 use Rattle.http_api.specs.Routes.{spelling, target_at, target_by, target_of, with_route, route_rows, tokens_of, Fits, RowsAreThoseThatFit}
 use Rattle.http_api.specs.declared.routes.Route.{Route}
 use Rattle.http_api.specs.declared.routes.Target.TheVariants as named
-use Rattle.http_api.specs.declared.routes.Route.TheVariants.{Edits, Rating, Turns, Settle, Status, Station, DayOf, SheetOf, Daily, Measurement}
+use Rattle.http_api.specs.declared.routes.Route.TheVariants.{Edits, Rating, Turns, Settle, Status, Station, DayOf, SheetOf, Daily, Measurement, EditOf}
 
 -- ---- the rows of the routes
 
 rows_spelled : (target : List ℕ) → AllSpelled (λ (row : RouteOf Route). Fits row.value target) route_rows target
 unfolding route_rows with_route tokens_of scan
 rows_spelled target =
-    (refl, λ h. h, (refl, λ h. h, (refl, λ h. h, (refl, λ h. h, (refl, λ h. h, (refl, λ h. h, (refl, λ h. h, (refl, λ h. h, (refl, λ h. h, (refl, λ h. h, tt))))))))))
+    (refl, λ h. h, (refl, λ h. h, (refl, λ h. h, (refl, λ h. h, (refl, λ h. h, (refl, λ h. h, (refl, λ h. h, (refl, λ h. h, (refl, λ h. h, (refl, λ h. h, (refl, λ h. h, tt)))))))))))
 
 row_fits : (target : List ℕ) → IfSome (first route_rows target) (λ row. Fits row.value target)
 row_fits target = seek_spelled (λ (row : RouteOf Route). Fits row.value target) 0 route_rows target (rows_spelled target)
 
 rows_ended : AllEnded route_rows
 unfolding route_rows with_route scan
-rows_ended = (refl, (refl, (refl, (refl, (refl, (refl, (refl, (refl, (refl, (refl, tt))))))))))
+rows_ended = (refl, (refl, (refl, (refl, (refl, (refl, (refl, (refl, (refl, (refl, (refl, tt)))))))))))
 
 has_spelled : (route : Route) (target : List ℕ) → Fits route target → HasSpelled route_rows target
 unfolding route_rows with_route tokens_of scan
-has_spelled Edits target h = inl h
-has_spelled Rating target h = inr (inl h)
-has_spelled Settle target h = inr (inr (inl h))
-has_spelled Daily target h = inr (inr (inr (inl h)))
-has_spelled SheetOf target h = inr (inr (inr (inr (inl h))))
-has_spelled DayOf target h = inr (inr (inr (inr (inr (inl h)))))
-has_spelled Measurement target h = inr (inr (inr (inr (inr (inr (inl h))))))
-has_spelled Station target h = inr (inr (inr (inr (inr (inr (inr (inl h)))))))
-has_spelled Status target h = inr (inr (inr (inr (inr (inr (inr (inr (inl h))))))))
-has_spelled Turns target h = inr (inr (inr (inr (inr (inr (inr (inr (inr (inl h)))))))))
+has_spelled EditOf target h = inl h
+has_spelled Edits target h = inr (inl h)
+has_spelled Rating target h = inr (inr (inl h))
+has_spelled Settle target h = inr (inr (inr (inl h)))
+has_spelled Daily target h = inr (inr (inr (inr (inl h))))
+has_spelled SheetOf target h = inr (inr (inr (inr (inr (inl h)))))
+has_spelled DayOf target h = inr (inr (inr (inr (inr (inr (inl h))))))
+has_spelled Measurement target h = inr (inr (inr (inr (inr (inr (inr (inl h)))))))
+has_spelled Station target h = inr (inr (inr (inr (inr (inr (inr (inr (inl h))))))))
+has_spelled Status target h = inr (inr (inr (inr (inr (inr (inr (inr (inr (inl h)))))))))
+has_spelled Turns target h = inr (inr (inr (inr (inr (inr (inr (inr (inr (inr (inl h))))))))))
 
 row_there : (route : Route) (target : List ℕ) → Fits route target → IsSome (first route_rows target)
 row_there route target h = seek_found 0 route_rows target rows_ended (has_spelled route target h)
@@ -83,7 +84,7 @@ edits_named = edits_by (first route_rows (spelling Edits)) ((rows_fit (spelling 
 texts_plain : (path : List ℕ) → AllSpelled (λ (row : RouteOf Route). list_all is_ascii row.text ≡ true) route_rows path
 unfolding route_rows with_route scan
 texts_plain path =
-    (refl, λ _. refl, (refl, λ _. refl, (refl, λ _. refl, (refl, λ _. refl, (refl, λ _. refl, (refl, λ _. refl, (refl, λ _. refl, (refl, λ _. refl, (refl, λ _. refl, (refl, λ _. refl, tt))))))))))
+    (refl, λ _. refl, (refl, λ _. refl, (refl, λ _. refl, (refl, λ _. refl, (refl, λ _. refl, (refl, λ _. refl, (refl, λ _. refl, (refl, λ _. refl, (refl, λ _. refl, (refl, λ _. refl, (refl, λ _. refl, tt)))))))))))
 
 pub row_plain : (path : List ℕ) (row : RouteOf Route) → first route_rows path ≡ Some row → list_all is_ascii row.text ≡ true
 row_plain path row e =

@@ -1,5 +1,5 @@
 -- What a request asks, by its method, its target and its body.
-use Rattle.std.specs.Prelude.{◌≡◌, ℕ, ℤ, Bool, true, false, List, Option, Some, None, Result, Ok, Err, IsOk, IsSomeAnd, if◌then◌else◌}
+use Rattle.std.specs.Prelude.{◌≡◌, ℕ, ℤ, Bool, true, false, List, [], Option, Some, None, Result, Ok, Err, IsOk, IsSomeAnd, if◌then◌else◌}
 use Rattle.edit_bodies.specs.Bodies.{Parts, parts, edit_of}
 use Rattle.edit_bodies.specs.declared.faults.BodyFault.{BodyFault}
 use Rattle.edit_bodies.specs.declared.faults.BodyFault.TheVariants as faults
@@ -26,6 +26,7 @@ pub data Question : Type 0 where
   sheet_of : SiteNumber → ℤ → Question
   daily : SiteNumber → ℤ → ℤ → Question
   measurement : SiteNumber → ℕ → Question
+  accepted_edit : ℕ → Question
   turns : ℕ → Question
   settle : Question
   counts : Question
@@ -38,6 +39,7 @@ question (asks.DayOf site day) = day_of site day
 question (asks.SheetOf site day) = sheet_of site day
 question (asks.Daily site from to) = daily site from to
 question (asks.Measurement site number) = measurement site number
+question (asks.EditOf number) = accepted_edit number
 question (asks.Turns count) = turns count
 question asks.Settle = settle
 question asks.Counts = counts
@@ -53,9 +55,10 @@ asked_edit (Err faults.Json) = Err Json
 asked_edit (Err (faults.Body name)) = Err (Body name)
 asked_edit (Err faults.NoMemory) = Err NoMemory
 
--- the edit that adds the rating of an RDB text, or the fault of the text
+-- the edit that adds the rating of an RDB text, which has an empty comment, or the fault of the text
 abbrev pub asked_rating : SiteNumber → ℕ → List ℕ → List ℕ → Result (List Row) RdbFault → Result Question Denied
-asked_rating site rating by reference (Ok rows) = Ok (edit (record { by = by; reference = reference; site = site; what = AddRating rating rows }))
+asked_rating site rating by reference (Ok rows) =
+    Ok (edit (record { by = by; reference = reference; site = site; comment = []; what = AddRating rating rows }))
 asked_rating site rating by reference (Err fault) = Err (Rdb fault)
 
 -- what is asked by what the target names; the body counts of an edit alone
@@ -70,12 +73,14 @@ asked_by (targets.DayOf site day) body = Ok (day_of site day)
 asked_by (targets.SheetOf site day) body = Ok (sheet_of site day)
 asked_by (targets.Daily site from to) body = Ok (daily site from to)
 asked_by (targets.Measurement site number) body = Ok (measurement site number)
+asked_by (targets.EditOf number) body = Ok (accepted_edit number)
 
--- a rating in JSON and one in RDB of equal values ask the same
+-- a rating in JSON without a comment and one in RDB of equal values ask the same
 abbrev pub RatingsAreOneEdit : Type 0
 RatingsAreOneEdit =
     (site : SiteNumber) (rating : ℕ) (by reference json text : List ℕ) (rows : List Row)
-    → edit_of json ≡ Ok (record { by = by; reference = reference; site = site; what = AddRating rating rows }) → rdb_of text ≡ Ok rows
+    → edit_of json ≡ Ok (record { by = by; reference = reference; site = site; comment = []; what = AddRating rating rows })
+    → rdb_of text ≡ Ok rows
     → asked_by targets.Edits json ≡ asked_by (targets.Rating site rating by reference) text
 
 -- the method is the one that would do
@@ -110,6 +115,7 @@ WantsMemory (targets.DayOf site day) body = ⊥
 WantsMemory (targets.SheetOf site day) body = ⊥
 WantsMemory (targets.Daily site from to) body = ⊥
 WantsMemory (targets.Measurement site number) body = ⊥
+WantsMemory (targets.EditOf number) body = ⊥
 
 -- an RDB text that is denied so: by its fault, or for want of memory where it has none
 abbrev pub IsTextDenial : Result (List Row) RdbFault → Denied → Type 0

@@ -1,3 +1,4 @@
+pub mod AcceptedEdits
 pub mod Asks
 pub mod Columns
 pub mod Days

@@ -69,3 +69,7 @@ reference_in taken = option_and_then (kept_if is_reference) (named (codes "ref")
 -- which measurement
 abbrev pub measurement_in : Parameters → Option ℕ
 measurement_in taken = option_and_then measurement_of (named (codes "number") taken)
+
+-- which edit; a number that no edit has is one too
+abbrev pub edit_number_in : Parameters → Option ℕ
+edit_number_in taken = option_and_then number_of (named (codes "number") taken)

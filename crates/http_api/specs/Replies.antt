@@ -5,6 +5,7 @@ use Rattle.wire.specs.ReplyHead.{reply_bytes}
 use Rattle.wire.specs.declared.messages.Verb.{Verb}
 use Rattle.wire.specs.declared.replies.Kind.{Kind}
 use Rattle.wire.specs.declared.replies.Kind.TheVariants.{Csv, Json, Plain}
+use Rattle.http_api.specs.AcceptedEdits.{accepted_edit_text}
 use Rattle.http_api.specs.Days.{day_text}
 use Rattle.http_api.specs.Departures.{departure_text}
 use Rattle.http_api.specs.Failures.{FailureRow, failure_of, failure_text}
@@ -12,7 +13,7 @@ use Rattle.http_api.specs.JsonTexts.{bool_text}
 use Rattle.http_api.specs.Stations.{station_text}
 use Rattle.http_api.specs.Tables.{row_of, table_text}
 use Rattle.http_api.specs.declared.replies.Reply.{Reply}
-use Rattle.http_api.specs.declared.replies.Reply.TheVariants.{Edit, Turned, Counts, Station, Day, Daily, Sheet, SheetPending, Measurement, NoStation, NoMeasurement, Denied, Refused, NoLength, TooLarge, Malformed, NoMemory}
+use Rattle.http_api.specs.declared.replies.Reply.TheVariants.{Edit, Turned, Counts, Station, Day, Daily, Sheet, SheetPending, Measurement, EditOf, NoStation, NoMeasurement, NoEdit, Denied, Refused, NoLength, TooLarge, Malformed, NoMemory}
 
 -- an accepted edit
 abbrev pub edit_text : ℕ → Bool → List ℕ
@@ -43,8 +44,10 @@ answer_text (Daily days) = table_text (map row_of days.now)
 answer_text (Sheet text) = text.now
 answer_text (SheetPending edit) = pending_line edit
 answer_text (Measurement departure) = departure_text departure
+answer_text (EditOf edit) = accepted_edit_text edit.now
 answer_text NoStation = []
 answer_text NoMeasurement = []
+answer_text NoEdit = []
 answer_text (Denied denied) = []
 answer_text (Refused refusal) = []
 answer_text NoLength = []
@@ -87,8 +90,10 @@ kind_of (Counts edits pending) = Json
 kind_of (Station station) = Json
 kind_of (Day day) = Json
 kind_of (Measurement departure) = Json
+kind_of (EditOf edit) = Json
 kind_of NoStation = Json
 kind_of NoMeasurement = Json
+kind_of NoEdit = Json
 kind_of (Denied denied) = Json
 kind_of (Refused refusal) = Json
 kind_of NoLength = Json

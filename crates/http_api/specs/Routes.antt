@@ -11,7 +11,7 @@ use Rattle.matchit.specs.Seek.{first, has_slash}
 use Rattle.matchit.specs.declared.error.InsertError.{InsertError}
 use Rattle.edits.specs.Lawful.{IsRatingNumber}
 use Rattle.fixed_units.specs.Quantities.{SiteNumber}
-use Rattle.http_api.specs.Parameters.{Parameters, by_in, count_in, day_in, from_in, is_table_span, measurement_in, rating_in, reference_in, site_in, to_in}
+use Rattle.http_api.specs.Parameters.{Parameters, by_in, count_in, day_in, edit_number_in, from_in, is_table_span, measurement_in, rating_in, reference_in, site_in, to_in}
 use Rattle.wire.specs.declared.messages.Verb.{Verb}
 use Rattle.wire.specs.declared.messages.Verb.TheVariants.{Get, Post}
 use Rattle.http_api.specs.declared.routes.Route.{Route}
@@ -31,12 +31,13 @@ spelling routes.DayOf = codes "/stations/{site}/days/{day}"
 spelling routes.SheetOf = codes "/stations/{site}/days/{day}/sheet"
 spelling routes.Daily = codes "/stations/{site}/daily/{from}/{to}"
 spelling routes.Measurement = codes "/stations/{site}/measurements/{number}"
+spelling routes.EditOf = codes "/edits/{number}"
 
 -- the routes that there are
 abbrev pub all_routes : List Route
 all_routes =
     routes.Edits ∷ routes.Rating ∷ routes.Turns ∷ routes.Settle ∷ routes.Status ∷ routes.Station ∷ routes.DayOf ∷ routes.SheetOf ∷ routes.Daily
-    ∷ routes.Measurement ∷ []
+    ∷ routes.Measurement ∷ routes.EditOf ∷ []
 
 -- the rows of `matchit` with that of a route, where the spelling reads as one
 abbrev pub placed_by : Result Scan InsertError → Route → RowsOf (RouteOf Route) → RowsOf (RouteOf Route)
@@ -115,6 +116,7 @@ target_by routes.SheetOf taken = option_and_then (λ site. option_map (targets.S
 target_by routes.Daily taken = daily_target (site_in taken) (from_in taken) (to_in taken)
 target_by routes.Measurement taken =
     option_and_then (λ site. option_map (targets.Measurement site) (measurement_in taken)) (site_in taken)
+target_by routes.EditOf taken = option_map targets.EditOf (edit_number_in taken)
 
 -- the method of the requests for it
 abbrev pub verb_of : Target → Verb
@@ -128,6 +130,7 @@ verb_of (targets.DayOf site day) = Get
 verb_of (targets.SheetOf site day) = Get
 verb_of (targets.Daily site from to) = Get
 verb_of (targets.Measurement site number) = Get
+verb_of (targets.EditOf number) = Get
 
 -- the number of a rating is one, wherever a target names it
 abbrev pub NamesRating : Target → Type 0
@@ -141,6 +144,7 @@ NamesRating (targets.DayOf site day) = Unit {0}
 NamesRating (targets.SheetOf site day) = Unit {0}
 NamesRating (targets.Daily site from to) = Unit {0}
 NamesRating (targets.Measurement site number) = Unit {0}
+NamesRating (targets.EditOf number) = Unit {0}
 
 -- what a target names by its row, whose parameters take their parts of it
 abbrev pub target_at : Option (RouteOf Route) → List ℕ → Option Target

@@ -31,6 +31,8 @@ pub enum Ask {
     Daily(Site, Day, Day),
     /// What the field measurement of a number at a station says of the rating in force.
     Measurement(Site, u32),
+    /// The accepted edit of a number.
+    EditOf(u64),
     /// To publish so many days, 1 to 1,000, as far as days are pending.
     Turns(u32),
     /// To publish every day that is pending.
@@ -138,6 +140,7 @@ fn ask_by(alloc: Global, target: Target, body: &[u8], scratch: &mut Scratch) -> 
         Target::SheetOf(site, day) => Ok(Ask::SheetOf(site, day)),
         Target::Daily(site, from, to) => Ok(Ask::Daily(site, from, to)),
         Target::Measurement(site, number) => Ok(Ask::Measurement(site, number)),
+        Target::EditOf(number) => Ok(Ask::EditOf(number)),
     }
 }
 
@@ -159,8 +162,8 @@ pub fn questions_tell_asks()
     ensures { AreTold }
 {}
 
-/// A rating whose body is JSON and one whose body is RDB are one edit, where all their values are equal: a law, which does
-/// nothing.
+/// A rating whose body is JSON without a comment and one whose body is RDB are one edit, where all their values are equal: a
+/// law, which does nothing.
 pub fn ratings_are_one_edit()
     ensures { RatingsAreOneEdit }
 {}

@@ -79,6 +79,7 @@ pub(crate) fn failure_of(reply: &Reply<'_>) -> Option<Failure>
     match reply {
         Reply::NoStation => Some(told(404, "NoStation", Detail::Nothing)),
         Reply::NoMeasurement => Some(told(404, "NoMeasurement", Detail::Nothing)),
+        Reply::NoEdit => Some(told(404, "NoEdit", Detail::Nothing)),
         Reply::Denied(denied) => Some(denial(*denied)),
         Reply::Refused(refusal) => Some(refusal_failure(*refusal)),
         Reply::NoLength => Some(told(411, "NoLength", Detail::Nothing)),
@@ -93,7 +94,8 @@ pub(crate) fn failure_of(reply: &Reply<'_>) -> Option<Failure>
         | Reply::Daily(_)
         | Reply::Sheet(_)
         | Reply::SheetPending(_)
-        | Reply::Measurement(_) => None,
+        | Reply::Measurement(_)
+        | Reply::EditOf(_) => None,
     }
 }
 
@@ -145,6 +147,7 @@ fn refusal_failure(refusal: Refusal) -> Failure
         Refusal::AlreadyApproved(day) => told(409, "AlreadyApproved", Detail::Day(day)),
         Refusal::Locked(day) => told(423, "Locked", Detail::Day(day)),
         Refusal::HistoryFull(full) => told(409, "HistoryFull", Detail::Full(full)),
+        Refusal::NoComments => told(409, "NoComments", Detail::Nothing),
         Refusal::JournalFull => told(409, "JournalFull", Detail::Nothing),
         Refusal::NoMemory => told(507, "NoMemory", Detail::Nothing),
         Refusal::JournalFault(in_doubt) => { told(503, "JournalFault", Detail::InDoubt(in_doubt)) }

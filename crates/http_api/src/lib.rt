@@ -1,6 +1,7 @@
 //! Requests as asks of the office, and its answers as the bytes of replies.
 #![tactic(auto)]
 
+mod accepted_edits;
 pub mod asks;
 mod days;
 mod departures;

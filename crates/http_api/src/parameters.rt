@@ -8,7 +8,7 @@ ghost use Rattle.matchit.specs.Params.{walk, named, AllText};
 ghost use Rattle.edit_bodies.specs.Grammars.{kept_if, kept_within};
 ghost use Rattle.edit_bodies.specs.Texts.{are_initials, is_reference};
 ghost use Rattle.edits.specs.Lawful.{IsRatingNumber};
-ghost use Rattle.http_api.specs.Parameters.{by_in, count_in, count_of, day_in, from_in, is_number, is_table_span, measurement_in, measurement_of, number_of, rating_in, rating_of, reference_in, site_in, to_in, turns_of};
+ghost use Rattle.http_api.specs.Parameters.{by_in, count_in, count_of, day_in, edit_number_in, from_in, is_number, is_table_span, measurement_in, measurement_of, number_of, rating_in, rating_of, reference_in, site_in, to_in, turns_of};
 
 use civil_days::read_day;
 use edit_bodies::rating_number_from;
@@ -95,6 +95,14 @@ pub(crate) fn measurement_in(params: &Params<'_, '_>) -> Option<u32>
     ensures { result ≡ measurement_in (walk params.now.pattern.now params.now.text.now params.now.path.now params.now.names.now 0 0) }
 {
     measurement_of(part(params, "number")?)
+}
+
+/// The number of an edit among the parameters.
+pub(crate) fn edit_number_in(params: &Params<'_, '_>) -> Option<u64>
+    requires { AllText (walk params.now.pattern.now params.now.text.now params.now.path.now params.now.names.now 0 0) }
+    ensures { result ≡ edit_number_in (walk params.now.pattern.now params.now.text.now params.now.path.now params.now.names.now 0 0) }
+{
+    number_of(part(params, "number")?)
 }
 
 /// The part of a target that the parameter of a name took.

@@ -13,7 +13,7 @@ use fixed_units::{NoMemory, Site};
 use ratings::{RdbFault, SharedTable, read_rdb};
 use std::alloc::Global;
 
-/// The edit that adds the rating of a body to a station under a number.
+/// The edit that adds the rating of a body to a station under a number, with an empty comment.
 pub(crate) fn rating_edit(
     alloc: Global,
     site: Site,
@@ -27,12 +27,8 @@ pub(crate) fn rating_edit(
     ensures denied { IfErr result (IsDenialBy (targets.Rating site rating by reference) body.now) }
 {
     let table = table_in(alloc, body)?;
-    Ok(Ask::Edit(Edit {
-        by,
-        reference,
-        site,
-        what: What::AddRating { rating, table },
-    }))
+    let what = What::AddRating { rating, table };
+    Ok(Ask::Edit(Edit::of(by, reference, site, what)))
 }
 
 /// The table that an RDB text states.

@@ -4,6 +4,7 @@ ghost use Rattle.std.specs.Prelude.{◌≡◌, ◌++◌, true, take, length, dec
 ghost use Rattle.wire.specs.ReplyHead.{is_reply_status, is_allowance};
 ghost use Rattle.http_api.specs.Replies.{answer_text, body_of, status_of, allow_of, kind_of, bytes_of, edit_text, turned_text, counts_text, pending_line};
 
+use crate::accepted_edits::write_accepted_edit;
 use crate::asks::Denied;
 use crate::days::{DayReply, write_day_reply};
 use crate::departures::write_departure;
@@ -11,6 +12,7 @@ use crate::failures::failure_of;
 use crate::json_texts::write_flag;
 use crate::stations::write_station;
 use crate::tables::write_table;
+use edits::Edit;
 use fixed_units::{NoMemory, Text};
 use measurements::Departure;
 use office_inputs::{Refusal, Station};
@@ -53,10 +55,14 @@ pub enum Reply<'a> {
     SheetPending(u64),
     /// What a field measurement says of the rating in force.
     Measurement(Departure),
+    /// An accepted edit that is asked for.
+    EditOf(&'a Edit),
     /// The station that is asked for is not kept.
     NoStation,
     /// The station that is asked for has no measurement of that number.
     NoMeasurement,
+    /// No edit of the number that is asked for was accepted.
+    NoEdit,
     /// The request asks nothing.
     Denied(Denied),
     /// The edit is refused.
@@ -161,6 +167,7 @@ fn write_answer(alloc: Global, reply: &Reply<'_>, out: &mut Text) -> Result<(), 
         Reply::Sheet(text) => out.push_slice(text),
         Reply::SheetPending(edit) => write_pending(edit, out),
         Reply::Measurement(ref departure) => write_departure(departure, out),
+        Reply::EditOf(edit) => write_accepted_edit(edit, out),
         _ => Ok(()),
     }
 }

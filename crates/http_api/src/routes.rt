@@ -7,8 +7,8 @@ ghost use Rattle.matchit.specs.Params.{walk, AllText};
 ghost use Rattle.http_api.specs.Routes.{spelling, verb_of, with_route, route_rows, target_by, target_of, NamesRating, RoutesAreApart, RowsAreThoseThatFit};
 
 use crate::parameters::{
-    by_in, count_in, day_in, from_in, is_table_span, measurement_in, rating_in, reference_in,
-    site_in, to_in,
+    by_in, count_in, day_in, edit_number_in, from_in, is_table_span, measurement_in, rating_in,
+    reference_in, site_in, to_in,
 };
 use edits::{By, Ref};
 use fixed_units::{Day, NoMemory, Site};
@@ -40,6 +40,8 @@ pub(crate) enum Route {
     Daily,
     /// A field measurement of a station.
     Measurement,
+    /// An accepted edit.
+    EditOf,
 }
 
 /// What a target names.
@@ -65,10 +67,12 @@ pub(crate) enum Target {
     Daily(Site, Day, Day),
     /// The field measurement of a station of this number, from 1.
     Measurement(Site, u32),
+    /// The accepted edit of this number.
+    EditOf(u64),
 }
 
 /// All routes.
-const ROUTES: [Route; 10] = [
+const ROUTES: [Route; 11] = [
     Route::Edits,
     Route::Rating,
     Route::Turns,
@@ -79,6 +83,7 @@ const ROUTES: [Route; 10] = [
     Route::SheetOf,
     Route::Daily,
     Route::Measurement,
+    Route::EditOf,
 ];
 
 impl Route {
@@ -97,6 +102,7 @@ impl Route {
             Route::SheetOf => "/stations/{site}/days/{day}/sheet",
             Route::Daily => "/stations/{site}/daily/{from}/{to}",
             Route::Measurement => "/stations/{site}/measurements/{number}",
+            Route::EditOf => "/edits/{number}",
         }
     }
 }
@@ -113,7 +119,8 @@ impl Target {
             | Target::DayOf(_, _)
             | Target::SheetOf(_, _)
             | Target::Daily(_, _, _)
-            | Target::Measurement(_, _) => Verb::Get,
+            | Target::Measurement(_, _)
+            | Target::EditOf(_) => Verb::Get,
         }
     }
 }
@@ -227,6 +234,7 @@ fn target_by(route: Route, params: &Params<'_, '_>) -> Option<Target>
             let number = measurement_in(params)?;
             Some(Target::Measurement(site, number))
         }
+        Route::EditOf => Some(Target::EditOf(edit_number_in(params)?)),
     }
 }
 

@@ -1,5 +1,5 @@
 -- A field visit, and the edit that puts its measurement.
-use Rattle.std.specs.Prelude.{◌≡◌, ℤ}
+use Rattle.std.specs.Prelude.{◌≡◌, [], ℤ}
 use Rattle.edits.specs.Lawful.{IsMeasurementNumber}
 use Rattle.edits.specs.declared.content.Edit.{Edit}
 use Rattle.edits.specs.declared.content.What.TheVariants.{PutMeasurement}
@@ -18,9 +18,10 @@ abbrev pub measurement_of : Visit → ℤ → Measurement
 measurement_of v discharge =
     record { number = v.number; at = v.at; gage = v.gage; discharge = discharge; grade = v.grade }
 
--- the edit that puts it
+-- the edit that puts it, without a comment
 pub record IsEditOf (v : Visit) (discharge : ℤ) (edit : Edit) : Type 0 where
   pub by_is : edit.by ≡ v.by
   pub reference_is : edit.reference ≡ v.reference
   pub site_is : edit.site ≡ v.site
+  pub comment_is : edit.comment ≡ []
   pub what_is : edit.what ≡ PutMeasurement (measurement_of v discharge)

@@ -20,12 +20,19 @@ use Rattle.reading_loading.specs.Puts.{AreFirstPuts, ArePuts, IsPut, Order, put_
 -- an edit that puts lawful readings, which nobody has made
 unmade : (order : Order) (number : ℕ) (readings : List Reading) → IsLawful (PutReadings readings) → Edit
 unmade order number readings lawful =
-    record { by = order.by; reference = reference_of order.prefix number; site = order.site; what = PutReadings readings; lawful = lawful }
+    record {
+      by = order.by;
+      reference = reference_of order.prefix number;
+      site = order.site;
+      comment = [];
+      what = PutReadings readings;
+      lawful = lawful;
+    }
 
 pub some_put : (order : Order) (number : ℕ) (readings : List Reading) → IsLawful (PutReadings readings) → (edit : Edit) × IsPut order number readings edit
 unfolding unmade
 some_put order number readings lawful =
-    (unmade order number readings lawful, record { by = refl; reference = refl; site = refl; what = refl })
+    (unmade order number readings lawful, record { by = refl; reference = refl; site = refl; comment = refl; what = refl })
 
 module _ (order : Order) (readings : List Reading) where
   pub no_puts : AreFirstPuts order readings []
@@ -64,7 +71,7 @@ module _ (order : Order) (readings : List Reading) where
       let one = first.each place (get_or a place d) (slice_get-get_or a place d within) in
       let other = second.each place (get_or b place d) (slice_get-get_or b place d there) in
       same_edit (get_or a place d) (get_or b place d) (one.by ∙ sym other.by) (one.reference ∙ sym other.reference) (one.site ∙ sym other.site)
-      (one.what ∙ sym other.what)
+      (one.comment ∙ sym other.comment) (one.what ∙ sym other.what)
 
   pub same_puts : (a b : List Edit) → ArePuts order readings a → ArePuts order readings b → a ≡ b
   same_puts [] [] first second = refl

@@ -26,11 +26,12 @@ pub record IsPrefix (text : List ℕ) : Type 0 where
 abbrev pub reference_of : List ℕ → ℕ → List ℕ
 reference_of prefix number = prefix ++ codes "-" ++ decimal number
 
--- the edit puts these readings at the site, by the person, under the reference of this number
+-- the edit puts these readings at the site, by the person, under the reference of this number, without a comment
 pub record IsPut (order : Order) (number : ℕ) (readings : List Reading) (edit : Edit) : Type 0 where
   pub by : edit.by ≡ order.by
   pub reference : edit.reference ≡ reference_of order.prefix number
   pub site : edit.site ≡ order.site
+  pub comment : edit.comment ≡ []
   pub what : edit.what ≡ PutReadings readings
 
 -- the readings that an edit puts

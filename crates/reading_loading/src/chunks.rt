@@ -43,12 +43,12 @@ fn put_of(order: &ReadingOrder<'_>, number: u64, readings: ReadingList) -> Edit
     requires lawful { ArePutReadings readings }
     ensures { IsPut order.now number readings result }
 {
-    Edit {
-        by: order.by(),
-        reference: order.reference(number),
-        site: order.site(),
-        what: What::PutReadings { readings },
-    }
+    Edit::of(
+        order.by(),
+        order.reference(number),
+        order.site(),
+        What::PutReadings { readings },
+    )
 }
 
 /// The chunk of the readings in that place.

@@ -1,6 +1,7 @@
 -- An office behind a lock may go to another thread.
 use base.Shift.{Keyless}
 use denote.Param.Send.{IsSend, sendable}
+use denote.Param.SendFields.{declared_send}
 use denote.RattleType.{RattleType}
 use mathlib.Core.List.{List}
 use mir.Val.{Val}
@@ -21,7 +22,7 @@ journal_sent : (D : RattleType) (g : Ghosts D.Denot) → IsSend D → IsSend (jo
 journal_sent D g d = search sendable depth 60
 
 office_sent : IsSend register.the_row → (D : RattleType) (g : Ghosts D.Denot) → IsSend D → IsSend (office.the_row D g)
-office_sent r D g d = let j = journal_sent D g d in let o = doubt_sent in search sendable depth 60
+office_sent r D g d = let j = journal_sent D g d in let o = doubt_sent in search (declared_send, sendable) depth 60
 
 pub shared_sent : IsSend register.the_row → (D : RattleType) (g : Ghosts D.Denot) → IsSend D → IsSend (shared.the_row D g)
 shared_sent r D g d = let o = office_sent r D g d in search sendable depth 60

@@ -75,6 +75,7 @@ answered_adds fixed (asks.DayOf site day) reply xs a = at_once_adds fixed (asks.
 answered_adds fixed (asks.SheetOf site day) reply xs a = at_once_adds fixed (asks.SheetOf site day) reply xs a
 answered_adds fixed (asks.Daily site from to) reply xs a = at_once_adds fixed (asks.Daily site from to) reply xs a
 answered_adds fixed (asks.Measurement site number) reply xs a = at_once_adds fixed (asks.Measurement site number) reply xs a
+answered_adds fixed (asks.EditOf number) reply xs a = at_once_adds fixed (asks.EditOf number) reply xs a
 answered_adds fixed asks.Counts reply xs a = at_once_adds fixed asks.Counts reply xs a
 
 asked_adds : (fixed : Fixed) (coming : List (Holding (List Entry))) (asked : Result Question Denied) (reply : List ℕ) (rest : List (Holding (List Entry)))

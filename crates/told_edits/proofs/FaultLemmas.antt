@@ -8,7 +8,7 @@ use Rattle.office.specs.Counting.{fault_count}
 use Rattle.office.specs.Edits.{Edits, IsRefusedBy, IsTaken}
 use Rattle.office.specs.declared.offices.Accepted.{Accepted}
 use Rattle.office_inputs.specs.declared.refusals.Refusal.{Refusal}
-use Rattle.office_inputs.specs.declared.refusals.Refusal.TheVariants.{RefReused, NoStation, StationExists, Limit, NoRating, RatingExists, PeriodOverlap, NoEntry, NotInReview, SamePerson, Awaits, NotApproved, AlreadyApproved, Locked, HistoryFull, JournalFull, NoMemory, JournalFault}
+use Rattle.office_inputs.specs.declared.refusals.Refusal.TheVariants.{RefReused, NoStation, StationExists, Limit, NoRating, RatingExists, PeriodOverlap, NoEntry, NotInReview, SamePerson, Awaits, NotApproved, AlreadyApproved, Locked, HistoryFull, NoComments, JournalFull, NoMemory, JournalFault}
 use Rattle.told_edits.specs.Lines.{AreSent, IsSent, accepted_line, refused_line, told_line, tells_fault_line}
 
 -- a line tells as many faults as have happened
@@ -46,6 +46,7 @@ told_refused h edit next end (NotApproved day) is = plain h next (refused_line e
 told_refused h edit next end (AlreadyApproved day) is = plain h next (refused_line end (AlreadyApproved day)) refl (as_before h next is.1)
 told_refused h edit next end (Locked day) is = plain h next (refused_line end (Locked day)) refl (as_before h next is.1)
 told_refused h edit next end (HistoryFull full) is = plain h next (refused_line end (HistoryFull full)) refl (as_before h next is.1)
+told_refused h edit next end NoComments is = plain h next (refused_line end NoComments) refl (as_before h next is.1)
 told_refused h edit next end JournalFull is = plain h next (refused_line end JournalFull) refl (as_before h next is.1)
 told_refused h edit next end NoMemory is = plain h next (refused_line end NoMemory) refl (as_before h next is)
 told_refused h edit next end (JournalFault in_doubt) is =

@@ -7,7 +7,7 @@ use Rattle.history.specs.After.{reopen}
 pub returns : goal.returns
 returns c = λ old new steps image pieces none legal calls over left journal.
     let s = stop_inside old steps new image pieces none legal calls over left journal in (
-      at_history old (reopen old.history.limits pieces),
+      at_history old (reopen old.history.limits old.history.format pieces),
       s.at.before,
       s.at.behind,
       s.at.found,

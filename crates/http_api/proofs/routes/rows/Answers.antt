@@ -9,7 +9,7 @@ use Rattle.http_api.specs.Routes.{with_route, all_routes, route_rows}
 use Rattle.http_api.specs.declared.routes.Route.{Route}
 use Rattle.http_api.proofs.routes.rows.Goals as goal
 
-one_more : (i : ℕ) (other : Route) (rows next : RowsOf (RouteOf Route)) → rows ≡ fold with_route [] (take i all_routes) → i < 10
+one_more : (i : ℕ) (other : Route) (rows next : RowsOf (RouteOf Route)) → rows ≡ fold with_route [] (take i all_routes) → i < 11
     → next ≡ with_route rows (get_or all_routes i other) → next ≡ fold with_route [] (take (i + 1) all_routes)
 one_more i other rows next before within added =
     added ∙ ap (λ (some : RowsOf (RouteOf Route)). with_route some (get_or all_routes i other)) before

@@ -10,7 +10,7 @@ use Rattle.fixed_units.specs.PublishedText.{micro_text}
 use Rattle.site_texts.specs.SiteText.{site_text}
 use Rattle.command_words.proofs.DayLemmas.{day_written, stamp_written}
 use Rattle.command_words.proofs.ValueLemmas.{day_read, site_again, site_read, stage_small, stamp_read}
-use Rattle.command_words.specs.Words.{Asked, Batch, Given, Journal, Numeric, Station, Column, Sender, Reference, Dated, At, Gage, Graded, grade_word, IsInRange, IsNumber, IsOption, IsValueOf, AreOptions, command_word, defaults_of, option_word, options_of}
+use Rattle.command_words.specs.Words.{Asked, Batch, Given, Journal, Numeric, Station, Column, Sender, Reference, From, To, At, Gage, Graded, grade_word, IsInRange, IsNumber, IsOption, IsValueOf, AreOptions, command_word, defaults_of, option_word, options_of}
 use Rattle.command_words.specs.Laws.{CanBeGiven, EachIsAsked, NothingElseIsAsked}
 use Rattle.command_words.specs.declared.numbers.NumericOption.{NumericOption}
 use Rattle.command_words.specs.declared.numbers.NumericOption.TheVariants.{Number, Port, Workers, Connections, Turns, Year}
@@ -29,7 +29,8 @@ what_says (Station site) value h = site_read value site h
 what_says (Column name) value h = λ e. h.1 (sym h.0 ∙ e)
 what_says (Sender letters) value h = subst AreInitials (sym h.0) h.1
 what_says (Reference text) value h = subst IsReference (sym h.0) h.1
-what_says (Dated option day) value h = day_read value day h
+what_says (From text) value h = λ e. h.1 (sym h.0 ∙ e)
+what_says (To day) value h = day_read value day h
 what_says (At instant) value h = stamp_read value instant h
 what_says (Gage stage) value h = h.1
 what_says (Graded grade) value h = tt
@@ -78,7 +79,8 @@ one_said (Station site) is = (site_text site, site_again site is)
 one_said (Column name) some = (name, (refl, some))
 one_said (Sender letters) are = (letters, (refl, are))
 one_said (Reference text) is = (text, (refl, is))
-one_said (Dated option day) is = day_written day is
+one_said (From text) some = (text, (refl, some))
+one_said (To day) is = day_written day is
 one_said (At instant) is = stamp_written instant is
 one_said (Gage stage) is =
     let few : unsigned_abs stage ≤ 10 ^ 13 = stage_small stage is.low is.high in

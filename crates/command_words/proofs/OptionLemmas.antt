@@ -13,9 +13,7 @@ use Rattle.command_words.specs.Reading.{NoneStandsFirst, given_by}
 use Rattle.command_words.specs.declared.options.CommandOption.{CommandOption}
 use Rattle.edits.specs.declared.measurements.Grade.{Grade}
 use Rattle.edits.specs.declared.measurements.Grade.TheVariants.{Excellent, Good, Fair, Poor}
-use Rattle.command_words.specs.Words.{Given, Journal, Numeric, Station, Column, Sender, Reference, Dated, At, Gage, Graded, day_word, grade_word, option_word, numeric_word, IsNumber, IsValueOf, IsOption, AreOptions}
-use Rattle.command_words.specs.declared.days.DayOption.{DayOption}
-use Rattle.command_words.specs.declared.days.DayOption.TheVariants.{From, To}
+use Rattle.command_words.specs.Words.{Given, Journal, Numeric, Station, Column, Sender, Reference, From, To, At, Gage, Graded, grade_word, option_word, numeric_word, IsNumber, IsValueOf, IsOption, AreOptions}
 use Rattle.command_words.specs.declared.numbers.NumericOption.{NumericOption}
 use Rattle.command_words.specs.declared.numbers.NumericOption.TheVariants.{Number, Port, Workers, Connections, Turns, Year}
 
@@ -28,13 +26,8 @@ numeric_cut Connections = refl
 numeric_cut Turns = refl
 numeric_cut Year = refl
 
-day_cut : (option : DayOption) → position_or_len (λ b. b == 61) (day_word option) ≡ length (day_word option)
-day_cut From = refl
-day_cut To = refl
-
 cut_word : (option : Given) → position_or_len (λ b. b == 61) (option_word option) ≡ length (option_word option)
 cut_word (Numeric option number) = numeric_cut option
-cut_word (Dated option day) = day_cut option
 cut_word option = refl
 
 -- so the first one behind an option's word is that of a joined option
@@ -64,7 +57,8 @@ kind (Station site) = 2
 kind (Column name) = 3
 kind (Sender letters) = 4
 kind (Reference text) = 5
-kind (Dated option day) = 6
+kind (From text) = 6
+kind (To day) = 10
 kind (At instant) = 7
 kind (Gage stage) = 8
 kind (Graded grade) = 9
@@ -78,7 +72,7 @@ kind_by third fifth =
     else (if third == 102 then 6
     else (if third == 97 then 7
     else (if third == 99 then (if fifth == 110 then 1 else 3)
-    else (if third == 116 then (if fifth == 114 then 1 else 6)
+    else (if third == 116 then (if fifth == 114 then 1 else 10)
     else (if third == 103 then (if fifth == 103 then 8 else 9)
     else 1))))))))
 
@@ -93,19 +87,14 @@ numeric_kind Connections = refl
 numeric_kind Turns = refl
 numeric_kind Year = refl
 
-day_kind : (option : DayOption) → kind_at (day_word option) ≡ 6
-day_kind From = refl
-day_kind To = refl
-
 kind_told : (option : Given) → kind_at (option_word option) ≡ kind option
 kind_told (Numeric option number) = numeric_kind option
-kind_told (Dated option day) = day_kind option
 kind_told option = refl
 
 pub same_kind : (a b : Given) → option_word a ≡ option_word b → kind a ≡ kind b
 same_kind a b w = sym (kind_told a) ∙ ap kind_at w ∙ kind_told b
 
--- the third letters of their words tell options with numbers apart, and those with days
+-- the third letters of their words tell options with numbers apart
 third : {a b : List ℕ} → a ≡ b → get_or a 2 0 ≡ get_or b 2 0
 third e = ap (λ (t : List ℕ). get_or t 2 0) e
 
@@ -117,11 +106,6 @@ same_numeric Connections Connections w = refl
 same_numeric Turns Turns w = refl
 same_numeric Year Year w = refl
 same_numeric a b w = absurd (omega (arith, third w))
-
-pub same_day : (a b : DayOption) → day_word a ≡ day_word b → a ≡ b
-same_day From From w = refl
-same_day To To w = refl
-same_day a b w = absurd (omega (arith, third w))
 
 -- the first letters tell grades apart
 first : {a b : List ℕ} → a ≡ b → get_or a 0 0 ≡ get_or b 0 0
@@ -147,10 +131,10 @@ same_option (Station a) (Station b) value w h k =
 same_option (Column a) (Column b) value w h k = ap Column (h.0 ∙ sym k.0)
 same_option (Sender a) (Sender b) value w h k = ap Sender (h.0 ∙ sym k.0)
 same_option (Reference a) (Reference b) value w h k = ap Reference (h.0 ∙ sym k.0)
-same_option (Dated a n) (Dated b m) value w h k =
-    let option = same_day a b w in
-    let day : n ≡ m = cc in
-    cc
+same_option (From a) (From b) value w h k = ap From (h.0 ∙ sym k.0)
+same_option (To a) (To b) value w h k =
+    let same : a ≡ b = cc in
+    ap To same
 same_option (At a) (At b) value w h k =
     let same : a ≡ b = cc in
     ap At same

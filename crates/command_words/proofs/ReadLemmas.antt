@@ -3,7 +3,7 @@ use Rattle.std.proofs.Common.{◌≡◌, ◌≢◌, ℕ, ◌≤◌, Bool, true, 
 use Rattle.std.proofs.lemmas.Bool.Decides.{nat_tests}
 use Rattle.std.proofs.lemmas.List.{length-append, length-map, map-append}
 use Rattle.std.proofs.lemmas.List.Sorted.{length_permutation}
-use Rattle.command_words.specs.Words.{Asked, Init, Batch, Serve, Stations, Trial, Import, Daily, Water, Notes, Given, AreOptions, StandsFirst, options_of}
+use Rattle.command_words.specs.Words.{Asked, Init, Batch, Serve, Stations, Trial, Import, Daily, Water, Notes, Migrate, Given, AreOptions, StandsFirst, options_of}
 use Rattle.command_words.specs.Reading.{AreNoCommands, NoneStandsFirst, given_by}
 use Rattle.command_words.specs.declared.options.CommandOption.{CommandOption}
 use Rattle.command_words.proofs.OptionLemmas.{one_option, no_empty_option}
@@ -64,6 +64,7 @@ few (Import order) = omega arith
 few (Daily order) = omega arith
 few (Water order) = omega arith
 few (Notes order) = omega arith
+few (Migrate from to) = omega arith
 
 -- so where one more follows eight, the words are no command's
 pub one_more : (words : List (List ℕ)) (read : List Given) (rest : List (List ℕ)) (option : Given) (behind : List (List ℕ))

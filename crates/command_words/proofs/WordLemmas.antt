@@ -6,10 +6,10 @@ use Rattle.std.proofs.lemmas.List.{append-nil, length-append}
 use Rattle.std.proofs.lemmas.List.Elements.{All-nil, All-cons, All-append, All-from_recursion, All-head, All-tail, All-contains_itself}
 use Rattle.std.proofs.lemmas.List.Sorted.{IsPermutation-append_left, IsPermutation-sym, IsPermutation-trans, All-permutation, Contains-permutation, length_permutation, sum_by-IsPermutation}
 use Rattle.std.proofs.lemmas.List.Sums.{get_or-le-sum_by, sum_by-append, sum_by-cons}
-use Rattle.command_words.specs.Words.{Asked, Init, Batch, Serve, Stations, Trial, Import, Daily, Water, Notes, ImportAsked, DailyAsked, WaterAsked, NotesAsked, Given, Journal, Numeric, Station, Column, Sender, Reference, Dated, At, Gage, Graded, AreOptions, AreOptionsOf, IsAsked, IsTableSpan, command_word, defaults_of, option_word, options_of}
+use Rattle.command_words.specs.Words.{Asked, Init, Batch, Serve, Stations, Trial, Import, Daily, Water, Notes, Migrate, ImportAsked, DailyAsked, WaterAsked, NotesAsked, Given, Journal, Numeric, Station, Column, Sender, Reference, From, To, At, Gage, Graded, AreOptions, AreOptionsOf, IsAsked, IsTableSpan, Takes, command_word, defaults_of, option_word, options_of}
 use Rattle.command_words.specs.Laws.{CanBeAsked, OneIsAsked}
 use Rattle.command_words.specs.Reading.{AreNoCommands, IsReadOf, is_worded}
-use Rattle.command_words.specs.declared.days.DayOption.TheVariants.{From, To}
+use Rattle.civil_days.specs.Spelling.{day_of_text}
 use Rattle.command_words.specs.declared.numbers.NumericOption.TheVariants.{Number, Port, Workers, Year}
 use Rattle.command_words.specs.Commands.{asked_by}
 use Rattle.command_words.specs.declared.reading.Command.{Command}
@@ -83,6 +83,7 @@ apart (Import order) = (refl, (refl, (refl, (refl, (refl, tt)))))
 apart (Daily order) = (refl, (refl, (refl, (refl, (refl, tt)))))
 apart (Water order) = (refl, (refl, (refl, (refl, tt))))
 apart (Notes order) = (refl, (refl, (refl, (refl, (refl, (refl, (refl, (refl, tt))))))))
+apart (Migrate from to) = (refl, (refl, tt))
 
 -- what is asked by the same options has the same ones
 alike : (a b : Asked) (options : List Given) → defaults_of a ≡ [] → defaults_of b ≡ [] → map option_word (options_of a) ≡ map option_word (options_of b)
@@ -137,6 +138,10 @@ pub no_notes : (options : List Given) → ((order : NotesAsked) → CanBeAsked (
 no_notes options none (Notes order) can is its = none order can its
 no_notes options none asked can is its = absurd (omega (arith, letters is))
 
+pub no_migrate : (options : List Given) → ((from to : List ℕ) → CanBeAsked (Migrate from to) → ¬ (AreOptionsOf (Migrate from to) options)) → NoneOf (codes "migrate") options
+no_migrate options none (Migrate from to) can is its = none from to can its
+no_migrate options none asked can is its = absurd (omega (arith, letters is))
+
 -- an option lacks that a command needs
 pub init_lacks : (options : List Given) (word : List ℕ) → count_by (is_worded word) options ≡ 0
     → ((name : List ℕ) → (count_by (is_worded word) (defaults_of (Init name)) ≡ 0) × (count_by (is_worded word) (options_of (Init name)) ≡ 1)) → NoneOf (codes "init") options
@@ -174,6 +179,10 @@ pub notes_lacks : (options : List Given) (word : List ℕ) → count_by (is_word
     → ((order : NotesAsked) → (count_by (is_worded word) (defaults_of (Notes order)) ≡ 0) × (count_by (is_worded word) (options_of (Notes order)) ≡ 1)) → NoneOf (codes "notes") options
 notes_lacks options word none needed = no_notes options (λ order can. lacking word (Notes order) options none (needed order).0 (needed order).1)
 
+pub migrate_lacks : (options : List Given) (word : List ℕ) → count_by (is_worded word) options ≡ 0
+    → ((from to : List ℕ) → (count_by (is_worded word) (defaults_of (Migrate from to)) ≡ 0) × (count_by (is_worded word) (options_of (Migrate from to)) ≡ 1)) → NoneOf (codes "migrate") options
+migrate_lacks options word none needed = no_migrate options (λ from to can. lacking word (Migrate from to) options none (needed from to).0 (needed from to).1)
+
 -- there are not as many as the command has
 pub init_not_so_many : (options : List Given) → length options ≢ 1 → NoneOf (codes "init") options
 init_not_so_many options other = no_init options (λ name can its. other (as_many (Init name) options refl its))
@@ -198,6 +207,9 @@ water_not_so_many options other = no_water options (λ order can its. other (as_
 
 pub notes_not_so_many : (options : List Given) → length options ≢ 8 → NoneOf (codes "notes") options
 notes_not_so_many options other = no_notes options (λ order can its. other (as_many (Notes order) options refl its))
+
+pub migrate_not_so_many : (options : List Given) → length options ≢ 2 → NoneOf (codes "migrate") options
+migrate_not_so_many options other = no_migrate options (λ from to can its. other (as_many (Migrate from to) options refl its))
 
 -- what is given under a word is what is asked under it
 said_so : (asked : Asked) (options : List Given) → defaults_of asked ≡ [] → AreOptionsOf asked options → (one other : Given)
@@ -226,14 +238,32 @@ reference_too_long options read there long = no_import options (λ order can its
     let text : read ≡ order.reference = cc in
     omega (arith, ap (length {A = ℕ}) text, long, can.1))
 
-pub no_table_span : (options : List Given) (first last : ℤ) → Contains options (Dated From first) → Contains options (Dated To last)
-    → ¬ (IsTableSpan first last) → NoneOf (codes "daily") options
-no_table_span options first last here there none = no_daily options (λ order can its.
-    let one = said_so (Daily order) options refl its (Dated From first) (Dated From order.first) here (2, omega arith, refl) refl in
-    let other = said_so (Daily order) options refl its (Dated To last) (Dated To order.last) there (3, omega arith, refl) refl in
+pub no_day : (options : List Given) (from : List ℕ) → Contains options (From from) → ((day : ℤ) → ¬ (day_of_text from ≡ Some day))
+    → NoneOf (codes "daily") options
+no_day options from here none = no_daily options (λ order can its.
+    let one = said_so (Daily order) options refl its (From from) (From order.from) here (2, omega arith, refl) refl in
+    let text : order.from ≡ from = cc in
+    none order.first (subst (λ (t : List ℕ). day_of_text t ≡ Some order.first) text can.1.0))
+
+pub no_table_span : (options : List Given) (from : List ℕ) (first last : ℤ) → Contains options (From from) → Contains options (To last)
+    → day_of_text from ≡ Some first → ¬ (IsTableSpan first last) → NoneOf (codes "daily") options
+no_table_span options from first last here there is none = no_daily options (λ order can its.
+    let one = said_so (Daily order) options refl its (From from) (From order.from) here (2, omega arith, refl) refl in
+    let other = said_so (Daily order) options refl its (To last) (To order.last) there (3, omega arith, refl) refl in
+    let text : order.from ≡ from = cc in
+    let read = can.1.0 in
     let begins : order.first ≡ first = cc in
     let ends : order.last ≡ last = cc in
-    none (subst (λ (d : ℤ). IsTableSpan d last) begins (subst (IsTableSpan order.first) ends can.1)))
+    none (subst (λ (d : ℤ). IsTableSpan d last) begins (subst (IsTableSpan order.first) ends can.1.1)))
+
+pub names_alike : (options : List Given) (name : List ℕ) → Contains options (From name) → Contains options (Journal name)
+    → NoneOf (codes "migrate") options
+names_alike options name here there = no_migrate options (λ from to can its.
+    let one = said_so (Migrate from to) options refl its (From name) (From from) here (0, omega arith, refl) refl in
+    let other = said_so (Migrate from to) options refl its (Journal name) (Journal to) there (1, omega arith, refl) refl in
+    let first : name ≡ from = cc in
+    let second : name ≡ to = cc in
+    can.1 (sym first ∙ second))
 
 pub number_of_none : (options : List Given) (read : ℕ) → Contains options (Numeric Number read) → read ≡ 0 → NoneOf (codes "notes") options
 number_of_none options read there zero = no_notes options (λ order can its.
@@ -333,8 +363,8 @@ import_in order (Journal journal ∷ Station site ∷ Column column ∷ Sender b
 import_in order options = order
 
 daily_in : DailyAsked → List Given → DailyAsked
-daily_in order (Journal journal ∷ Station site ∷ Dated one first ∷ Dated other last ∷ Numeric option turns ∷ []) =
-    record { journal = journal; site = site; first = first; last = last; turns = turns }
+daily_in order (Journal journal ∷ Station site ∷ From from ∷ To last ∷ Numeric option turns ∷ []) =
+    record { journal = journal; site = site; from = from; first = order.first; last = last; turns = turns }
 daily_in order options = order
 
 water_in : WaterAsked → List Given → WaterAsked
@@ -348,36 +378,46 @@ notes_in order (Journal journal ∷ Station site ∷ Numeric option number ∷ A
 notes_in order options = order
 
 -- a command's word and its options tell what is asked
-same_asked : (a b : Asked) (options : List Given) → command_word a ≡ command_word b → AreOptionsOf a options → AreOptionsOf b options → a ≡ b
+same_asked : (a b : Asked) (options : List Given) → command_word a ≡ command_word b → Takes a → Takes b → AreOptionsOf a options → AreOptionsOf b options
+    → a ≡ b
 unfolding import_in daily_in water_in notes_in
-same_asked (Init x) (Init y) options w h k =
+same_asked (Init x) (Init y) options w _ _ h k =
     let same = alike (Init x) (Init y) options refl refl refl h k in
     cc
-same_asked (Batch x n) (Batch y m) options w h k =
+same_asked (Batch x n) (Batch y m) options w _ _ h k =
     let name : x ≡ y = one_name (Batch x n) (Batch y m) options (Numeric Workers m ∷ []) x y
     (all_named (options_of (Batch x n)) x (refl, (tt, tt))) (all_named (defaults_of (Batch y m)) x (tt, tt)) refl h k in
     let workers : n ≡ m = omega (arith, one_number (Batch x n) (Batch y m) options refl refl h k) in
     cc
-same_asked (Serve x p n c) (Serve y q m d) options w h k =
+same_asked (Serve x p n c) (Serve y q m d) options w _ _ h k =
     let same = alike (Serve x p n c) (Serve y q m d) options refl refl refl h k in
     cc
-same_asked (Stations x) (Stations y) options w h k =
+same_asked (Stations x) (Stations y) options w _ _ h k =
     let same = alike (Stations x) (Stations y) options refl refl refl h k in
     cc
-same_asked (Trial n) (Trial m) options w h k =
+same_asked (Trial n) (Trial m) options w _ _ h k =
     let same = alike (Trial n) (Trial m) options refl refl refl h k in
     cc
-same_asked (Import x) (Import y) options w h k = ap (λ (l : List Given). Import (import_in x l)) (alike (Import x) (Import y) options refl refl refl h k)
-same_asked (Daily x) (Daily y) options w h k = ap (λ (l : List Given). Daily (daily_in x l)) (alike (Daily x) (Daily y) options refl refl refl h k)
-same_asked (Water x) (Water y) options w h k = ap (λ (l : List Given). Water (water_in x l)) (alike (Water x) (Water y) options refl refl refl h k)
-same_asked (Notes x) (Notes y) options w h k = ap (λ (l : List Given). Notes (notes_in x l)) (alike (Notes x) (Notes y) options refl refl refl h k)
-same_asked a b options w h k = absurd (omega (arith, letters w))
+same_asked (Import x) (Import y) options w _ _ h k = ap (λ (l : List Given). Import (import_in x l)) (alike (Import x) (Import y) options refl refl refl h k)
+same_asked (Daily x) (Daily y) options w p q h k =
+    let same = alike (Daily x) (Daily y) options refl refl refl h k in
+    let from : x.from ≡ y.from = ap (λ (l : List Given). (daily_in x l).from) same in
+    let here = p.0 in
+    let there = q.0 in
+    let first : x.first ≡ y.first = cc in
+    ap (λ (l : List Given). Daily (daily_in x l)) same ∙ ap (λ (d : ℤ). Daily (record y { first = d })) first
+same_asked (Water x) (Water y) options w _ _ h k = ap (λ (l : List Given). Water (water_in x l)) (alike (Water x) (Water y) options refl refl refl h k)
+same_asked (Notes x) (Notes y) options w _ _ h k = ap (λ (l : List Given). Notes (notes_in x l)) (alike (Notes x) (Notes y) options refl refl refl h k)
+same_asked (Migrate x u) (Migrate y v) options w p q h k =
+    let same = alike (Migrate x u) (Migrate y v) options refl refl refl h k in
+    cc
+same_asked a b options w p q h k = absurd (omega (arith, letters w))
 
 pub one_is_asked : OneIsAsked
 one_is_asked [] a b h k = absurd h
 one_is_asked (word ∷ words) a b h k =
     let options : h.2 ≡ k.2 = same_options h.2 k.2 words h.4 k.4 in
-    same_asked a b h.2 (sym h.0 ∙ k.0) h.3 (subst (AreOptionsOf b) (sym options) k.3)
+    same_asked a b h.2 (sym h.0 ∙ k.0) h.1 k.1 h.3 (subst (AreOptionsOf b) (sym options) k.3)
 
 -- what a word and the options behind it ask
 pub words_ask : (read : Option Command) (words behind : List (List ℕ)) (word : List ℕ) (options : List Given) → words ≡ word ∷ behind

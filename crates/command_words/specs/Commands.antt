@@ -1,5 +1,5 @@
 -- What a command asks.
-use Rattle.command_words.specs.Words.{Asked, Init, Batch, Serve, Stations, Trial, Import, Daily, Water, Notes, ImportAsked, DailyAsked, WaterAsked, NotesAsked}
+use Rattle.command_words.specs.Words.{Asked, Init, Batch, Serve, Stations, Trial, Import, Daily, Water, Notes, Migrate, ImportAsked, DailyAsked, WaterAsked, NotesAsked}
 use Rattle.command_words.specs.declared.orders.ImportOrder.{ImportOrder}
 use Rattle.command_words.specs.declared.orders.DailyOrder.{DailyOrder}
 use Rattle.command_words.specs.declared.orders.WaterOrder.{WaterOrder}
@@ -20,7 +20,14 @@ import_asked order =
 
 abbrev pub daily_asked : DailyOrder → DailyAsked
 daily_asked order =
-    record { journal = order.journal.now; site = order.site; first = order.first; last = order.last; turns = order.turns }
+    record {
+      journal = order.journal.now;
+      site = order.site;
+      from = order.from.now;
+      first = order.first;
+      last = order.last;
+      turns = order.turns;
+    }
 
 abbrev pub water_asked : WaterOrder → WaterAsked
 water_asked order = record { journal = order.journal.now; site = order.site; year = order.year; turns = order.turns }
@@ -48,3 +55,4 @@ asked_by (commands.Import order) = Import (import_asked order)
 asked_by (commands.Daily order) = Daily (daily_asked order)
 asked_by (commands.Water order) = Water (water_asked order)
 asked_by (commands.Notes order) = Notes (notes_asked order)
+asked_by (commands.Migrate from journal) = Migrate from.now journal.now

@@ -2,13 +2,13 @@
 use Rattle.std.specs.Prelude.{◌≡◌, ◌≢◌, List, [], ℕ, All, ⊤}
 use Rattle.edits.specs.Texts.{AreInitials, IsReference}
 use Rattle.fixed_units.specs.Quantities.{IsDay, IsSite, IsStage, IsStamp}
-use Rattle.command_words.specs.Words.{Asked, Given, Journal, Numeric, Station, Column, Sender, Reference, Dated, At, Gage, Graded, IsAsked, IsInRange, Takes, options_of}
+use Rattle.command_words.specs.Words.{Asked, Given, Journal, Numeric, Station, Column, Sender, Reference, From, To, At, Gage, Graded, IsAsked, IsInRange, Takes, options_of}
 
 -- words ask one thing at most
 abbrev pub OneIsAsked : Type 0
 OneIsAsked = (words : List (List ℕ)) (one other : Asked) → IsAsked words one → IsAsked words other → one ≡ other
 
--- what an option can say: any name but the empty one, any number that it takes, any site, initials and reference, any day
+-- what an option can say: any name or text but the empty one, any number that it takes, any site, initials and reference, any day
 -- of the calendar, any stamp, stage and grade
 abbrev pub CanBeGiven : Given → Type 0
 CanBeGiven (Journal name) = name ≢ []
@@ -17,7 +17,8 @@ CanBeGiven (Station site) = IsSite site
 CanBeGiven (Column name) = name ≢ []
 CanBeGiven (Sender letters) = AreInitials letters
 CanBeGiven (Reference text) = IsReference text
-CanBeGiven (Dated option day) = IsDay day
+CanBeGiven (From text) = text ≢ []
+CanBeGiven (To day) = IsDay day
 CanBeGiven (At instant) = IsStamp instant
 CanBeGiven (Gage stage) = IsStage stage
 CanBeGiven (Graded grade) = ⊤

@@ -1,7 +1,7 @@
 -- Options as they are read and found.
 use Rattle.std.specs.Prelude.{◌≡◌, ℕ, List, Bool, bytes_eq, Option, map, MatchOption, Contains}
 use Rattle.std.specs.List.{count_by}
-use Rattle.command_words.specs.Words.{Asked, Given, Journal, Numeric, Station, Column, Sender, Reference, Dated, At, Gage, Graded, AreOptions, AreOptionsOf, IsValueOf, StandsFirst, Takes, command_word, option_word}
+use Rattle.command_words.specs.Words.{Asked, Given, Journal, Numeric, Station, Column, Sender, Reference, From, To, At, Gage, Graded, AreOptions, AreOptionsOf, IsValueOf, StandsFirst, Takes, command_word, option_word}
 use Rattle.command_words.specs.Laws.{CanBeAsked}
 use Rattle.command_words.specs.Commands.{asked_by}
 use Rattle.command_words.specs.declared.reading.Command.{Command}
@@ -17,7 +17,8 @@ given_by (options.Station site) = Station site
 given_by (options.Column name) = Column name.now
 given_by (options.Sender letters) = Sender letters.now
 given_by (options.Reference text) = Reference text.now
-given_by (options.Dated option day) = Dated option day
+given_by (options.From text) = From text.now
+given_by (options.To day) = To day
 given_by (options.At instant) = At instant
 given_by (options.Gage stage) = Gage stage
 given_by (options.Graded grade) = Graded grade

@@ -8,8 +8,6 @@ use Rattle.edits.specs.declared.measurements.Grade.TheVariants.{Excellent, Good,
 use Rattle.fixed_units.specs.Decimals.{decimal_of}
 use Rattle.fixed_units.specs.Quantities.{SiteNumber, IsStage}
 use Rattle.site_texts.specs.SiteText.{site_of_text}
-use Rattle.command_words.specs.declared.days.DayOption.{DayOption}
-use Rattle.command_words.specs.declared.days.DayOption.TheVariants.{From, To}
 use Rattle.command_words.specs.declared.numbers.NumericOption.{NumericOption}
 use Rattle.command_words.specs.declared.numbers.NumericOption.TheVariants.{Number, Port, Workers, Connections, Turns, Year}
 
@@ -21,10 +19,11 @@ pub record ImportAsked : Type 0 where
   pub by : List ℕ
   pub reference : List ℕ
 
--- `daily`: the journal's name, the site, the first and the last day, and how many turns are made before
+-- `daily`: the journal's name, the site, the first day as it is spelled, the first and the last day, and how many turns are made before
 pub record DailyAsked : Type 0 where
   pub journal : List ℕ
   pub site : SiteNumber
+  pub from : List ℕ
   pub first : ℤ
   pub last : ℤ
   pub turns : ℕ
@@ -49,7 +48,8 @@ pub record NotesAsked : Type 0 where
 
 -- what is asked: a journal is made, the requests of an input are served over it, or those of connections, or the
 -- stations of a document are added to it, each with the journal's name; or a trial, with its number; or unit values are
--- put, a daily table or a water year is written, or a measurement is put by its notes
+-- put, a daily table or a water year is written, or a measurement is put by its notes; or the journal of one name is copied
+-- to that of another
 pub data Asked : Type 0 where
   Init : List ℕ → Asked
   Batch : List ℕ → ℕ → Asked
@@ -60,8 +60,9 @@ pub data Asked : Type 0 where
   Daily : DailyAsked → Asked
   Water : WaterAsked → Asked
   Notes : NotesAsked → Asked
+  Migrate : List ℕ → List ℕ → Asked
 
--- an option, with what its value says
+-- an option, with what its value says: behind `--from` stands a day for `daily`, and a journal's name for `migrate`
 pub data Given : Type 0 where
   Journal : List ℕ → Given
   Numeric : NumericOption → ℕ → Given
@@ -69,7 +70,8 @@ pub data Given : Type 0 where
   Column : List ℕ → Given
   Sender : List ℕ → Given
   Reference : List ℕ → Given
-  Dated : DayOption → ℤ → Given
+  From : List ℕ → Given
+  To : ℤ → Given
   At : ℤ → Given
   Gage : ℤ → Given
   Graded : Grade → Given
@@ -85,6 +87,7 @@ command_word (Import order) = codes "import"
 command_word (Daily order) = codes "daily"
 command_word (Water order) = codes "water"
 command_word (Notes order) = codes "notes"
+command_word (Migrate from to) = codes "migrate"
 
 -- the options of a command
 abbrev pub options_of : Asked → List Given
@@ -97,12 +100,13 @@ options_of (Trial number) = Numeric Number number ∷ []
 options_of (Import order) =
     Journal order.journal ∷ Station order.site ∷ Column order.column ∷ Sender order.by ∷ Reference order.reference ∷ []
 options_of (Daily order) =
-    Journal order.journal ∷ Station order.site ∷ Dated From order.first ∷ Dated To order.last ∷ Numeric Turns order.turns ∷ []
+    Journal order.journal ∷ Station order.site ∷ From order.from ∷ To order.last ∷ Numeric Turns order.turns ∷ []
 options_of (Water order) =
     Journal order.journal ∷ Station order.site ∷ Numeric Year order.year ∷ Numeric Turns order.turns ∷ []
 options_of (Notes order) =
     Journal order.journal ∷ Station order.site ∷ Numeric Number order.number ∷ At order.at ∷ Gage order.gage
     ∷ Graded order.grade ∷ Sender order.by ∷ Reference order.reference ∷ []
+options_of (Migrate from to) = From from ∷ Journal to ∷ []
 
 -- those of them that it does not need, each as it is where it is left out
 abbrev pub defaults_of : Asked → List Given
@@ -114,11 +118,12 @@ abbrev pub IsTableSpan : ℤ → ℤ → Type 0
 IsTableSpan first last = (first ≤ℤ last) × (last <ℤ (first +ℤ pos 366))
 
 -- what a command takes of what its options may say: `import` a reference of at most 30 bytes, to which a number is added,
--- `daily` a span of days that a table has, `notes` a number from 1
+-- `daily` the text of its first day, and a span of days that a table has, `notes` a number from 1, `migrate` two names
 abbrev pub Takes : Asked → Type 0
 Takes (Import order) = length order.reference ≤ 30
-Takes (Daily order) = IsTableSpan order.first order.last
+Takes (Daily order) = (day_of_text order.from ≡ Some order.first) × IsTableSpan order.first order.last
 Takes (Notes order) = 1 ≤ order.number
+Takes (Migrate from to) = from ≢ to
 Takes asked = ⊤
 
 -- the word of an option with a number
@@ -151,11 +156,6 @@ greatest_of Year = 2099
 abbrev pub IsInRange : NumericOption → ℕ → Type 0
 IsInRange option number = (least_of option ≤ number) × (number ≤ greatest_of option)
 
--- the word of an option with a day
-abbrev pub day_word : DayOption → List ℕ
-day_word From = codes "--from"
-day_word To = codes "--to"
-
 -- the word of a grade
 abbrev pub grade_word : Grade → List ℕ
 grade_word Excellent = codes "excellent"
@@ -171,7 +171,8 @@ option_word (Station site) = codes "--site"
 option_word (Column name) = codes "--column"
 option_word (Sender letters) = codes "--by"
 option_word (Reference text) = codes "--ref"
-option_word (Dated option day) = day_word option
+option_word (From text) = codes "--from"
+option_word (To day) = codes "--to"
 option_word (At instant) = codes "--at"
 option_word (Gage stage) = codes "--gage"
 option_word (Graded grade) = codes "--grade"
@@ -193,7 +194,8 @@ IsValueOf (Station site) value = site_of_text value ≡ Some site
 IsValueOf (Column name) value = (name ≡ value) × (value ≢ [])
 IsValueOf (Sender letters) value = (letters ≡ value) × AreInitials value
 IsValueOf (Reference text) value = (text ≡ value) × IsReference value
-IsValueOf (Dated option day) value = day_of_text value ≡ Some day
+IsValueOf (From text) value = (text ≡ value) × (value ≢ [])
+IsValueOf (To day) value = day_of_text value ≡ Some day
 IsValueOf (At instant) value = stamp_of_text value ≡ Some instant
 IsValueOf (Gage stage) value = (decimal_of value ≡ Ok stage) × IsStage stage
 IsValueOf (Graded grade) value = value ≡ grade_word grade

@@ -2,7 +2,6 @@
 //! the words that pass once more behind it.
 #![tactic(auto)]
 
-mod days;
 pub mod laws;
 mod numbers;
 mod options;

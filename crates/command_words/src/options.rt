@@ -3,10 +3,9 @@
 ghost use Rattle.std.specs.Prelude.{◌≡◌, ◌≢◌, ◌<◌, ℕ, List, [], ◌∷◌, ◌++◌, codes, length, map, string_bytes, Contains, MatchOption, IfSome};
 ghost use Rattle.std.specs.List.{count_by};
 ghost use Rattle.edits.specs.declared.measurements.Grade.{Grade};
-ghost use Rattle.command_words.specs.Words.{Given, Journal, Numeric, Station, Column, Sender, Reference, Dated, At, Gage, Graded, AreOptions, IsOption, StandsFirst, day_word, grade_word, numeric_word, option_word};
+ghost use Rattle.command_words.specs.Words.{Given, Journal, Numeric, Station, Column, Sender, Reference, From, To, At, Gage, Graded, AreOptions, IsOption, StandsFirst, grade_word, numeric_word, option_word};
 ghost use Rattle.command_words.specs.Reading.{AreNoCommands, IsFound, IsOptionOf, NoneStandsFirst, given_by, given_in, is_worded};
 
-use crate::days::DayOption;
 use crate::numbers::NumericOption;
 use arrayvec::ArrayVec;
 use civil_days::{read_day, read_instant};
@@ -32,8 +31,10 @@ pub(crate) enum CommandOption<'a> {
     Sender(&'a str),
     /// A reference.
     Reference(&'a str),
-    /// A day.
-    Dated(DayOption, Day),
+    /// What stands behind `--from`, which is not empty: a day, or a journal's name.
+    From(&'a str),
+    /// The last day.
+    To(Day),
     /// A stamp.
     At(Second),
     /// A gage height.
@@ -54,7 +55,8 @@ impl CommandOption<'_> {
             CommandOption::Column(_) => "--column",
             CommandOption::Sender(_) => "--by",
             CommandOption::Reference(_) => "--ref",
-            CommandOption::Dated(option, _) => option.word(),
+            CommandOption::From(_) => "--from",
+            CommandOption::To(_) => "--to",
             CommandOption::At(_) => "--at",
             CommandOption::Gage(_) => "--gage",
             CommandOption::Graded(_) => "--grade",
@@ -156,12 +158,22 @@ impl<'a> Options<'a> {
         }
     }
 
-    /// The day of this option.
-    pub(crate) fn day(&self, option: DayOption) -> Option<Day>
-        ensures { IsFound (day_word option) (Dated option) (given_in self.now) result }
+    /// What stands behind `--from`.
+    pub(crate) fn from(&self) -> Option<&'a str>
+        ensures { IsFound (codes "--from") (λ text. From text.now) (given_in self.now) result }
     {
-        match self.find(option.word()) {
-            Some(CommandOption::Dated(_, day)) => Some(*day),
+        match self.find("--from") {
+            Some(CommandOption::From(text)) => Some(*text),
+            _ => None,
+        }
+    }
+
+    /// The last day.
+    pub(crate) fn to(&self) -> Option<Day>
+        ensures { IsFound (codes "--to") To (given_in self.now) result }
+    {
+        match self.find("--to") {
+            Some(CommandOption::To(day)) => Some(*day),
             _ => None,
         }
     }
@@ -262,15 +274,14 @@ fn option_of<'a>(word: &str, value: &'a str) -> Option<CommandOption<'a>>
     if let Some(option) = NumericOption::named(word) {
         return numeric_option(option, value);
     }
-    if let Some(option) = DayOption::named(word) {
-        return dated_option(option, value);
-    }
     match word {
         "--journal" => journal_option(value),
         "--site" => station_option(value),
         "--column" => column_option(value),
         "--by" => sender_option(value),
         "--ref" => reference_option(value),
+        "--from" => from_option(value),
+        "--to" => to_option(value),
         "--at" => at_option(value),
         "--gage" => gage_option(value),
         "--grade" => graded_option(value),
@@ -285,11 +296,20 @@ fn numeric_option(option: NumericOption, value: &str) -> Option<CommandOption<'_
     Some(CommandOption::Numeric(option, number))
 }
 
-fn dated_option(option: DayOption, value: &str) -> Option<CommandOption<'_>>
-    ensures { IsOptionOf (day_word option) value.now result }
+fn from_option(value: &str) -> Option<CommandOption<'_>>
+    ensures { IsOptionOf (codes "--from") value.now result }
+{
+    if value.is_empty() {
+        return None;
+    }
+    Some(CommandOption::From(value))
+}
+
+fn to_option(value: &str) -> Option<CommandOption<'_>>
+    ensures { IsOptionOf (codes "--to") value.now result }
 {
     let day = read_day(value.as_bytes())?;
-    Some(CommandOption::Dated(option, day))
+    Some(CommandOption::To(day))
 }
 
 fn journal_option(value: &str) -> Option<CommandOption<'_>>

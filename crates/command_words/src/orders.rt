@@ -25,6 +25,8 @@ pub struct DailyOrder<'a> {
     pub journal: &'a str,
     /// The site.
     pub site: Site,
+    /// The first day, as it is spelled.
+    pub from: &'a str,
     /// The first day.
     pub first: Day,
     /// The last day: not before the first, and at most 365 days behind it.

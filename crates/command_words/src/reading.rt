@@ -5,11 +5,11 @@ ghost use Rattle.command_words.specs.Words.{Asked, IsAsked, IsTableSpan};
 ghost use Rattle.command_words.specs.Commands.{asked_by};
 ghost use Rattle.command_words.specs.Reading.{IsReadOf, given_in};
 
-use crate::days::DayOption;
 use crate::numbers::NumericOption;
 use crate::options::{Options, read_options};
 use crate::orders::{DailyOrder, ImportOrder, NotesOrder, WaterOrder};
 use crate::second_reading::is_read_alike;
+use civil_days::read_day;
 use fixed_units::Day;
 use std::alloc::Global;
 use thiserror::Error;
@@ -49,6 +49,13 @@ pub enum Command<'a> {
     Water(WaterOrder<'a>),
     /// To put a measurement in a journal, by its notes.
     Notes(NotesOrder<'a>),
+    /// To copy a journal into one of the second format.
+    Migrate {
+        /// The name of the journal that is copied.
+        from: &'a str,
+        /// The name of the other one, which is not the same.
+        journal: &'a str,
+    },
 }
 
 /// Why no command is read.
@@ -108,6 +115,7 @@ fn command_of<'a>(word: &str, options: &Options<'a>) -> Option<Command<'a>>
         "daily" => daily(options),
         "water" => water(options),
         "notes" => notes(options),
+        "migrate" => migrate(options),
         _ => None,
     }
 }
@@ -210,18 +218,22 @@ fn daily<'a>(options: &Options<'a>) -> Option<Command<'a>>
 {
     let journal = options.journal()?;
     let site = options.site()?;
-    let first = options.day(DayOption::From)?;
-    let last = options.day(DayOption::To)?;
+    let from = options.from()?;
+    let last = options.to()?;
     let turns = options.number(NumericOption::Turns)?;
     if options.count() != 5 {
         return None;
     }
+    let Some(first) = read_day(from.as_bytes()) else {
+        return None;
+    };
     if !is_table_span(first, last) {
         return None;
     }
     Some(Command::Daily(DailyOrder {
         journal,
         site,
+        from,
         first,
         last,
         turns,
@@ -284,4 +296,18 @@ fn notes<'a>(options: &Options<'a>) -> Option<Command<'a>>
         by,
         reference,
     }))
+}
+
+fn migrate<'a>(options: &Options<'a>) -> Option<Command<'a>>
+    ensures { IsReadOf (codes "migrate") (given_in options.now) result }
+{
+    let from = options.from()?;
+    let journal = options.journal()?;
+    if options.count() != 2 {
+        return None;
+    }
+    if from == journal {
+        return None;
+    }
+    Some(Command::Migrate { from, journal })
 }

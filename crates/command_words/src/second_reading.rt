@@ -42,6 +42,10 @@ fn command_read<'a>(matches: &ArgMatches<'a>) -> Option<Command<'a>> {
         "daily" => daily_read(options),
         "water" => water_read(options),
         "notes" => notes_read(options),
+        "migrate" => Some(Command::Migrate {
+            from: options.get_str("from")?,
+            journal: options.get_str("journal")?,
+        }),
         _ => None,
     }
 }
@@ -69,6 +73,7 @@ fn daily_read<'a>(options: &ArgMatches<'a>) -> Option<Command<'a>> {
     Some(Command::Daily(DailyOrder {
         journal: options.get_str("journal")?,
         site: site_read(options)?,
+        from: options.get_str("from")?,
         first: read_day(options.get_str("from")?.as_bytes())?,
         last: read_day(options.get_str("to")?.as_bytes())?,
         turns: options.get_one::<u32>("turns")?,
@@ -126,7 +131,8 @@ fn program<'a>(alloc: Global) -> Result<clap::Command<'a>, AllocError> {
             &[
                 "journal", "site", "number", "at", "gage", "grade", "by", "ref",
             ],
-        )?)
+        )?)?
+        .subcommand(needing(alloc, "migrate", &["from", "journal"])?)
 }
 
 /// A command that needs these options.

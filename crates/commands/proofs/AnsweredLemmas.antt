@@ -67,7 +67,7 @@ doors_failed (Err opening.NoMemory) is = absurd (cc is)
 module _ {S K E C L P D : Type 0} (g : Ghosts D) (tell : World S K E C L P → Told D) where
   -- what came of a run, from some records to some history
   abbrev IsOver : (History → History → Type 0) → Type 0
-  IsOver Worked = (pieces : List Record) × (last : History) × Worked (reopen usual pieces) last
+  IsOver Worked = (pieces : List Record) × (last : History) × Worked (reopen usual last.format pieces) last
 
   -- no fault joined the history
   no_fault : (name : List ℕ) (GoesOn : List Record → History → D → D → Type 0) (Worked : History → History → Type 0) (before after : Shelf D)
@@ -80,15 +80,15 @@ module _ {S K E C L P D : Type 0} (g : Ghosts D) (tell : World S K E C L P → T
   all_answered name zero before after well w =
       let none = no_fault name (Carries g) (ServedBetween before.input after.input before.output after.output sessions.End)
       before.cabinet after.cabinet well w in
-      let told = all_opened usual w.pieces w.worked.messages w.worked.replies w.last w.worked.answers in
+      let told = all_opened usual w.last.format w.pieces w.worked.messages w.worked.replies w.last w.worked.answers in
       (w.pieces, w.last, (w.worked, sym told ∙ none))
   all_answered name (suc n) before after well w =
       let came = ends_told before.input before.output in
       let went = ends_told after.input after.output in
       let none = no_fault name (LeadsTo g) (ServedBesideWorkers g (suc n) came went sessions.End) before.cabinet after.cabinet well w in
       ⊎_elim
-      (λ (b : WorksBeside g (suc n) came went sessions.End (reopen usual w.pieces) w.last).
-      let few = batch_fails g (suc n) came went sessions.End (reopen usual w.pieces) w.last b in
+      (λ (b : WorksBeside g (suc n) came went sessions.End (reopen usual w.last.format w.pieces) w.last).
+      let few = batch_fails g (suc n) came went sessions.End (reopen usual w.last.format w.pieces) w.last b in
       (w.pieces, w.last, (b, omega (arith, few, none))))
       (λ unbegun. absurd (cc (unbegun.0)))
       w.worked.worked
@@ -116,8 +116,8 @@ module _ {S K E C L P D : Type 0} (g : Ghosts D) (tell : World S K E C L P → T
   all_served name workers connections end before after well w =
       let none = no_fault name (LeadsTo g) (ServesBetween g workers connections before.doors after.doors end) before.cabinet after.cabinet well w in
       ⊎_elim
-      (λ (s : AreServedBeside g workers after.doors.told (reopen usual w.pieces) w.last).
-      let few = serve_fails g workers after.doors.told (reopen usual w.pieces) w.last s in
+      (λ (s : AreServedBeside g workers after.doors.told (reopen usual w.last.format w.pieces) w.last).
+      let few = serve_fails g workers after.doors.told (reopen usual w.last.format w.pieces) w.last s in
       (w.pieces, w.last, inl (s, omega (arith, few, none))))
       (λ nobody. (w.pieces, w.last, inr nobody))
       w.worked.served

@@ -196,4 +196,4 @@ unbegun_beside g count came went h last is = record {
 }
   where
     nothing_more : (h : History) → go_on h [] ≡ h
-    nothing_more h = ap (λ (events : List Event). record { opened = h.opened; limits = h.limits; events = events }) (append-nil h.events)
+    nothing_more h = ap (λ (events : List Event). record { opened = h.opened; limits = h.limits; format = h.format; events = events }) (append-nil h.events)

@@ -15,6 +15,7 @@ use Rattle.history.specs.Events.{History}
 use Rattle.office.specs.Counting.{fault_count}
 use Rattle.office_inputs.specs.Usual.{usual}
 use Rattle.records.specs.Sheets.{Record}
+use Rattle.records.specs.declared.formats.Format.{Format}
 use Rattle.serving.proofs.BesideLemmas.{connections_at}
 use Rattle.serving.proofs.CrewLemmas.{follow_out}
 use Rattle.serving.proofs.DrainLemmas.{none_behind_all}
@@ -80,23 +81,23 @@ fewer : (n m faults : ℕ) → n ≤ m → RoseBy m 0 faults → RoseBy n 0 faul
 fewer n m faults few rose = omega (arith, few, rose)
 
 -- and each of them the disk that is left has counted
-module _ {D : Type 0} (g : Ghosts D) (pieces : List Record) (last : History) (found left : D) where
-  pub alone_counted : (messages : List Message) (replies : List (List ℕ)) → AreReplies (reopen usual pieces) messages replies last
+module _ {D : Type 0} (g : Ghosts D) (format : Format) (pieces : List Record) (last : History) (found left : D) where
+  pub alone_counted : (messages : List Message) (replies : List (List ℕ)) → AreReplies (reopen usual format pieces) messages replies last
       → Carries g pieces last found left → RoseBy (count_by tells_fault replies) 0 (g.faults left)
   alone_counted messages replies answers carries =
-      subst (λ (n : ℕ). RoseBy n 0 (g.faults left)) (all_opened usual pieces messages replies last answers) carries.causes
+      subst (λ (n : ℕ). RoseBy n 0 (g.faults left)) (all_opened usual format pieces messages replies last answers) carries.causes
 
-  counted : (failed : ℕ) → fault_count (reopen usual pieces).events + failed ≤ fault_count last.events → LeadsTo g pieces last found left
+  counted : (failed : ℕ) → fault_count (reopen usual format pieces).events + failed ≤ fault_count last.events → LeadsTo g pieces last found left
       → RoseBy failed 0 (g.faults left)
   counted failed few leads = fewer failed (fault_count last.events) (g.faults left) (omega (arith, few)) leads.causes
 
   pub beside_counted : (workers : ℕ) (came went : Ends) (end : SessionEnd)
-      (worked : WorksBeside g workers came went end (reopen usual pieces) last) → LeadsTo g pieces last found left
+      (worked : WorksBeside g workers came went end (reopen usual format pieces) last) → LeadsTo g pieces last found left
       → RoseBy (failed_in worked.beside.ends_in) 0 (g.faults left)
   beside_counted workers came went end worked leads =
-      counted (failed_in worked.beside.ends_in) (batch_fails g workers came went end (reopen usual pieces) last worked) leads
+      counted (failed_in worked.beside.ends_in) (batch_fails g workers came went end (reopen usual format pieces) last worked) leads
 
-  pub serve_counted : (workers : ℕ) (told : Connections) (served : AreServedBeside g workers told (reopen usual pieces) last)
+  pub serve_counted : (workers : ℕ) (told : Connections) (served : AreServedBeside g workers told (reopen usual format pieces) last)
       → LeadsTo g pieces last found left → RoseBy (failed_beside served) 0 (g.faults left)
   serve_counted workers told served leads =
-      counted (failed_beside served) (serve_fails g workers told (reopen usual pieces) last served) leads
+      counted (failed_beside served) (serve_fails g workers told (reopen usual format pieces) last served) leads

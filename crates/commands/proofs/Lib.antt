@@ -9,6 +9,8 @@ pub mod JoinedLemmas
 pub mod Lawful
 pub mod LoadingLemmas
 pub mod MakingLemmas
+pub mod HandledLemmas
+pub mod MigrationLemmas
 pub mod NotesLemmas
 pub mod OpeningLemmas
 pub mod PlaceLemmas

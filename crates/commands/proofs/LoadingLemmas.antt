@@ -83,8 +83,8 @@ module _ {S K E C L P D End : Type 0} (g : Ghosts D) (tell : World S K E C L P �
   complete : LoadsStated → (end : Result End OpenFault) (before after : World S K E C L P) → Did end before after
       → IsReady (tell before) → IsWell (tell before) (tell after) → IsDone (status_of (ending_over ending_of end))
   complete stated (Ok end) before after did ready well =
-      stated end (tell before).input (tell after).input (tell before).output (tell after).output (reopen usual did.over.pieces) did.over.last
-      did.over.worked did.cause ready.1 well.0.0 well.0.1
+      stated end (tell before).input (tell after).input (tell before).output (tell after).output (reopen usual did.over.last.format did.over.pieces)
+      did.over.last did.over.worked did.cause ready.1 well.0.0 well.0.1
   complete stated (Err why) before after did ready well =
       inr (sound_opens g name why (tell before).cabinet (tell after).cabinet did.over ready.0 well.1)
 

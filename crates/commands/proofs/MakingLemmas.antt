@@ -11,6 +11,7 @@ use Rattle.journal.specs.Init.{InitAnswers, InitLeaves, IsLeftByInit}
 use Rattle.journal.specs.JournalBytes.{IsForeign, IsTaken}
 use Rattle.journal.specs.Moments.{LeavesOnly}
 use Rattle.journal.specs.declared.making.InitFault.TheVariants as making
+use Rattle.records.specs.declared.formats.Format.TheVariants.{Second}
 use Rattle.commands.proofs.Lawful.{HasCause, IsLawful, innocent}
 use Rattle.commands.proofs.PlaceLemmas.{counts_failed, counts_kept, leaves_kept, opened_and_kept, rose_kept}
 use Rattle.commands.specs.Making.{HasFailed, IsMadeUnder, Made, Makes, MakesAt, MakesOn, MakesUnder, making_ending}
@@ -21,7 +22,7 @@ use Rattle.commands.specs.Worlds.{Told, World}
 
 pub makes_on : {D : Type 0} (g : Ghosts D) (o : Option (List ℕ)) (images : List ℕ → Type 0) (made : Made) (disk : D)
     → IfSome o (λ bytes. InitAnswers bytes made)
-    → IfSome o (λ bytes. InitLeaves bytes (g.content disk) images (g.may_leave disk) made)
+    → IfSome o (λ bytes. InitLeaves Second bytes (g.content disk) images (g.may_leave disk) made)
     → IfSome o (λ bytes. MakesOn g bytes images made disk)
 makes_on g None images made disk answer left = tt
 makes_on g (Some bytes) images made disk answer left = (answer, left)

@@ -12,7 +12,7 @@ use Rattle.history.specs.After.{go_on, reopen}
 use Rattle.history.specs.Events.{Event, History}
 use Rattle.history.specs.Legal.{IsLegal}
 use Rattle.journal.proofs.Moments.{joined, started}
-use Rattle.journal.specs.JournalBytes.{HasHeader, IsJournalOf}
+use Rattle.journal.specs.JournalBytes.{HasAnyHeader, IsJournalOf}
 use Rattle.journal.specs.Moments.{IsContent, LeavesOnly, SyncsFirst}
 use Rattle.journal.specs.declared.opening.OpenFault.{OpenFault}
 use Rattle.journal.specs.declared.opening.OpenFault.TheVariants as opening
@@ -22,6 +22,7 @@ use Rattle.office.specs.Openings.{IsDamagedFor, IsNotOpened}
 use Rattle.office.specs.Stops.{IsLeft, IsLeftBetween}
 use Rattle.office_inputs.specs.Usual.{usual}
 use Rattle.records.specs.Sheets.{Record}
+use Rattle.records.specs.declared.formats.Format.{Format}
 use Rattle.register.specs.Registered.{Registered}
 use Rattle.commands.proofs.Lawful.{HasCause, innocent}
 use Rattle.commands.proofs.PlaceLemmas.{counts_absent, counts_failed, counts_kept, leaves_kept, opened_and_kept, rose_kept, was_kept}
@@ -38,15 +39,16 @@ both_told None P told h = absurd (cc told)
 both_told (Some bytes) P told h = h
 
 carries_journal : {D : Type 0} (g : Ghosts D) (pieces : List Record) (after : History) (o : Option (List ℕ)) (left : D)
-    → (is_some o ≡ true → IsSome (g.content left)) → IfSome o (IsJournalOf pieces) → IfSome (g.content left) (IsLeft after)
+    → (is_some o ≡ true → IsSome (g.content left)) → IfSome o (IsJournalOf after.format pieces) → IfSome (g.content left) (IsLeft after)
     → (IsSome (g.content left) → (image : List ℕ) → g.may_leave left image → IsLeft after image)
-    → IfSome o (λ bytes. IsJournalOf pieces bytes × IsLeftOn g after left)
+    → IfSome o (λ bytes. IsJournalOf after.format pieces bytes × IsLeftOn g after left)
 carries_journal g pieces after None left told found now images = tt
 carries_journal g pieces after (Some bytes) left told found now images =
     (found, record { now = both_told (g.content left) (IsLeft after) (told refl) now; images = images (told refl) })
 
 -- the causes of all faults of a run
-all_causes : (pieces : List Record) (after : History) (since : List Event) (f f' : ℕ) → after ≡ go_on (reopen usual pieces) since
+all_causes : (pieces : List Record) (after : History) (since : List Event) (f f' : ℕ)
+    → after ≡ go_on (reopen usual after.format pieces) since
     → RoseBy (fault_count since) f f' → RoseBy (fault_count after.events) 0 f'
 all_causes pieces after since f f' goes_on causes =
     let none : fault_count after.events ≡ fault_count since =
@@ -56,23 +58,25 @@ all_causes pieces after since f f' goes_on causes =
 -- what a stop left from the opening on
 carries_moments : {D : Type 0} (g : Ghosts D) (pieces : List Record) (after : History) (since : List Event)
     (o : Option (List ℕ)) (found opened left : D)
-    → SyncsFirst g found opened (IsContent o) → IfSome o (IsJournalOf pieces) → after ≡ go_on (reopen usual pieces) since
-    → (is_some o ≡ true → LeavesOnly g opened left (IsLeftBetween (reopen usual pieces) after))
-    → IfSome o (λ bytes. SyncsFirst g found left (IsLeftBetween (reopen usual pieces) after))
+    → SyncsFirst g found opened (IsContent o) → IfSome o (IsJournalOf after.format pieces) → after ≡ go_on (reopen usual after.format pieces) since
+    → (is_some o ≡ true → LeavesOnly g opened left (IsLeftBetween (reopen usual after.format pieces) after))
+    → IfSome o (λ bytes. SyncsFirst g found left (IsLeftBetween (reopen usual after.format pieces) after))
 carries_moments g pieces after since None found opened left first journal goes_on second = tt
-carries_moments g pieces after since (Some bytes) found opened left first journal goes_on second = record {
-  synced = first.synced;
-  first = first.first;
-  before = first.before;
-  since =
-      joined g first.synced opened left (IsContent (Some bytes)) (IsLeftBetween (reopen usual pieces) after) (IsLeftBetween (reopen usual pieces) after)
-      first.since (second refl) (λ image is. found_left pieces after since bytes image goes_on journal is) (λ image h. h);
-}
+carries_moments g pieces after since (Some bytes) found opened left first journal goes_on second =
+    let between = IsLeftBetween (reopen usual after.format pieces) after in
+    record {
+      synced = first.synced;
+      first = first.first;
+      before = first.before;
+      since =
+          joined g first.synced opened left (IsContent (Some bytes)) between between first.since (second refl)
+          (λ image is. found_left after.format pieces after since bytes image goes_on journal is) (λ image h. h);
+    }
 
 -- what was done over the journal that was found, on the disk as it was opened, up to the one that is given back
 carries : {D : Type 0} (g : Ghosts D) (pieces : List Record) (after : History) (found opened left : D)
-    → IfSome (g.content found) (IsJournalOf pieces) → IsUnchanged (g.content found) (g.content opened)
-    → SyncsFirst g found opened (IsContent (g.content found)) → Passes g (reopen usual pieces) after opened left
+    → IfSome (g.content found) (IsJournalOf after.format pieces) → IsUnchanged (g.content found) (g.content opened)
+    → SyncsFirst g found opened (IsContent (g.content found)) → Passes g (reopen usual after.format pieces) after opened left
     → IfSome (g.content left) (IsLeft after)
     → (IsSome (g.content left) → (image : List ℕ) → g.may_leave left image → IsLeft after image) → IsLegal after
     → Carries g pieces after found left
@@ -100,9 +104,10 @@ moments_kept g P (Some bytes) held disk left given h = record {
 carried : {D : Type 0} (g : Ghosts D) (pieces : List Record) (after : History) (held disk left : D) → IsSameDisk g held disk
     → Carries g pieces after disk left → Carries g pieces after held left
 carried g pieces after held disk left given h = record {
-  journal = subst (λ (o : Option (List ℕ)). IfSome o (λ bytes. IsJournalOf pieces bytes × IsLeftOn g after left)) given.same h.journal;
-  any_moment = subst (λ (o : Option (List ℕ)). IfSome o (λ bytes. SyncsFirst g held left (IsLeftBetween (reopen usual pieces) after))) given.same
-      (moments_kept g (IsLeftBetween (reopen usual pieces) after) (g.content disk) held disk left given h.any_moment);
+  journal = subst (λ (o : Option (List ℕ)). IfSome o (λ bytes. IsJournalOf after.format pieces bytes × IsLeftOn g after left)) given.same h.journal;
+  any_moment = subst (λ (o : Option (List ℕ)). IfSome o (λ bytes. SyncsFirst g held left (IsLeftBetween (reopen usual after.format pieces) after)))
+      given.same
+      (moments_kept g (IsLeftBetween (reopen usual after.format pieces) after) (g.content disk) held disk left given h.any_moment);
   causes = h.causes;
   legal = h.legal;
 }
@@ -112,16 +117,26 @@ no_fault : (n f' c0 c1 c2 : ℕ) → RoseBy n 0 f' → c0 ≤ c1 → IsCounted f
 no_fault zero f' c0 c1 c2 rose later is = inl refl
 no_fault (suc n) f' c0 c1 c2 rose later is = inr (rose_kept 0 f' c0 c1 c2 refl (omega (arith, rose)) later is)
 
+-- an office that was opened under a name, and whose history went on in the format in which the journal was found
+module _ {D : Type 0} (g : Ghosts D) (name : List ℕ) (register : Registered) (opened : D) (before now : Shelf D)
+    (o : IsOpenedUnder g name register opened before now) (format : Format) (same : format ≡ register.history.format) where
+  journal_found : IfSome (g.content o.found) (IsJournalOf format o.pieces)
+  journal_found = subst (λ (f : Format). IfSome (g.content o.found) (IsJournalOf f o.pieces)) (sym same) o.journal
+
+  reopened_from : register.history ≡ reopen usual format o.pieces
+  reopened_from = o.reopened ∙ ap (λ (f : Format). reopen usual f o.pieces) (sym same)
+
 -- an office that was opened under a name, on which something was done, and that was closed under it
 module _ {D : Type 0} (g : Ghosts D) (name : List ℕ) (GoesOn : List Record → History → D → D → Type 0) (Worked : History → History → Type 0)
     (register : Registered) (opened left : D) (last : History) (before now after : Shelf D)
-    (o : IsOpenedUnder g name register opened before now) (closed : IsClosedUnder g name last left now after) where
+    (o : IsOpenedUnder g name register opened before now) (same : last.format ≡ register.history.format)
+    (closed : IsClosedUnder g name last left now after) where
   under : ((held : D) → IsSameDisk g held o.found → GoesOn o.pieces last held left) → RoseBy (fault_count last.events) 0 (g.faults left)
       → Worked register.history last → WorksUnder g name GoesOn Worked before after
   under goes_on causes worked = record {
     pieces = o.pieces;
     last = last;
-    worked = subst (λ (h : History). Worked h last) o.reopened worked;
+    worked = subst (λ (h : History). Worked h last) (reopened_from g name register opened before now o last.format same) worked;
     goes_on =
         opened_and_kept g name false before.places now.places after.places o.found left
         (λ b a. GoesOnAt g (GoesOn o.pieces last) b a) o.given closed.kept
@@ -140,21 +155,25 @@ pub works_under : {D : Type 0} (g : Ghosts D) (name : List ℕ) (Worked : Histor
     → IsOpenedUnder g name register opened before now → Passes g register.history last opened left → Worked register.history last
     → IsClosedUnder g name last left now after → WorksUnder g name (Carries g) Worked before after
 works_under g name Worked register opened left last before now after o passed worked closed =
-    let through = carries g o.pieces last o.found opened left o.journal o.same o.synced
-    (subst (λ (h : History). Passes g h last opened left) o.reopened passed) closed.stands closed.images closed.legal in
-    under g name (Carries g) Worked register opened left last before now after o closed
+    let same : last.format ≡ register.history.format = ap (λ (h : History). h.format) passed.goes_on in
+    let through = carries g o.pieces last o.found opened left (journal_found g name register opened before now o last.format same) o.same o.synced
+    (subst (λ (h : History). Passes g h last opened left) (reopened_from g name register opened before now o last.format same) passed)
+    closed.stands closed.images closed.legal in
+    under g name (Carries g) Worked register opened left last before now after o same closed
     (λ held is. carried g o.pieces last held o.found left is through) through.causes worked
 
 -- by several, behind a lock
 pub shared_under : {D : Type 0} (g : Ghosts D) (name : List ℕ) (Worked : History → History → Type 0) (register : Registered) (opened left : D)
     (last : History) (before now after : Shelf D)
     → IsOpenedUnder g name register opened before now → HasCounted last (g.faults left) → ∥ Passes g register.history last opened left ∥₁
-    → Worked register.history last → IsClosedUnder g name last left now after → WorksUnder g name (LeadsTo g) Worked before after
-shared_under g name Worked register opened left last before now after o counted passed worked closed =
+    → last.format ≡ register.history.format → Worked register.history last → IsClosedUnder g name last left now after
+    → WorksUnder g name (LeadsTo g) Worked before after
+shared_under g name Worked register opened left last before now after o counted passed same worked closed =
     let causes : RoseBy (fault_count last.events) 0 (g.faults left) = omega (arith, counted) in
-    under g name (LeadsTo g) Worked register opened left last before now after o closed
+    let journal = journal_found g name register opened before now o last.format same in
+    under g name (LeadsTo g) Worked register opened left last before now after o same closed
     (λ held is. record {
-      journal = subst (λ (c : Option (List ℕ)). IfSome c (IsJournalOf o.pieces)) is.same o.journal;
+      journal = subst (λ (c : Option (List ℕ)). IfSome c (IsJournalOf last.format o.pieces)) is.same journal;
       now = closed.stands;
       images = closed.images;
       causes = causes;
@@ -162,7 +181,8 @@ shared_under g name Worked register opened left last before now after o counted 
       any_moment =
           ∥∥₁_map passed (λ p.
           carried g o.pieces last held o.found left is
-          (carries g o.pieces last o.found opened left o.journal o.same o.synced (subst (λ (h : History). Passes g h last opened left) o.reopened p)
+          (carries g o.pieces last o.found opened left journal o.same o.synced
+          (subst (λ (h : History). Passes g h last opened left) (reopened_from g name register opened before now o last.format same) p)
           closed.stands closed.images closed.legal));
     })
     causes worked
@@ -207,7 +227,7 @@ stood : {D : Type 0} (g : Ghosts D) (why : OpenFault) (disk held : D) (f f' : �
     → IsNotOpened (g.content disk) usual why f f' → StoodUnopened g why (Kept held)
 stood g opening.Fault disk held f f' same refused = tt
 stood g opening.NotAJournal disk held f f' same refused =
-    subst (λ (o : Option (List ℕ)). IfSome o (λ bytes. ¬ HasHeader bytes)) same refused
+    subst (λ (o : Option (List ℕ)). IfSome o (λ bytes. ¬ HasAnyHeader bytes)) same refused
 stood g (opening.Damaged at) disk held f f' same refused = subst (λ (o : Option (List ℕ)). IfSome o (IsDamagedFor usual at)) same refused
 stood g opening.NoMemory disk held f f' same refused = tt
 
@@ -318,7 +338,7 @@ sound_header : {D : Type 0} (g : Ghosts D) (place : Place D)
 sound_header g Free sound none = sound
 sound_header g Out sound none = sound
 sound_header g (Kept disk) sound none =
-    let found = both (g.content disk) (λ bytes. ¬ HasHeader bytes) IsSound none sound in found.1 found.2.header
+    let found = both (g.content disk) (λ bytes. ¬ HasAnyHeader bytes) IsSound none sound in found.1 found.2.header
 
 sound_whole : {D : Type 0} (g : Ghosts D) (place : Place D) (at : ℕ)
     → HasKept (λ disk. IsSomeAnd (g.content disk) IsSound) place → StoodUnopened g (opening.Damaged at) place → ⊥

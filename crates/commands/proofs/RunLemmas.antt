@@ -1,9 +1,10 @@
 -- What holds of all runs: a row a command, and what follows for a run.
 use Rattle.std.proofs.Common.{◌≡◌, ◌⊎◌, ℕ, List, refl, sym, ◌∙◌, ap, subst, inr, ⊎_elim}
-use Rattle.command_words.specs.Words.{Asked, Init, Batch, Serve, Stations, Trial, Import, Daily, Water, Notes, ImportAsked, DailyAsked, WaterAsked, NotesAsked}
+use Rattle.command_words.specs.Words.{Asked, Init, Batch, Serve, Stations, Trial, Import, Daily, Water, Notes, Migrate, ImportAsked, DailyAsked, WaterAsked, NotesAsked}
 use Rattle.devices.specs.declared.disks.Disk.{Ghosts}
 use Rattle.commands.proofs.Lawful.{HasCause, IsEarly, IsLawful, by_ending, innocent}
 use Rattle.commands.proofs.MakingLemmas.{making_lawful}
+use Rattle.commands.proofs.MigrationLemmas.{migration_lawful}
 use Rattle.commands.proofs.BatchLemmas.{batch_lawful, unserved}
 use Rattle.commands.proofs.NotesLemmas.{notes_lawful, unwritten_at_notes}
 use Rattle.commands.proofs.ReadingsLemmas.{readings_lawful, unwritten_at_units}
@@ -13,6 +14,7 @@ use Rattle.commands.proofs.TablesLemmas.{table_lawful}
 use Rattle.commands.proofs.TryingLemmas.{trial_lawful}
 use Rattle.commands.specs.Loading.{LoadsNotes, LoadsReadings, LoadsStations, loading_ending, notes_ending, readings_ending}
 use Rattle.commands.specs.Making.{Makes, making_ending}
+use Rattle.commands.specs.Migrating.{Migrates, migration_ending}
 use Rattle.commands.specs.Opening.{ending_over}
 use Rattle.commands.specs.Ready.{IsDone, IsReady, IsWell}
 use Rattle.commands.specs.Runs.{Does, Runs}
@@ -56,6 +58,9 @@ module _ {S K E C L P D : Type 0} (g : Ghosts D) (tell : World S K E C L P → T
   lawful (Notes asked) =
       by_ending tell (ending_over notes_ending) (IsReady g (Notes asked)) (λ before after. IsWell before after (Notes asked))
       (λ end before after. LoadsNotes g tell asked end before after) (notes_lawful g tell asked)
+  lawful (Migrate from to) =
+      by_ending tell migration_ending (IsReady g (Migrate from to)) (λ before after. IsWell before after (Migrate from to))
+      (λ migrated before after. Migrates g tell from to migrated before after) (migration_lawful g tell from to)
 
   -- there was no memory for the words
   memory_status : (asked : Asked) (status : ℕ) (before after : World S K E C L P) (run : Runs g tell asked status before after)
@@ -135,6 +140,14 @@ module _ {S K E C L P D : Type 0} (g : Ghosts D) (tell : World S K E C L P → T
   pub init_alone : (name : List ℕ) (status : ℕ) (before after : World S K E C L P) → Runs g tell (Init name) status before after
       → StreamsStay before after × DoorsStay before after
   init_alone name status before after run =
+      ⊎_elim
+      (λ none. (none.1.streams, none.1.doors))
+      (λ did. (did.2.streams, did.2.doors))
+      run.did
+
+  pub migrate_alone : (from to : List ℕ) (status : ℕ) (before after : World S K E C L P) → Runs g tell (Migrate from to) status before after
+      → StreamsStay before after × DoorsStay before after
+  migrate_alone from to status before after run =
       ⊎_elim
       (λ none. (none.1.streams, none.1.doors))
       (λ did. (did.2.streams, did.2.doors))

@@ -89,7 +89,7 @@ serves_nobody g workers connections before after h last none same is = record {
 }
   where
     nothing_more : (h : History) → go_on h [] ≡ h
-    nothing_more h = ap (λ (events : List Event). record { opened = h.opened; limits = h.limits; events = events }) (append-nil h.events)
+    nothing_more h = ap (λ (events : List Event). record { opened = h.opened; limits = h.limits; format = h.format; events = events }) (append-nil h.events)
 
 serving_cause : {D : Type 0} (end : ServeEnd) (connections : ℕ) (before after : Told D)
     → IsServeEnd end connections after.doors.told.given before.doors.faults after.doors.faults

@@ -44,20 +44,20 @@ not_ended (e ∷ es) = not_ended es
 pub history_is : (last : History) (ending : Option ℕ) (fixed : Fixed) (list : List Entry) → entries last.events ending ≡ list
     → fixed_part last ≡ fixed → last ≡ history_of fixed list
 history_is last ending fixed list is same =
-    ap (λ (events : List Event). record { opened = last.opened; limits = last.limits; events = events })
+    ap (λ (events : List Event). record { opened = last.opened; limits = last.limits; format = last.format; events = events })
     (sym (events_of_entries ending last.events) ∙ ap events_in is)
     ∙ ap (λ (f : Fixed). history_of f list) same
 
 -- and where the list is that of a history it is that history
 pub same_history : (h : History) → history_of (fixed_part h) (begun h) ≡ h
-same_history h = ap (λ (events : List Event). record { opened = h.opened; limits = h.limits; events = events }) (events_happened h.events)
+same_history h = ap (λ (events : List Event). record { opened = h.opened; limits = h.limits; format = h.format; events = events }) (events_happened h.events)
 
 -- a list that begins with the events of a history is that of one that goes on from it
 pub list_goes_on : (h : History) (list : List Entry) → IsPrefix (begun h) list
     → (since : List Event) × (history_of (fixed_part h) list ≡ go_on h since)
 list_goes_on h list begins = (
   events_in begins.0,
-  ap (λ (events : List Event). record { opened = h.opened; limits = h.limits; events = events })
+  ap (λ (events : List Event). record { opened = h.opened; limits = h.limits; format = h.format; events = events })
       (ap events_in (sym begins.1) ∙ events_on (begun h) begins.0 ∙ ap (λ zs. zs ++ events_in begins.0) (events_happened h.events)),
 )
 

@@ -19,7 +19,7 @@ use Rattle.wire.specs.declared.messages.Message.{Message}
 use Rattle.commands.specs.Joined.{Run}
 
 module _ (run : Run) (old : Registered) (before behind : List Message) (message : Message) (told more : List (List ℕ)) (reply : List ℕ)
-    (same : old.history ≡ reopen usual run.found) (none : NoneOut old) (messages : run.messages ≡ before ++ message ∷ behind)
+    (same : old.history ≡ reopen usual run.last.format run.found) (none : NoneOut old) (messages : run.messages ≡ before ++ message ∷ behind)
     (replies : run.replies ≡ told ++ reply ∷ more) (long : length told ≡ length before) where
   own_replies : AreReplies old.history run.messages run.replies run.last
   own_replies = subst (λ (h : History). AreReplies h run.messages run.replies run.last) (sym same) run.answers

@@ -16,19 +16,21 @@ use Rattle.office.specs.Steps.{AStop, GoesOver, Step}
 use Rattle.office.specs.Stops.{IsLeft, IsLeftBetween}
 use Rattle.office_inputs.specs.Usual.{usual}
 use Rattle.records.specs.Sheets.{Record}
+use Rattle.records.specs.declared.formats.Format.{Format}
 use Rattle.register.specs.Registered.{NoneOut, Registered}
 use Rattle.wire.specs.declared.messages.Message.{Message}
 use Rattle.commands.specs.Opening.{Carries, GoesOnUnder}
 use Rattle.commands.specs.Places.{HasKept, StaysWith}
 use Rattle.commands.specs.Worlds.{Shelf, StreamsStay, Told, World}
 
--- A run without workers: the records that were found, the messages that were read, the replies to them, and the history behind them.
+-- A run without workers: the records that were found, the messages that were read, the replies to them, and the history behind them, over a
+-- journal of one format.
 pub record Run : Type 0 where
   pub found : List Record
   pub messages : List Message
   pub replies : List (List ℕ)
   pub last : History
-  pub answers : AreReplies (reopen usual found) messages replies last
+  pub answers : AreReplies (reopen usual last.format found) messages replies last
 
 -- where a run is stopped: behind its end, or at any moment since the sync that began its opening
 pub data Stop : Type 0 where
@@ -43,18 +45,23 @@ pub record Stretch : Type 0 where
 -- what the stop leaves of the run
 abbrev pub MayLeave : Stop → Run → List ℕ → Type 0
 MayLeave BehindTheEnd run image = IsLeft run.last image
-MayLeave Within run image = IsLeftBetween (reopen usual run.found) run.last image
+MayLeave Within run image = IsLeftBetween (reopen usual run.last.format run.found) run.last image
 
--- and the records that are found on it
+-- and the records that are found on it, in the format of the run
 abbrev pub LeavesFor : Stop → Run → List Record → Type 0
-LeavesFor stop run next = (image : List ℕ) × MayLeave stop run image × IsJournalOf next image
+LeavesFor stop run next = (image : List ℕ) × MayLeave stop run image × IsJournalOf run.last.format next image
 
--- runs one behind another, each of which finds what was left of the one before, from the records that the first one finds to those that are
--- found behind the last one
-abbrev pub AreOneBehindAnother : List Record → List Stretch → List Record → Type 0
-AreOneBehindAnother found [] next = next ≡ found
-AreOneBehindAnother found (one ∷ others) next =
-    (one.run.found ≡ found) × (mid : List Record) × LeavesFor one.stop one.run mid × AreOneBehindAnother mid others next
+-- what the stop leaves of one run is what another one finds, in the same format
+abbrev pub IsFoundBy : Stop → Run → Run → Type 0
+IsFoundBy stop first second = LeavesFor stop first second.found × (second.last.format ≡ first.last.format)
+
+-- Runs one behind another, each of which finds what was left of the one before, in the format of that journal, from the records that the first
+-- one finds to those that are found behind the last one.
+abbrev pub AreOneBehindAnother : Format → List Record → List Stretch → List Record → Type 0
+AreOneBehindAnother format found [] next = next ≡ found
+AreOneBehindAnother format found (one ∷ others) next =
+    (one.run.found ≡ found) × (one.run.last.format ≡ format) × (mid : List Record) × LeavesFor one.stop one.run mid
+    × AreOneBehindAnother format mid others next
 
 -- the calls that were not done before the stop: none where it came behind the end
 abbrev pub IsCutBy : Stop → List Step → Type 0
@@ -69,19 +76,19 @@ pub record IsStretchOf (old : Registered) (stop : Stop) (run : Run) (next : List
   pub before : List Step
   pub behind : List Step
   pub found : Option Record
-  pub begins : old.history ≡ reopen usual run.found
+  pub begins : old.history ≡ reopen usual run.last.format run.found
   pub course : IsCourse old steps run.messages run.replies new
   pub last : new.history ≡ run.last
   pub parts : steps ≡ before ++ behind
   pub cut : IsCutBy stop behind
   pub over : GoesOver old (before ++ AStop (cut_before behind) found ∷ []) opened
-  pub history : opened.history ≡ reopen usual next
+  pub history : opened.history ≡ reopen usual run.last.format next
   pub claims : NoneOut opened
   pub legal : IsLegal opened.history
 
 -- runs one behind another, each over the office that was opened behind the stop of the one before
 abbrev pub AreOneCourse : Registered → List Stretch → List Record → Type 0
-AreOneCourse old [] next = old.history ≡ reopen usual next
+AreOneCourse old [] next = old.history ≡ reopen usual old.history.format next
 AreOneCourse old (one ∷ others) next =
     (opened : Registered) × (mid : List Record) × IsStretchOf old one.stop one.run mid opened × AreOneCourse opened others next
 
@@ -137,7 +144,7 @@ module _ {D : Type 0} (g : Ghosts D) (name : List ℕ) where
   -- A stop at any moment of a run, of the disk that was found before it, which tells its bytes, and left behind it: until the sync that began
   -- the opening was done it left what it might have left before; from then on it left bytes whose records, where the cabinet of a next run has
   -- them, are those of a run that is stopped within.
-  abbrev pub StopsWithin : Run → List Record → Shelf D → Shelf D → Shelf D → Type 0
+  abbrev pub StopsWithin : Run → Run → Shelf D → Shelf D → Shelf D → Type 0
   StopsWithin run next before after again =
       (found left : D) → Keeps found before → IsSome (g.content found) → Keeps left after
-      → SyncsFirst g found left (λ image. Has image again → LeavesFor Within run next × IsFrontOf run next)
+      → SyncsFirst g found left (λ image. Has image again → IsFoundBy Within run next × IsFrontOf run next.found)

@@ -4,6 +4,7 @@ pub mod Beside
 pub mod Joined
 pub mod Loading
 pub mod Making
+pub mod Migrating
 pub mod Opening
 pub mod Places
 pub mod Ready

@@ -7,6 +7,7 @@ use Rattle.journal.specs.Init.{InitAnswers, InitLeaves, IsLeftByInit}
 use Rattle.journal.specs.Moments.{LeavesOnly}
 use Rattle.journal.specs.declared.making.InitFault.{InitFault}
 use Rattle.journal.specs.declared.making.InitFault.TheVariants as making
+use Rattle.records.specs.declared.formats.Format.TheVariants.{Second}
 use Rattle.commands.specs.Places.{HasKept, IsCountedUnder, bytes_found, images_found}
 use Rattle.commands.specs.Worlds.{DoorsStay, Shelf, StreamsStay, Told, World}
 use Rattle.commands.specs.declared.endings.Ending.{Ending}
@@ -28,10 +29,10 @@ abbrev pub HasFailed : Made → Type 0
 HasFailed made = made ≡ Err making.Fault
 
 module _ {D : Type 0} (g : Ghosts D) where
-  -- Exactly where which answer is given over these bytes, of which a stop might leave these images, and what the disk has then. A fault
-  -- may come in place of each.
+  -- Exactly where which answer is given over these bytes, of which a stop might leave these images, and what the disk has then: a journal of the
+  -- second format, where one was made. A fault may come in place of each.
   abbrev pub MakesOn : List ℕ → (List ℕ → Type 0) → Made → D → Type 0
-  MakesOn bytes images made disk = InitAnswers bytes made × InitLeaves bytes (g.content disk) images (g.may_leave disk) made
+  MakesOn bytes images made disk = InitAnswers bytes made × InitLeaves Second bytes (g.content disk) images (g.may_leave disk) made
 
   -- a stop at any moment of a run leaves an image that has P: of a disk that was under the name, at any moment since then,
   -- and of one that was made, at any moment of its own

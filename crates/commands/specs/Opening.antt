@@ -9,7 +9,7 @@ use Rattle.devices.specs.declared.disks.Disk.{Ghosts}
 use Rattle.history.specs.After.{reopen}
 use Rattle.history.specs.Events.{History}
 use Rattle.history.specs.Legal.{IsLegal}
-use Rattle.journal.specs.JournalBytes.{HasHeader, IsJournalOf}
+use Rattle.journal.specs.JournalBytes.{HasAnyHeader, IsJournalOf}
 use Rattle.journal.specs.Moments.{IsContent, SyncsFirst}
 use Rattle.journal.specs.declared.opening.OpenFault.{OpenFault}
 use Rattle.journal.specs.declared.opening.OpenFault.TheVariants as opening
@@ -40,7 +40,7 @@ module _ {D : Type 0} (g : Ghosts D) where
   -- what stood under the name whose journal was not opened for this reason
   abbrev pub StoodUnopened : OpenFault → Place D → Type 0
   StoodUnopened opening.Fault place = ⊤
-  StoodUnopened opening.NotAJournal place = IfKept (λ disk. IfSome (g.content disk) (λ bytes. ¬ HasHeader bytes)) place
+  StoodUnopened opening.NotAJournal place = IfKept (λ disk. IfSome (g.content disk) (λ bytes. ¬ HasAnyHeader bytes)) place
   StoodUnopened (opening.Damaged at) place = HasKept (λ disk. IfSome (g.content disk) (IsDamagedFor usual at)) place
   StoodUnopened opening.NoMemory place = ⊤
 
@@ -50,16 +50,17 @@ module _ {D : Type 0} (g : Ghosts D) where
     pub cause : why ≡ opening.Fault → Rose before.faults after.faults
     pub counted : IsCountedUnder g name (why ≡ opening.Fault) before after
 
-  -- The disk under a name was taken out, and an office was opened on the journal of the records that were found on it.
+  -- The disk under a name was taken out, and an office was opened on the journal of the records that were found on it, in the format in which
+  -- it was found.
   pub record IsOpenedUnder (name : List ℕ) (register : Registered) (opened : D) (before now : Shelf D) : Type 0 where
     pub found : D
     pub pieces : List Record
     pub given : IsOpened g name false before.places now.places (opens.Disk found)
     pub counted : now.faults ≡ before.faults
-    pub journal : IfSome (g.content found) (IsJournalOf pieces)
+    pub journal : IfSome (g.content found) (IsJournalOf register.history.format pieces)
     pub same : IsUnchanged (g.content found) (g.content opened)
     pub synced : SyncsFirst g found opened (IsContent (g.content found))
-    pub reopened : register.history ≡ reopen usual pieces
+    pub reopened : register.history ≡ reopen usual register.history.format pieces
     pub claims : NoneOut register
 
   -- An office of this history was closed, and its disk is under the name.
@@ -75,13 +76,13 @@ module _ {D : Type 0} (g : Ghosts D) where
     pub now : IsSomeAnd (g.content disk) (IsLeft h)
     pub images : (image : List ℕ) → g.may_leave disk image → IsLeft h image
 
-  -- The disk had the journal of these records and is left with that of the history behind them, where it tells its bytes. Until the
-  -- sync that began the opening was done, a stop left what it might have left before; from then on it left the journal of the edits
+  -- The disk had the journal of these records and is left with that of the history behind them, in the same format, where it tells its bytes.
+  -- Until the sync that began the opening was done, a stop left what it might have left before; from then on it left the journal of the edits
   -- that were accepted up to some point of that history, or of these and one more. No more faults are in the history than the disk
   -- had, and the history is legal.
   pub record Carries (pieces : List Record) (last : History) (found left : D) : Type 0 where
-    pub journal : IfSome (g.content found) (λ bytes. IsJournalOf pieces bytes × IsLeftOn last left)
-    pub any_moment : IfSome (g.content found) (λ bytes. SyncsFirst g found left (IsLeftBetween (reopen usual pieces) last))
+    pub journal : IfSome (g.content found) (λ bytes. IsJournalOf last.format pieces bytes × IsLeftOn last left)
+    pub any_moment : IfSome (g.content found) (λ bytes. SyncsFirst g found left (IsLeftBetween (reopen usual last.format pieces) last))
     pub causes : RoseBy (fault_count last.events) 0 (g.faults left)
     pub legal : IsLegal last
 
@@ -89,7 +90,7 @@ module _ {D : Type 0} (g : Ghosts D) where
   -- doubt, where it tells its bytes, and so does whatever a stop may leave of it then. That this and every moment before are as without a
   -- lock is said without the way on which they came about.
   pub record LeadsTo (pieces : List Record) (last : History) (found left : D) : Type 0 where
-    pub journal : IfSome (g.content found) (IsJournalOf pieces)
+    pub journal : IfSome (g.content found) (IsJournalOf last.format pieces)
     pub now : IfSome (g.content left) (IsLeft last)
     pub images : IsSome (g.content left) → (image : List ℕ) → g.may_leave left image → IsLeft last image
     pub causes : RoseBy (fault_count last.events) 0 (g.faults left)
@@ -105,13 +106,14 @@ module _ {D : Type 0} (g : Ghosts D) where
   GoesOnUnder name GoesOn before after =
       IfSome before (λ b. IsSomeAnd after (λ a. GoesOnAt GoesOn (b name) (a name) × OthersStay name b a))
 
-  -- The journal of some records was found under the name, and what was done over it went from these to a history that it is left with, by
-  -- a disk that goes on from the one that was found. Where the count of faults of the cabinet did not rise, no fault is in the history.
+  -- The journal of some records was found under the name, and what was done over it went from these to a history that it is left with, in the
+  -- same format, by a disk that goes on from the one that was found. Where the count of faults of the cabinet did not rise, no fault is in
+  -- the history.
   pub record WorksUnder (name : List ℕ) (GoesOn : List Record → History → D → D → Type 0) (Worked : History → History → Type 0)
       (before after : Shelf D) : Type 0 where
     pub pieces : List Record
     pub last : History
-    pub worked : Worked (reopen usual pieces) last
+    pub worked : Worked (reopen usual last.format pieces) last
     pub goes_on : GoesOnUnder name (GoesOn pieces last) before.places after.places
     pub causes : (fault_count last.events ≡ 0) ⊎ Rose before.faults after.faults
     pub counted : IsCountedUnder g name ⊥ before after

@@ -1,18 +1,21 @@
 -- Where a run cannot fail, but for want of memory: a row a command.
-use Rattle.std.specs.Prelude.{◌≡◌, ◌⊎◌, ℕ, ◌<◌, ◌≤◌, Err, List, length, Option, IsSome, IsSomeAnd, ⊤}
-use Rattle.command_words.specs.Words.{Asked, Init, Batch, Serve, Stations, Trial, Import, Daily, Water, Notes, ImportAsked}
+use Rattle.std.specs.Prelude.{◌≡◌, ◌≢◌, ◌⊎◌, ℕ, ◌<◌, ◌≤◌, Err, List, length, Option, IsSome, IsSomeAnd, ⊤}
+use Rattle.command_words.specs.Words.{Asked, Init, Batch, Serve, Stations, Trial, Import, Daily, Water, Notes, Migrate, ImportAsked}
 use Rattle.devices.specs.Cabinets.{Place}
 use Rattle.devices.specs.Faults.{Rose}
 use Rattle.devices.specs.declared.disks.Disk.{Ghosts}
 use Rattle.edits.specs.declared.content.Edit.{Edit}
-use Rattle.journal.specs.JournalBytes.{HasHeader, IsTaken, IsForeign}
+use Rattle.journal.specs.JournalBytes.{HasAnyHeader, IsTaken, IsForeign}
 use Rattle.midsection.specs.Reading.{notes_of}
 use Rattle.midsection.specs.declared.faults.NotesFault.{NotesFault}
+use Rattle.migration.specs.Copying.{MayBegin}
+use Rattle.migration.specs.Reading.{StandsForAll, HasRoom as HasRecordRoom}
 use Rattle.note_loading.specs.Loading.{most_bytes}
 use Rattle.office.specs.Openings.{IsDamagedFor}
 use Rattle.office_inputs.specs.Usual.{usual}
 use Rattle.rdb_records.specs.Units.{IsRefused}
 use Rattle.rdb_records.specs.declared.faults.UnitFault.{UnitFault}
+use Rattle.records.specs.Sheets.{Record}
 use Rattle.reading_loading.specs.declared.limits.TheConstants.{MOST_BYTES}
 use Rattle.station_documents.specs.Documents.{StatesStations}
 use Rattle.wire.specs.Messages.{AreMessages, IsMalformed}
@@ -42,7 +45,7 @@ pub record IsNotes (input : List ℕ) : Type 0 where
 
 -- a journal that is not damaged: at no gate a record is missing, or stands that is not accepted behind those before it
 pub record IsSound (bytes : List ℕ) : Type 0 where
-  pub header : HasHeader bytes
+  pub header : HasAnyHeader bytes
   pub whole : (at : ℕ) → ¬ (IsDamagedFor usual at bytes)
 
 module _ {D : Type 0} (g : Ghosts D) where
@@ -54,6 +57,13 @@ module _ {D : Type 0} (g : Ghosts D) where
   abbrev pub HasRoom : List ℕ → Option (List ℕ → Place D) → Type 0
   HasRoom name places =
       IsSomeAnd places (λ p. IsSomeAnd (bytes_found g (p name)) (λ bytes. (¬ IsTaken bytes) × (¬ IsForeign bytes)))
+
+  -- of two names the one holds a journal of records that fit into one of the second format, and under the other is nothing, or what a copy of
+  -- them may begin on
+  abbrev pub CanBeCopied : List ℕ → List ℕ → Option (List ℕ → Place D) → Type 0
+  CanBeCopied from to places =
+      (from ≢ to) × IsSomeAnd places (λ p. (records : List Record) × HasKept (λ disk. IsSomeAnd (g.content disk) (StandsForAll records)) (p from)
+      × HasRecordRoom usual.journal_bytes records × IsSomeAnd (bytes_found g (p to)) (MayBegin records))
 
   -- what each command needs to find
   abbrev pub IsReady : Asked → Told D → Type 0
@@ -67,6 +77,7 @@ module _ {D : Type 0} (g : Ghosts D) where
   IsReady (Daily asked) found = HasSound asked.journal found.cabinet.places
   IsReady (Water asked) found = HasSound asked.journal found.cabinet.places
   IsReady (Notes asked) found = HasSound asked.journal found.cabinet.places × IsSomeAnd found.input.bytes IsNotes
+  IsReady (Migrate from to) found = CanBeCopied from to found.cabinet.places
 
 module _ {D : Type 0} (before after : Told D) where
   -- no fault of the input or of the output was counted, and none of the cabinet or of its disks
@@ -93,6 +104,7 @@ module _ {D : Type 0} (before after : Told D) where
   IsWell (Daily asked) = OutputIsWell × CabinetIsWell
   IsWell (Water asked) = OutputIsWell × CabinetIsWell
   IsWell (Notes asked) = StreamsAreWell × CabinetIsWell
+  IsWell (Migrate from to) = CabinetIsWell
 
 -- the command is done, or there was no memory
 abbrev pub IsDone : ℕ → Type 0

@@ -1,9 +1,10 @@
 -- What a run comes to, by what is asked: a row a command.
 use Rattle.std.specs.Prelude.{◌≡◌, ◌⊎◌, ℕ, List}
-use Rattle.command_words.specs.Words.{Asked, Init, Batch, Serve, Stations, Trial, Import, Daily, Water, Notes, IsAsked}
+use Rattle.command_words.specs.Words.{Asked, Init, Batch, Serve, Stations, Trial, Import, Daily, Water, Notes, Migrate, IsAsked}
 use Rattle.devices.specs.declared.disks.Disk.{Ghosts}
 use Rattle.commands.specs.Loading.{LoadsNotes, LoadsReadings, LoadsStations, loading_ending, notes_ending, readings_ending}
 use Rattle.commands.specs.Making.{Makes, making_ending}
+use Rattle.commands.specs.Migrating.{Migrates, migration_ending}
 use Rattle.commands.specs.Opening.{ending_over}
 use Rattle.commands.specs.Batch.{ServesInput, session_ending}
 use Rattle.commands.specs.Serving.{ServesConnections, serving_ending}
@@ -54,6 +55,7 @@ module _ {S K E C L P D : Type 0} (g : Ghosts D) (tell : World S K E C L P → T
   Does (Daily asked) before after = EndsBy (ending_over table_ending) (λ end. WritesDaily g tell asked end before after)
   Does (Water asked) before after = EndsBy (ending_over table_ending) (λ end. WritesWater g tell asked end before after)
   Does (Notes asked) before after = EndsBy (ending_over notes_ending) (λ end. LoadsNotes g tell asked end before after)
+  Does (Migrate from to) before after = EndsBy migration_ending (λ migrated. Migrates g tell from to migrated before after)
 
   -- A run of what is asked: how it ended, its status, its line, and what it did. Where there was no memory for the words it did nothing.
   pub record Runs (asked : Asked) (status : ℕ) (before after : World S K E C L P) : Type 0 where

@@ -9,7 +9,7 @@ use Rattle.rdb_records.specs.declared.faults.UnitFault.{UnitFault}
 use Rattle.rdb_records.specs.declared.faults.UnitFault.TheVariants as unit_faults
 use Rattle.commands.specs.Worlds.{Stream}
 use Rattle.commands.specs.declared.endings.Ending.{Ending}
-use Rattle.commands.specs.declared.endings.Ending.TheVariants.{Done, Usage, InputFault, OutputFault, DiskFault, NotAJournal, Damaged, NoMemory, DoorFault, Exists, Malformed, NotADocument, TooLong, UnitsRefused, UnitsTooLong, NotesRefused, NotesTooLong}
+use Rattle.commands.specs.declared.endings.Ending.TheVariants.{Done, Usage, InputFault, OutputFault, DiskFault, NotAJournal, Damaged, NoMemory, DoorFault, Exists, Malformed, NotADocument, TooLong, UnitsRefused, UnitsTooLong, NotesRefused, NotesTooLong, Differs, JournalFull}
 
 -- the status of an ending
 abbrev pub status_of : Ending → ℕ
@@ -26,6 +26,8 @@ status_of Exists = 8
 status_of (Malformed at) = 9
 status_of NotADocument = 9
 status_of TooLong = 10
+status_of (Differs number) = 11
+status_of JournalFull = 12
 status_of (UnitsRefused fault) = 13
 status_of UnitsTooLong = 13
 status_of (NotesRefused fault) = 14
@@ -72,6 +74,8 @@ line_of (UnitsRefused fault) = line (rdb_text (unit_code fault) (units.line_of f
 line_of UnitsTooLong = line (rdb_text (codes "Long") 0)
 line_of (NotesRefused fault) = line (notes_text (midsection.code_of fault) (midsection.record_of fault))
 line_of NotesTooLong = line (notes_text (codes "Long") 0)
+line_of (Differs number) = line (codes "journals differ at " ++ decimal number)
+line_of JournalFull = line (codes "journal full")
 
 -- the sink of faults has the line at its end, or where it failed a front of it
 abbrev pub IsReported : List ℕ → Stream → Stream → Type 0

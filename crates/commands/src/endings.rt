@@ -47,6 +47,10 @@ pub enum Ending {
     NotesRefused(NotesFault),
     /// The input is longer than the notes of a measurement may be.
     NotesTooLong,
+    /// The journal to which another is copied is of the first format, where the number is 0, or its record of this number is not the other's.
+    Differs(u64),
+    /// A journal would be longer than one may be.
+    JournalFull,
 }
 
 impl Ending {
@@ -75,6 +79,8 @@ impl Ending {
             Ending::Exists => 8,
             Ending::Malformed(_) | Ending::NotADocument => 9,
             Ending::TooLong => 10,
+            Ending::Differs(_) => 11,
+            Ending::JournalFull => 12,
             Ending::UnitsRefused(_) | Ending::UnitsTooLong => 13,
             Ending::NotesRefused(_) | Ending::NotesTooLong => 14,
         }
@@ -107,6 +113,10 @@ impl Ending {
             }
             Ending::NotesRefused(fault) => say_notes(faults, fault),
             Ending::NotesTooLong => say_code(faults, b"streamoffice: notes ", "Long", b" at ", 0),
+            Ending::Differs(number) => {
+                say_offset(faults, b"streamoffice: journals differ at ", number);
+            }
+            Ending::JournalFull => say(faults, b"streamoffice: journal full\n"),
         }
     }
 }
@@ -126,7 +136,7 @@ fn say<E: Sink>(faults: &mut E, line: &[u8])
     let _whole = put_all(faults, line);
 }
 
-/// Puts a line of words and an offset, or as much of it as the sink takes.
+/// Puts a line of words and an offset or a number, or as much of it as the sink takes.
 fn say_offset<E: Sink>(faults: &mut E, words: &[u8], at: u64)
     ensures { IsReported (words.now ++ (decimal at ++ 10 ∷ [])) (sink_told E.Sink faults.old) (sink_told E.Sink faults.new) }
 {

@@ -2,10 +2,10 @@
 
 ghost use Rattle.std.specs.Prelude.{◌≡◌, ◌⊎◌, ℕ, ◌+◌, ◌≤◌, List, [], ◌++◌, ◌∷◌, ℤ, IsSome, IsSomeAnd, count_by, length, map};
 ghost use mathlib.Core.List.{IsPrefix};
-ghost use Rattle.command_words.specs.Words.{Asked, Batch, Daily, DailyAsked, Import, ImportAsked, Init, Notes, NotesAsked, Serve, Stations, Trial, Water, WaterAsked};
+ghost use Rattle.command_words.specs.Words.{Asked, Batch, Daily, DailyAsked, Import, ImportAsked, Init, Migrate, Notes, NotesAsked, Serve, Stations, Trial, Water, WaterAsked};
 ghost use Rattle.commands.specs.Answered.{AreAnswered, AreServedWell};
 ghost use Rattle.commands.specs.Beside.{WorksBeside, ends_told};
-ghost use Rattle.commands.specs.Joined.{AreOneBehindAnother, AreOneCourse, BehindTheEnd, Has, HasOrLeaves, IsFrontOf, IsTold, IsUnplayed, LeavesFor, Plays, Run, StopsWithin, Stretch, Within, steps_of};
+ghost use Rattle.commands.specs.Joined.{AreOneBehindAnother, AreOneCourse, BehindTheEnd, Has, HasOrLeaves, IsFoundBy, IsFrontOf, IsTold, IsUnplayed, Plays, Run, StopsWithin, Stretch, Within, steps_of};
 ghost use Rattle.commands.specs.Opening.{Carries, LeadsTo};
 ghost use Rattle.commands.specs.Ready.{IsWellFormed};
 ghost use Rattle.commands.specs.Runs.{Runs};
@@ -30,6 +30,7 @@ ghost use Rattle.office.specs.Counting.{fault_count};
 ghost use Rattle.office.specs.Steps.{GoesOver, Step, added};
 ghost use Rattle.office_inputs.specs.Usual.{usual};
 ghost use Rattle.records.specs.Sheets.{Record};
+ghost use Rattle.records.specs.declared.formats.Format.{Format};
 ghost use Rattle.register.specs.Registered.{NoneOut, Registered};
 ghost use Rattle.serving.specs.Crews.{IsWorkIn};
 ghost use Rattle.serving.specs.Failing.{failed_in};
@@ -95,11 +96,14 @@ pub fn an_input_that_is_not_read_adds_nothing<
         → (status ≡ 2) ⊎ (status ≡ 14) → after.output ≡ before.output }
 {}
 
-/// `init` touches the cabinet alone, and `trial` the output alone; `daily` and `water` touch both, and neither the input nor the doors. Beside
+/// `init` and `migrate` touch the cabinet alone, and `trial` the output alone; `daily` and `water` touch both, and neither the input nor the doors. Beside
 /// all stands only the line on the sink of faults.
 pub fn what_a_command_leaves_alone<S: Source, K: Sink, E: Sink, C: Cabinet, L: Doors, P: Spawner>()
     ensures init { (name : List ℕ) (status : ℕ) (before after : World S K E C L P)
         → Runs C.Disk.Disk (told_by S.Source K.Sink E.Sink C.Cabinet L.Doors P.Spawner) (Init name) status before after
+        → StreamsStay before after × DoorsStay before after }
+    ensures migrate { (from to : List ℕ) (status : ℕ) (before after : World S K E C L P)
+        → Runs C.Disk.Disk (told_by S.Source K.Sink E.Sink C.Cabinet L.Doors P.Spawner) (Migrate from to) status before after
         → StreamsStay before after × DoorsStay before after }
     ensures trial { (number status : ℕ) (before after : World S K E C L P)
         → Runs C.Disk.Disk (told_by S.Source K.Sink E.Sink C.Cabinet L.Doors P.Spawner) (Trial number) status before after
@@ -124,14 +128,14 @@ pub fn each_503_of_a_run_has_its_fault<D: Disk>()
 /// No more replies of a run are 503 than the disk that is left has counted faults, unless its count stands at the end of its type: those of a
 /// session that nobody works beside, those of one beside workers, and those of all connections of `serve` together.
 pub fn no_more_503s_than_faults<D: Disk>()
-    ensures alone { (pieces : List Record) (last : History) (found left : D) (messages : List Message) (replies : List (List ℕ))
-        → AreReplies (reopen usual pieces) messages replies last → Carries D.Disk pieces last found left
+    ensures alone { (format : Format) (pieces : List Record) (last : History) (found left : D) (messages : List Message)
+        (replies : List (List ℕ)) → AreReplies (reopen usual format pieces) messages replies last → Carries D.Disk pieces last found left
         → RoseBy (count_by tells_fault replies) 0 (D.faults left) }
-    ensures beside { (pieces : List Record) (last : History) (found left : D) (workers : ℕ) (came went : Ends) (end : SessionEnd)
-        (worked : WorksBeside D.Disk workers came went end (reopen usual pieces) last) → LeadsTo D.Disk pieces last found left
+    ensures beside { (format : Format) (pieces : List Record) (last : History) (found left : D) (workers : ℕ) (came went : Ends) (end : SessionEnd)
+        (worked : WorksBeside D.Disk workers came went end (reopen usual format pieces) last) → LeadsTo D.Disk pieces last found left
         → RoseBy (failed_in worked.beside.ends_in) 0 (D.faults left) }
-    ensures serve { (pieces : List Record) (last : History) (found left : D) (workers : ℕ) (told : Connections)
-        (served : AreServedBeside D.Disk workers told (reopen usual pieces) last) → LeadsTo D.Disk pieces last found left
+    ensures serve { (format : Format) (pieces : List Record) (last : History) (found left : D) (workers : ℕ) (told : Connections)
+        (served : AreServedBeside D.Disk workers told (reopen usual format pieces) last) → LeadsTo D.Disk pieces last found left
         → RoseBy (failed_beside served) 0 (D.faults left) }
 {}
 
@@ -161,21 +165,21 @@ pub fn a_batch_is_a_run<S: Source, K: Sink, E: Sink, C: Cabinet, L: Doors, P: Sp
 /// it, and nowhere else. In place of both may stand the reply of want of memory.
 pub fn a_run_tells_days_truly()
     ensures day { (run : Run) (old : Registered) (before behind : List Message) (message : Message) (told more : List (List ℕ)) (reply : List ℕ)
-        (site : SiteNumber) (day : ℤ) → old.history ≡ reopen usual run.found → NoneOut old → run.messages ≡ before ++ message ∷ behind
-        → run.replies ≡ told ++ reply ∷ more → length told ≡ length before → Asks message (asks.DayOf site day)
+        (site : SiteNumber) (day : ℤ) → old.history ≡ reopen usual run.last.format run.found → NoneOut old
+        → run.messages ≡ before ++ message ∷ behind → run.replies ≡ told ++ reply ∷ more → length told ≡ length before → Asks message (asks.DayOf site day)
         → (mid new : Registered) × (first rest : List Step) × IsCourse old (first ++ rest) run.messages run.replies new
         × (new.history ≡ run.last) × IsCourse old first before told mid × TellsDay (map edit_of run.found ++ added first) site day reply }
     ensures table { (run : Run) (old : Registered) (before behind : List Message) (message : Message) (told more : List (List ℕ)) (reply : List ℕ)
-        (site : SiteNumber) (from to : ℤ) → old.history ≡ reopen usual run.found → NoneOut old → run.messages ≡ before ++ message ∷ behind
-        → run.replies ≡ told ++ reply ∷ more → length told ≡ length before → Asks message (asks.Daily site from to)
+        (site : SiteNumber) (from to : ℤ) → old.history ≡ reopen usual run.last.format run.found → NoneOut old
+        → run.messages ≡ before ++ message ∷ behind → run.replies ≡ told ++ reply ∷ more → length told ≡ length before → Asks message (asks.Daily site from to)
         → (mid new : Registered) × (first rest : List Step) × IsCourse old (first ++ rest) run.messages run.replies new
         × (new.history ≡ run.last) × IsCourse old first before told mid × TellsDays (map edit_of run.found ++ added first) site from to reply }
 {}
 
 /// What is left of a run is what the next one finds: where the journal that the next run opens has what the first one left, or what a stop
-/// left of it then, its records are those of the edits that the first one accepted, and of at most one more. Where it has what a stop left at
-/// some moment of the first run since its opening sync, they are those that the first one found, with those of a front of the edits that it
-/// accepted, and of at most one more; a stop before that sync left what it might have left before the run.
+/// left of it then, its records are those of the edits that the first one accepted, and of at most one more, in the same format. Where it has
+/// what a stop left at some moment of the first run since its opening sync, they are those that the first one found, with those of a front of
+/// the edits that it accepted, and of at most one more; a stop before that sync left what it might have left before the run.
 pub fn the_next_run_finds_what_was_left<
     S: Source,
     K: Sink,
@@ -188,7 +192,7 @@ pub fn the_next_run_finds_what_was_left<
         → Plays C.Disk.Disk name (told_by S.Source K.Sink E.Sink C.Cabinet L.Doors P.Spawner) first before after
         → Plays C.Disk.Disk name (told_by S.Source K.Sink E.Sink C.Cabinet L.Doors P.Spawner) second again done
         → IsTold C.Disk.Disk name (shelf C.Cabinet before.cabinet) → HasOrLeaves C.Disk.Disk name image (shelf C.Cabinet after.cabinet)
-        → Has C.Disk.Disk name image (shelf C.Cabinet again.cabinet) → LeavesFor BehindTheEnd first second.found }
+        → Has C.Disk.Disk name image (shelf C.Cabinet again.cabinet) → IsFoundBy BehindTheEnd first second }
     ensures edits { (name : List ℕ) (first second : Run) (before after again done : World S K E C L P) (image : List ℕ)
         → Plays C.Disk.Disk name (told_by S.Source K.Sink E.Sink C.Cabinet L.Doors P.Spawner) first before after
         → Plays C.Disk.Disk name (told_by S.Source K.Sink E.Sink C.Cabinet L.Doors P.Spawner) second again done
@@ -198,18 +202,20 @@ pub fn the_next_run_finds_what_was_left<
     ensures stopped { (name : List ℕ) (first second : Run) (before after again done : World S K E C L P)
         → Plays C.Disk.Disk name (told_by S.Source K.Sink E.Sink C.Cabinet L.Doors P.Spawner) first before after
         → Plays C.Disk.Disk name (told_by S.Source K.Sink E.Sink C.Cabinet L.Doors P.Spawner) second again done
-        → StopsWithin C.Disk.Disk name first second.found (shelf C.Cabinet before.cabinet) (shelf C.Cabinet after.cabinet) (shelf C.Cabinet again.cabinet) }
+        → StopsWithin C.Disk.Disk name first second (shelf C.Cabinet before.cabinet) (shelf C.Cabinet after.cabinet) (shelf C.Cabinet again.cabinet) }
 {}
 
 /// Over runs one behind another, each of which finds what a stop left of the one before, behind its end or within, the records that the first
 /// one found stay at the front, and so do those of all edits that a run had accepted which was stopped behind its end, and of one that was
 /// stopped within those that it found, with those of a front of the edits that it would have accepted, and of at most one more.
 pub fn accepted_edits_stay_over_runs()
-    ensures found { (found next : List Record) (runs : List Stretch) → AreOneBehindAnother found runs next → IsPrefix found next }
-    ensures ended { (found next : List Record) (first others : List Stretch) (run : Run)
-        → AreOneBehindAnother found (first ++ record { run = run; stop = BehindTheEnd } ∷ others) next → IsPrefix (accepted run.last.events) next }
-    ensures within { (found next : List Record) (first others : List Stretch) (run : Run)
-        → AreOneBehindAnother found (first ++ record { run = run; stop = Within } ∷ others) next
+    ensures found { (format : Format) (found next : List Record) (runs : List Stretch) → AreOneBehindAnother format found runs next
+        → IsPrefix found next }
+    ensures ended { (format : Format) (found next : List Record) (first others : List Stretch) (run : Run)
+        → AreOneBehindAnother format found (first ++ record { run = run; stop = BehindTheEnd } ∷ others) next
+        → IsPrefix (accepted run.last.events) next }
+    ensures within { (format : Format) (found next : List Record) (first others : List Stretch) (run : Run)
+        → AreOneBehindAnother format found (first ++ record { run = run; stop = Within } ∷ others) next
         → (mid : List Record) × IsFrontOf run mid × IsPrefix mid next }
 {}
 
@@ -217,10 +223,10 @@ pub fn accepted_edits_stay_over_runs()
 /// that was opened on the records that it found, in each of which its message was replied to, and of which the first were done before the stop,
 /// all of them where it came behind the end. These calls, the stops and the openings lead over all of the runs.
 pub fn runs_are_one_course()
-    ensures course { (found next : List Record) (runs : List Stretch) (old : Registered) → AreOneBehindAnother found runs next
-        → old.history ≡ reopen usual found → NoneOut old → IsLegal old.history → AreOneCourse old runs next }
+    ensures course { (format : Format) (found next : List Record) (runs : List Stretch) (old : Registered)
+        → AreOneBehindAnother format found runs next → old.history ≡ reopen usual format found → NoneOut old → IsLegal old.history → AreOneCourse old runs next }
     ensures over { (next : List Record) (runs : List Stretch) (old : Registered) (are : AreOneCourse old runs next)
-        → (new : Registered) × GoesOver old (steps_of old runs next are) new × (new.history ≡ reopen usual next) }
+        → (new : Registered) × GoesOver old (steps_of old runs next are) new × (new.history ≡ reopen usual old.history.format next) }
 {}
 
 /// Where a run of `batch` or of `serve` is done and no fault of the cabinet was counted, no reply tells that the journal failed. An input of
@@ -240,16 +246,18 @@ pub fn where_no_fault_is_counted_each_request_is_answered<
         → ¬ (Rose (C.faults before.cabinet) (C.faults after.cabinet))
         → (pieces : List Record) × (last : History)
         × AreAnswered C.Disk.Disk workers (ends_told (source_told S.Source before.input) (sink_told K.Sink before.output))
-        (ends_told (source_told S.Source after.input) (sink_told K.Sink after.output)) (reopen usual pieces) last }
+        (ends_told (source_told S.Source after.input) (sink_told K.Sink after.output)) (reopen usual last.format pieces) last }
     ensures serve { (name : List ℕ) (port workers connections : ℕ) (before after : World S K E C L P)
         → Runs C.Disk.Disk (told_by S.Source K.Sink E.Sink C.Cabinet L.Doors P.Spawner) (Serve name port workers connections) 0 before after
         → ¬ (Rose (C.faults before.cabinet) (C.faults after.cabinet))
-        → (pieces : List Record) × (last : History) × AreServedWell C.Disk.Disk workers (L.told after.doors) (reopen usual pieces) last }
+        → (pieces : List Record) × (last : History)
+        × AreServedWell C.Disk.Disk workers (L.told after.doors) (reopen usual last.format pieces) last }
     ensures doors_failed { (name : List ℕ) (port workers connections : ℕ) (before after : World S K E C L P)
         → Runs C.Disk.Disk (told_by S.Source K.Sink E.Sink C.Cabinet L.Doors P.Spawner) (Serve name port workers connections) 7 before after
         → ¬ (Rose (C.faults before.cabinet) (C.faults after.cabinet))
-        → (pieces : List Record) × (last : History) × (AreServedWell C.Disk.Disk workers (L.told after.doors) (reopen usual pieces) last
-        ⊎ IsUnserved serving.DoorFault (doorway L.Doors before.doors) (doorway L.Doors after.doors) (reopen usual pieces) last) }
+        → (pieces : List Record) × (last : History)
+        × (AreServedWell C.Disk.Disk workers (L.told after.doors) (reopen usual last.format pieces) last
+        ⊎ IsUnserved serving.DoorFault (doorway L.Doors before.doors) (doorway L.Doors after.doors) (reopen usual last.format pieces) last) }
     ensures connection { (fixed : Fixed) (came went : Ends) (start : ℕ) (list : List Entry) (places : List ℕ)
         (served : Served fixed came went start list places) → IsSomeAnd came.left IsWellFormed → IsSome came.written
         → ¬ (Rose came.input_faults went.input_faults) → ¬ (Rose came.output_faults went.output_faults)

@@ -10,6 +10,7 @@ pub mod endings;
 pub mod laws;
 mod loading;
 mod making;
+mod migrating;
 mod opening;
 mod sharing;
 mod tables;

@@ -1,4 +1,4 @@
-//! `init`: a journal of no records is made under a name of a cabinet.
+//! `init`: a journal of no records, of the second format, is made under a name of a cabinet.
 
 ghost use Rattle.std.specs.Prelude.{◌≡◌, ◌≤◌, IfSome};
 ghost use Rattle.commands.specs.Making.{HasFailed, IsMadeUnder, MakesOn};
@@ -10,6 +10,7 @@ ghost use Rattle.journal.specs.Moments.{LeavesOnly};
 use crate::endings::Ending;
 use devices::{Cabinet, Disk, Opened};
 use journal::InitFault;
+use records::Format;
 
 impl From<Result<(), InitFault>> for Ending {
     ghost use Rattle.std.specs.Prelude.{◌≡◌};
@@ -50,6 +51,6 @@ fn make_on<D: Disk>(disk: D) -> (Result<(), InitFault>, D)
     ensures counted { D.faults disk ≤ D.faults result.1 }
 {
     let mut disk = disk;
-    let made = journal::init(&mut disk);
+    let made = journal::init(&mut disk, Format::Second);
     (made, disk)
 }

@@ -15,6 +15,7 @@ use crate::connections::{self, serve_connections};
 use crate::endings::Ending;
 use crate::loading::{import_input, load_input, note_input};
 use crate::making::make_journal;
+use crate::migrating::migrate_journal;
 use crate::tables::{write_daily, write_water};
 use crate::trying::write_trial;
 use command_words::{Command, WordsFault, read_words};
@@ -28,17 +29,19 @@ use std::time::Clock;
 /// the replies, with each edit in the journal before its reply, beside as many workers as are asked for; `serve` does so for as many connections
 /// of the doors; `stations` adds the stations of the document on the input and writes a line of each; `import` puts the readings of a text of unit
 /// values, and `notes` the measurement that notes tell of, each with the lines of what became of it; `daily` and `water` write the daily values of
-/// a site and the table of a water year, behind so many turns. `trial` asks the made-up record of a number of an office over a disk in memory, and
-/// writes its six figures.
+/// a site and the table of a water year, behind so many turns; `migrate` copies the journal of one name into one of the second format under
+/// another; `trial` asks the made-up record of a number of an office over a disk in memory, and writes its six figures.
 ///
 /// The doors have given no connection. Threads are started by the spawner, for workers and connections alone, and each worker passes a gate of
 /// its own. What is answered is the status of the program: 0 where the command is done, for `batch` at the input's end, for `serve` once all
 /// connections were served; 1 exactly where the words are no command; 2 and 3 where the input or the output failed; 4 where the disk failed while
-/// the journal was made or opened; 5 where there is no journal, or a damaged one; 6 where there was no memory to begin, for `serve` before the
-/// first connection, or for the trial; 7 where the doors failed; 8 where `init` finds a journal; 9 at what is no well framed request, or where the
-/// whole input is no document of stations; 10 where 2^36 bytes of the input of `batch` were taken and more was needed. A line on `faults` names
-/// every status but 0; a sink of faults that fails changes nothing. A disk that fails at an edit ends nothing: the reply or line says so, and the
-/// run goes on. A connection's own faults end that connection alone.
+/// the journal was made, opened or copied; 5 where there is no journal, or a damaged one; 6 where there was no memory to begin, for `serve` before the
+/// first connection, for `stations`, `import` and `notes` before the first edit is asked, and for `daily`, `water`, `migrate` and the trial at any
+/// step; 7 where the doors failed; 8 where `init` finds a journal; 9 at what is no well framed request, or where the whole input is no document of
+/// stations; 10 where 2^36 bytes of the input of `batch` were taken and more was needed; 11 and 12 where `migrate` finds another journal, or one too
+/// long; 13 where the text of `import` is no unit values of the site, and 14 where that of `notes` is no notes, or where either is longer than it
+/// may be. A line on `faults` names every status but 0; a sink of faults that fails changes nothing. A disk that fails at an edit ends nothing: the
+/// reply or line says so, and the run goes on. A connection's own faults end that connection alone.
 ///
 /// Each disk that the cabinet gave is under its name again, and one that had faults is one fault more in the cabinet's count.
 pub fn run_office<
@@ -170,6 +173,10 @@ where
         Command::Notes(ref order) => {
             let end = note_input(alloc, cabinet, order, input, output);
             Ending::from(end).finish(faults)
+        }
+        Command::Migrate { from, journal } => {
+            let migrated = migrate_journal(alloc, cabinet, from, journal);
+            Ending::from(migrated).finish(faults)
         }
     }
 }

@@ -1,5 +1,6 @@
 //! Journals, which `journal` makes and opens.
 
+use crate::copies::{copy, stops};
 use crate::escapes::{push_counted, push_shown};
 use crate::memory::{bytes_of, disk, push_calls};
 use crate::reads::{count, push_fault, push_found, read_some};
@@ -7,10 +8,12 @@ use crate::written::push_record;
 use devices::MemoryDisk;
 use fixed_units::{NoMemory, Text};
 use journal::laws::{
-    begun_is_made_anew, damaged_at_one_gate, empty_journal_has_no_records, no_journal_is_damaged,
-    nothing_else_has_the_header, one_record_more, stands_for_one_list,
+    begun_is_made_anew, damaged_at_one_gate, empty_journal_has_no_records, has_one_format,
+    no_journal_is_damaged, nothing_else_has_the_header, one_record_more, stands_for_one_list,
 };
 use journal::{InitFault, OpenFault, Opening, init, open};
+use migration::laws::{a_copy_that_may_begin_is_not_barred, what_a_copy_leaves_is_a_front};
+use records::Format;
 use row_lines::parted;
 use std::alloc::Global;
 
@@ -22,6 +25,8 @@ pub fn answer(alloc: Global, word: &str, rest: &str, came: &mut Text) -> Result<
         "open" => open_failing(alloc, rest, came),
         "reads" => reads(alloc, rest, came),
         "written" => push_record(alloc, rest, came),
+        "copy" => copy(alloc, rest, came),
+        "stops" => stops(alloc, rest, came),
         "laws" => laws(came),
         _ => came.push_slice(b"no such call"),
     }
@@ -29,6 +34,7 @@ pub fn answer(alloc: Global, word: &str, rest: &str, came: &mut Text) -> Result<
 
 /// `laws`: calls the laws of what a journal is, of which a call does nothing: what they say is for proofs.
 fn laws(came: &mut Text) -> Result<(), NoMemory> {
+    has_one_format();
     stands_for_one_list();
     no_journal_is_damaged();
     damaged_at_one_gate();
@@ -36,37 +42,41 @@ fn laws(came: &mut Text) -> Result<(), NoMemory> {
     one_record_more();
     empty_journal_has_no_records();
     begun_is_made_anew();
+    a_copy_that_may_begin_is_not_barred();
+    what_a_copy_leaves_is_a_front();
     came.push_slice(b"called")
 }
 
-/// `make FAILING COUNT BYTES`: what comes of so many makings of a journal over a disk, and its bytes then.
+/// The format of the journals that begin with `STREAMOFFICE-` and this word.
+pub fn format_named(word: &str) -> Option<Format> {
+    match word {
+        "J1" => Some(Format::First),
+        "J2" => Some(Format::Second),
+        _ => None,
+    }
+}
+
+/// `make FORMAT FAILING COUNT BYTES`: what comes of so many makings of a journal of a format over a disk, and its bytes then.
 fn make(alloc: Global, rest: &str, came: &mut Text) -> Result<(), NoMemory> {
+    let (name, rest) = parted(rest);
     let (failing, rest) = parted(rest);
     let (count, text) = parted(rest);
     let bytes = bytes_of(alloc, text)?;
-    make_over(
-        alloc,
-        bytes.as_slice(),
-        failing,
-        count.parse().unwrap_or(0),
-        came,
-    )
+    let mut made = disk(alloc, bytes.as_slice(), failing)?;
+    match format_named(name) {
+        Some(format) => make_all(&mut made, format, count.parse().unwrap_or(0), came),
+        None => came.push_slice(b"no such format"),
+    }
 }
 
-fn make_over(
-    alloc: Global,
-    bytes: &[u8],
-    failing: &str,
+fn make_all(
+    made: &mut MemoryDisk,
+    format: Format,
     count: u32,
     came: &mut Text,
 ) -> Result<(), NoMemory> {
-    let mut made = disk(alloc, bytes, failing)?;
-    make_all(&mut made, count, came)
-}
-
-fn make_all(made: &mut MemoryDisk, count: u32, came: &mut Text) -> Result<(), NoMemory> {
     for _ in 0..count {
-        came.push_slice(text_of(init(made)))?;
+        came.push_slice(text_of(init(made, format)))?;
     }
     push_shown(made.bytes(), came)
 }

@@ -4,6 +4,7 @@
 mod act_blocks;
 mod appends;
 mod cabinets;
+mod copies;
 mod disks;
 mod documents;
 mod escapes;

@@ -5,7 +5,7 @@ use crate::memory::disk;
 use devices::MemoryDisk;
 use fixed_units::{NoMemory, Text};
 use journal::{OpenFault, Opening, open};
-use records::{Record, encode};
+use records::{Format, Record, encode};
 use std::alloc::Global;
 
 /// What comes of a read.
@@ -30,8 +30,11 @@ fn stands(bytes: &[u8], gate: u64, text: &[u8]) -> bool {
     behind.starts_with(text)
 }
 
-fn look_behind(alloc: Global, bytes: &[u8], gate: u64, piece: &Record) -> Came {
-    match encode(alloc, piece) {
+fn look_behind(alloc: Global, bytes: &[u8], gate: u64, piece: &Record, format: Format) -> Came {
+    if !format.holds(&piece.edit().comment) {
+        return Came::Other;
+    }
+    match encode(alloc, piece, format) {
         Ok(text) if stands(bytes, gate, text.as_slice()) => Came::Record,
         Ok(_) => Came::Other,
         Err(_) => Came::NoMemory,
@@ -41,7 +44,7 @@ fn look_behind(alloc: Global, bytes: &[u8], gate: u64, piece: &Record) -> Came {
 /// Reads a journal of these bytes on.
 fn read(alloc: Global, opening: &mut Opening<MemoryDisk>, bytes: &[u8]) -> Came {
     match opening.next(alloc) {
-        Ok(Some(piece)) => look_behind(alloc, bytes, opening.offset(), &piece),
+        Ok(Some(piece)) => { look_behind(alloc, bytes, opening.offset(), &piece, opening.format()) }
         Ok(None) => Came::End,
         Err(fault) => Came::Fault(fault),
     }

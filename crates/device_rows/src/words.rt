@@ -66,12 +66,18 @@ fn push_command(command: &Command<'_>, came: &mut Text) -> Result<(), NoMemory> 
         Command::Daily(ref order) => push_daily(order, came),
         Command::Water(ref order) => push_water(order, came),
         Command::Notes(ref order) => push_notes(order, came),
+        Command::Migrate { from, journal } => push_migrate(from, journal, came),
     }
 }
 
 fn push_batch(journal: &str, workers: u32, came: &mut Text) -> Result<(), NoMemory> {
     push_named(b"batch ", journal, came)?;
     push_counted(b" workers ", u64::from(workers), came)
+}
+
+fn push_migrate(from: &str, journal: &str, came: &mut Text) -> Result<(), NoMemory> {
+    push_named(b"migrate ", from, came)?;
+    push_named(b" to ", journal, came)
 }
 
 fn push_serve(journal: &str, numbers: [u32; 3], came: &mut Text) -> Result<(), NoMemory> {

@@ -1,25 +1,38 @@
 //! The records of two edits, as they are written.
 
 use crate::escapes::push_shown;
+use crate::journals::format_named;
 use edits::{By, Edit, Name, Ref, What};
 use fixed_units::{Flag, Micro, NoMemory, Reading, RoundingArray, Second, Site, Text};
 use readings::ReadingList;
-use records::{Record, SheetList, encode_and_close};
+use records::{Format, Record, SheetList, encode_and_close};
 use row_lines::parted;
 use std::alloc::Global;
 
-/// `addition REFERENCE` or `reading REFERENCE`: the record of the edit by `AB` at the site 01646500 under that reference, with a gate behind
-/// it.
+/// `FORMAT addition REFERENCE` or `FORMAT reading REFERENCE`: the record of the edit by `AB` at the site 01646500 under that reference,
+/// without a comment, with a gate behind it.
 pub fn push_record(alloc: Global, rest: &str, came: &mut Text) -> Result<(), NoMemory> {
+    let (name, rest) = parted(rest);
     let (change, reference) = parted(rest);
-    match record(alloc, reference.as_bytes(), change) {
-        Some(piece) => push_written(alloc, &piece, came),
-        None => came.push_slice(b"no record"),
+    match (
+        format_named(name),
+        record(alloc, reference.as_bytes(), change),
+    ) {
+        (Some(format), Some(piece)) => push_written(alloc, &piece, format, came),
+        _ => came.push_slice(b"no record"),
     }
 }
 
-fn push_written(alloc: Global, piece: &Record, came: &mut Text) -> Result<(), NoMemory> {
-    let bytes = encode_and_close(alloc, piece)?;
+fn push_written(
+    alloc: Global,
+    piece: &Record,
+    format: Format,
+    came: &mut Text,
+) -> Result<(), NoMemory> {
+    if !format.holds(&piece.edit().comment) {
+        return came.push_slice(b"not held");
+    }
+    let bytes = encode_and_close(alloc, piece, format)?;
     push_shown(bytes.as_slice(), came)
 }
 

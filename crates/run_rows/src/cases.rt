@@ -5,7 +5,7 @@ use crate::objects::{Ran, cabinet_of, ran_over};
 use crate::rows::{asked_in, head_of, says, told};
 use crate::streams::{Side, push_stream};
 use crate::texts::{At, number_of, push_bytes, push_shown, push_text};
-use devices::{MemoryCabinet, MemoryDoors, MemoryEnds, MemorySink};
+use devices::{MemoryCabinet, MemoryDisk, MemoryDoors, MemoryEnds, MemorySink};
 use fixed_units::{NoMemory, Text};
 use std::alloc::Global;
 use std::sync::Wait;
@@ -87,13 +87,15 @@ fn play_case<R: Threads + Wait + Clock + Copy + Drop + Send + 'static>(
     }
 }
 
-/// What a row lacks. One in which calls of the disk fail must tell what the disk has then, which is seldom what it had, and one in which any
+/// What a row lacks. One in which calls of a disk fail must tell what the disk has then, which is seldom what it had, and one in which any
 /// call fails how many faults the cabinet counts.
 fn flaw_of(row: &str) -> &'static str {
     if !row.contains("\nrun") {
         "without a run, it is"
-    } else if row.contains("\nfail disk") && !has_disk(row) {
+    } else if row.contains("\nfail disk") && !tells_both(row, "journal ", "left ") {
         "without a journal and what is left, it is"
+    } else if row.contains("\nfail copy") && !tells_both(row, "copy ", "copied ") {
+        "without a copy and what is copied, it is"
     } else if fails(row) && told(row, "faults ").is_empty() {
         "without the count of faults, it is"
     } else {
@@ -101,12 +103,13 @@ fn flaw_of(row: &str) -> &'static str {
     }
 }
 
-fn has_disk(row: &str) -> bool {
-    !told(row, "journal ").is_empty() && !told(row, "left ").is_empty()
+/// Whether a row tells what a disk has before and behind its runs.
+fn tells_both(row: &str, before: &str, behind: &str) -> bool {
+    !told(row, before).is_empty() && !told(row, behind).is_empty()
 }
 
 fn fails(row: &str) -> bool {
-    row.contains("\nfail disk") || row.contains("\nfail cabinet")
+    row.contains("\nfail disk") || row.contains("\nfail copy") || row.contains("\nfail cabinet")
 }
 
 /// What of the runs over a cabinet is not as due.
@@ -254,10 +257,13 @@ fn judge_cabinet(
     if !is_as_called(row, cabinet, room)? {
         return Ok("the count of calls is");
     }
-    if is_left(file, row, cabinet, room)? {
+    if !is_left(file, told(row, "left "), cabinet.disk("J"), room)? {
+        return Ok("what is left is");
+    }
+    if is_left(file, told(row, "copied "), cabinet.disk("G"), room)? {
         Ok("")
     } else {
-        Ok("what is left is")
+        Ok("what is copied is")
     }
 }
 
@@ -279,15 +285,14 @@ fn is_as_called(row: &str, cabinet: &MemoryCabinet, room: &mut Room) -> Result<b
     }
 }
 
-/// Whether what is due stands under `J`, where that is told.
+/// Whether a disk has what is due, where that is told.
 fn is_left(
     file: &str,
-    row: &str,
-    cabinet: &MemoryCabinet,
+    left: &str,
+    disk: Option<&MemoryDisk>,
     room: &mut Room,
 ) -> Result<bool, NoMemory> {
-    let left = told(row, "left ");
-    match cabinet.disk("J") {
+    match disk {
         _ if left.is_empty() => Ok(true),
         None => Ok(left == "nothing"),
         Some(_) if left == "nothing" => Ok(false),

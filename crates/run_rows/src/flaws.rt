@@ -60,8 +60,8 @@ fn is_of_head(word: &str, rest: &str) -> bool {
 fn is_of_row(file: &str, word: &str, rest: &str) -> bool {
     match word {
         "run" => true,
-        "journal" => are_bytes(file, rest),
-        "fail" => are_calls(rest, "disk cabinet"),
+        "journal" | "copy" => are_bytes(file, rest),
+        "fail" => are_calls(rest, "disk copy cabinet"),
         _ => false,
     }
 }
@@ -89,7 +89,7 @@ fn is_of_streams(file: &str, word: &str, rest: &str) -> bool {
         "run" => true,
         ">" => are_named(file, rest),
         "<" => is_status(parted(rest).0) && are_named(file, rest),
-        "left" => rest == "nothing" || are_bytes(file, rest),
+        "left" | "copied" => rest == "nothing" || are_bytes(file, rest),
         "unread" | "or" | "connection" => rest.is_empty(),
         _ => is_counted(word, rest) || is_raw(word) && are_named(file, rest),
     }
@@ -150,7 +150,7 @@ fn is_status(word: &str) -> bool {
 /// Whether each of these words stands for bytes.
 fn are_bytes(file: &str, words: &str) -> bool {
     for word in words.split(' ') {
-        if !is_among(word, "header closed empty") && !is_named_or_digits(file, word) {
+        if !is_among(word, "header second-header closed empty") && !is_named_or_digits(file, word) {
             return false;
         }
     }

@@ -1,4 +1,4 @@
-//! The objects of a run: its words, a source, two sinks, a disk in a cabinet, and doors at which connections wait.
+//! The objects of a run: its words, a source, two sinks, the disks in a cabinet, and doors at which connections wait.
 
 ghost use Rattle.std.specs.Prelude.{◌<◌, ◌≡◌, [], IfOk};
 ghost use Rattle.devices.specs.MemoryDoors.{told_in_memory};
@@ -36,35 +36,30 @@ pub struct Ran {
 pub fn cabinet_of(alloc: Global, file: &str, row: &str) -> Result<MemoryCabinet, NoMemory> {
     let failing = numbers(alloc, told(row, "fail cabinet "))?;
     let mut cabinet = MemoryCabinet::new(alloc, failing);
-    let journal = told(row, "journal ");
-    if !journal.is_empty() {
-        insert(alloc, file, row, &mut cabinet)?;
+    if let Some(disk) = disk_of(alloc, file, told(row, "journal "), told(row, "fail disk "))? {
+        cabinet.insert("J", disk)?;
+    }
+    if let Some(disk) = disk_of(alloc, file, told(row, "copy "), told(row, "fail copy "))? {
+        cabinet.insert("G", disk)?;
     }
     Ok(cabinet)
 }
 
-/// Puts the disk of a row under `J`.
-fn insert(
+/// The disk that has these bytes, whose calls of these numbers fail; none where none are told.
+fn disk_of(
     alloc: Global,
     file: &str,
-    row: &str,
-    cabinet: &mut MemoryCabinet,
-) -> Result<(), NoMemory> {
-    let disk = disk_of(alloc, file, row)?;
-    cabinet.insert("J", disk)?;
-    Ok(())
-}
-
-fn disk_of(alloc: Global, file: &str, row: &str) -> Result<MemoryDisk, NoMemory> {
-    let before = before_of(alloc, file, row)?;
-    let failing = numbers(alloc, told(row, "fail disk "))?;
-    Ok(MemoryDisk::new(alloc, before, failing)?)
-}
-
-fn before_of(alloc: Global, file: &str, row: &str) -> Result<Vec<u8>, NoMemory> {
+    words: &str,
+    failing: &str,
+) -> Result<Option<MemoryDisk>, NoMemory> {
+    if words.is_empty() {
+        return Ok(None);
+    }
     let mut before = Text::new(alloc);
-    push_bytes(file, told(row, "journal "), &mut before)?;
-    Ok(before.into_vec())
+    push_bytes(file, words, &mut before)?;
+    let failing = numbers(alloc, failing)?;
+    let disk = MemoryDisk::new(alloc, before.into_vec(), failing)?;
+    Ok(Some(disk))
 }
 
 /// The numbers of a line.

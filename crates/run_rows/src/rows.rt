@@ -3,8 +3,9 @@
 //!
 //! - `#` says something to the reader; `text NAME TEXT` and `let NAME DIGITS` name what stands in more than one row.
 //! - `== NAME` begins a row: a cabinet, and the runs over it, one behind another.
-//! - `journal BYTES` is what stands under `J` before; without it nothing does. `fail cabinet N ..` and `fail disk N ..` are the calls of the
-//!   cabinet and of that disk that fail, counted from 1; such a row tells the count of faults.
+//! - `journal BYTES` is what stands under `J` before, and `copy BYTES` what stands under `G`; without them nothing does. `fail cabinet N ..`,
+//!   `fail disk N ..` and `fail copy N ..` are the calls of the cabinet, of the disk under `J` and of the one under `G` that fail, counted from
+//!   1; such a row tells the count of faults.
 //! - `run WORDS` begins a run by these words; `''` is a word without letters. `fail input N ..`, `fail output N ..` and `fail faults N ..` are
 //!   the calls of its streams that fail, and `piece N` the most bytes that one of them moves.
 //! - `> METHOD TARGET TEXT` is a request with that body, and `>> TEXT` are bytes of the input; `>>N TEXT` are so many times those bytes.
@@ -18,8 +19,9 @@
 //!   connections are given; without it none is.
 //! - `connection` begins, behind all of these, a connection that waits at the doors, with requests, replies, `fail input`, `fail output`,
 //!   `piece`, `repeat` and `unread` of its own.
-//! - Behind the runs: `left BYTES` is what stands under `J` then, and `left nothing` that nothing does; it may lack where no call of the disk
-//!   fails. `calls N` is how many calls the disk had, where that is told, and `faults N` what the cabinet counts; without it that is 0.
+//! - Behind the runs: `left BYTES` is what stands under `J` then, and `left nothing` that nothing does; so `copied BYTES` and `copied nothing`
+//!   of `G`. They may lack where no call of the disk fails. `calls N` is how many calls the disk under `J` had, where that is told, and
+//!   `faults N` what the cabinet counts; without it that is 0.
 //!
 //! `texts` says what a TEXT and BYTES are.
 

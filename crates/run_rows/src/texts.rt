@@ -4,7 +4,8 @@
 //! and, in lines that are repeated, `\{number FIRST STEP}`, `\{instant FIRST STEP}` and `\{day FIRST STEP}` for what comes so many steps behind
 //! the first as rounds are over. Any other backslash stands for itself.
 //!
-//! BYTES are words: `header`, `closed` (the gate behind the last record), `empty`, a name of the file, or hexadecimal digits.
+//! BYTES are words: `header` (of the first format), `second-header` (of the second), `closed` (the gate behind the last record), `empty`, a name
+//! of the file, or hexadecimal digits.
 
 use crate::rows::parted;
 use civil_days::{read_day, read_instant, write_day, write_instant};
@@ -147,6 +148,7 @@ pub fn push_bytes(file: &str, words: &str, out: &mut Text) -> Result<(), NoMemor
 fn push_word(file: &str, word: &str, out: &mut Text) -> Result<(), NoMemory> {
     match word {
         "header" => out.push_slice(b"STREAMOFFICE-J1\n"),
+        "second-header" => out.push_slice(b"STREAMOFFICE-J2\n"),
         "closed" => out.push(0),
         "empty" => Ok(()),
         _ => push_named(file, word, out),

@@ -1,3 +1,5 @@
+use Rattle.std.proofs.Common.{ap}
+use Rattle.history.specs.Events.{History}
 use Rattle.commands.proofs.OpeningLemmas.{opened_counts, shared_under}
 use Rattle.commands.proofs.beside.serve_beside.Goals as goal
 use Rattle.commands.specs.Beside.{ServedBesideWorkers, ends_told}
@@ -18,4 +20,5 @@ returns-clause-over g c =
     (ends_told (source_told g.S.Source served.new.input) (sink_told g.K.Sink served.new.output)) served.result.1)
     office.register office.disk served.result.0.disk served.result.0.register.history
     (shelf g.C.Cabinet c.args.cabinet.now) (shelf g.C.Cabinet c.open_office.new.cabinet) (shelf g.C.Cabinet c.close_office.new.cabinet)
-    c.in_ok-office.ensures.opened served.ensures.counted served.ensures.passed served.ensures.served c.close_office.ensures
+    c.in_ok-office.ensures.opened served.ensures.counted served.ensures.passed
+    (ap (λ (h : History). h.format) served.ensures.served.goes_on.1) served.ensures.served c.close_office.ensures

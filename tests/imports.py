@@ -56,7 +56,7 @@ def chunks(readings):
 
 def payload(number, readings):
     """The payload of the record of an edit, counted from 1."""
-    head = journals.short(PERSON) + journals.short(f"{REFERENCE}-{number}") + struct.pack("<BQ", len(SITE), int(SITE))
+    head = journals.head_of(PERSON, f"{REFERENCE}-{number}")
     return b"\x03" + head + struct.pack("<I", len(readings)) + b"".join(struct.pack("<qqB", at, value, 0) for at, value in readings)
 
 

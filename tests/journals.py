@@ -8,7 +8,9 @@ import datetime
 import json
 import struct
 
-HEADER = b"STREAMOFFICE-J1\n"
+# How a journal begins, by its format. The program makes the second one; in the first no edit has a comment.
+HEADERS = {1: b"STREAMOFFICE-J1\n", 2: b"STREAMOFFICE-J2\n"}
+HEADER = HEADERS[2]
 # The instant of edit 0, if it put a reading, and the stage that the scripts send where it doesn't matter.
 FIRST, STAGE = 1_704_430_800, 1_000_000
 NAME, ZONE, GAP, STAGES, DISCHARGES = "POTOMAC", "-05:00", 720, "9999999992", "9999999992"
@@ -192,9 +194,14 @@ def short(text):
     return bytes([len(text)]) + text.encode()
 
 
-def payload(number, raw=STAGE):
-    """The payload of an edit's record."""
-    head = short(person(number)) + short(reference(number)) + struct.pack("<BQ", 8, 1_646_500)
+def head_of(by, named, form=2):
+    """What stands between the kind and the fields: who, the reference, the site, and in the second format the comment, which is empty."""
+    return short(by) + short(named) + struct.pack("<BQ", 8, 1_646_500) + (b"\0" if form == 2 else b"")
+
+
+def payload(number, raw=STAGE, form=2):
+    """The payload of an edit's record, in a format."""
+    head = head_of(person(number), reference(number), form)
     span = struct.pack("<ii", reviewed_day(number), reviewed_day(number))
     if step(number) == "estimate":
         return b"\x0d" + head + struct.pack("<iq", reviewed_day(number), 12_400_000)
@@ -228,15 +235,15 @@ def payload(number, raw=STAGE):
     return b"\x03" + head + struct.pack("<IqqB", 1, instant(number), raw, 0)
 
 
-def block(number, raw=STAGE):
+def block(number, raw=STAGE, form=2):
     """An open gate, the length and the payload."""
-    record = payload(number, raw)
+    record = payload(number, raw, form)
     return b"\x01" + struct.pack("<I", len(record)) + record
 
 
-def journal(numbers):
-    """The journal of these edits."""
-    return HEADER + b"".join(block(number) for number in numbers) + b"\0"
+def journal(numbers, form=2):
+    """The journal of these edits, in a format."""
+    return HEADERS[form] + b"".join(block(number, form=form) for number in numbers) + b"\0"
 
 
 class Damaged(Exception):
@@ -245,7 +252,7 @@ class Damaged(Exception):
 
 def read(data):
     """The payloads behind open gates, of whatever edits, and how many bytes stand behind the closed one."""
-    if not data.startswith(HEADER):
+    if not data.startswith(tuple(HEADERS.values())):
         raise Damaged("no header")
     at, payloads = len(HEADER), []
     while True:

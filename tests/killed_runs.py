@@ -1,7 +1,7 @@
 #!/usr/bin/env python3
 """Kills the program at random moments and looks at what it left.
 
-    python3 tests/killed_runs.py PROGRAM [--runs 200] [--folder .] [--seed 1]
+    python3 tests/killed_runs.py PROGRAM [--runs 200] [--migrations 200] [--folder .] [--seed 1]
 
 Each run begins from a new journal. A station and a stream of its readings, flags, drops, estimates, corrections, ratings,
 periods, measurements, reviews, approvals and rescissions are sent to `batch --journal`, and SIGKILL comes at a random moment
@@ -9,6 +9,11 @@ while it answers. Then the journal must hold every edit whose reply was written,
 more; the program must open it again and give the next edit the next number; and the sheet of each day that is approved then
 must come back byte for byte, though the day awaits its edit again. Prints a table of what was found, and ends with status 1
 at the first run that is not so. 200 runs take about half a minute.
+
+Then `migrate` is killed so, which copies a journal of either format, once to three times over the same copy. After each kill the journal
+that is copied must have its bytes, and the copy must not be there, or be what a stop leaves of a making, or hold a front of the records, in
+the second format, and never fewer than before. The next run that is not killed must end with status 0, and leave a copy that holds them all
+and nothing behind them.
 
 A kill stops the program and not the disk: what the disk keeps at a power cut is what the sync calls ask for, and is not
 tested here.
@@ -80,10 +85,67 @@ def check(program, journal, sent, acknowledged):
     return more, found, len(approved)
 
 
+def migrated(program, source, copy, kills_at=None):
+    """Copies a journal, and kills the copying so many seconds behind its begin; whether it was killed."""
+    command = [program, "migrate", "--from", source, "--journal", copy]
+    process = subprocess.Popen(command, stdin=subprocess.DEVNULL, stdout=subprocess.PIPE, stderr=subprocess.PIPE)
+    try:
+        told = process.communicate(timeout=kills_at)
+    except subprocess.TimeoutExpired:
+        process.kill()
+        process.communicate()
+        return True
+    if process.returncode != 0 or told != (b"", b""):
+        raise SystemExit(f"migrate: status {process.returncode}, {told}")
+    return False
+
+
+def copied(copy, wanted):
+    """How many records a copy holds, which must be a front of those that are wanted; -1 where it is not there or not yet made."""
+    data = copy.read_bytes() if copy.exists() else b""
+    if len(data) <= 17 and data != journals.journal([]):
+        return -1
+    kept, behind = journals.read(data)
+    if not data.startswith(journals.HEADER) or kept != wanted[: len(kept)] or (len(kept) == len(wanted) and behind):
+        raise SystemExit(f"a copy of {len(kept)} records, which are not a front of those of the journal, and {behind} bytes behind")
+    return len(kept)
+
+
+def killed_migrations(program, place, count, chance):
+    """Kills so many copyings; how many copies of which lengths were left."""
+    numbers, left = range(1, 401), collections.Counter()
+    wanted = [journals.payload(number) for number in numbers]
+    if count == 0:
+        return left
+    source, copy = place / "source", place / "copy"
+    source.write_bytes(journals.journal(numbers))
+    start = time.monotonic()
+    migrated(program, source, copy)
+    lasts, kills = time.monotonic() - start, 0
+    while kills < count:
+        content = journals.journal(numbers, chance.choice([1, 2]))
+        source.write_bytes(content)
+        copy.unlink(missing_ok=True)
+        before = -1
+        for _ in range(chance.choice([1, 1, 2, 3])):
+            is_killed = migrated(program, source, copy, chance.uniform(0, 1.1 * lasts))
+            after = copied(copy, wanted)
+            if after < before or source.read_bytes() != content:
+                raise SystemExit(f"a copy of {before} records was left with {after}, or the journal was written")
+            before = after
+            kills += is_killed
+            left["not made" if after < 0 else "all" if after == len(wanted) else "none" if after == 0 else "some"] += is_killed
+        migrated(program, source, copy)
+        if copied(copy, wanted) != len(wanted) or source.read_bytes() != content:
+            raise SystemExit("a copying that was not killed did not leave every record")
+    return left
+
+
 def main():
     words = argparse.ArgumentParser()
     words.add_argument("program")
     words.add_argument("--runs", type=int, default=200)
+    words.add_argument("--migrations", type=int, default=200)
     words.add_argument("--folder", default=".")
     words.add_argument("--seed", type=int, default=1)
     given = words.parse_args()
@@ -102,11 +164,16 @@ def main():
             most, least, total = max(most, acknowledged), min(least, acknowledged), total + acknowledged
             ended += status == 0
             pathlib.Path(journal).unlink()
+        left = killed_migrations(program, pathlib.Path(place), given.migrations, chance)
+    if given.migrations > 0 and left["some"] == 0:
+        raise SystemExit("no copying was killed between two records: more of them are needed")
     if sheets == 0:
         raise SystemExit("no run came to an approval: more runs are needed")
     print("kept beyond what was acknowledged | behind the closed gate | runs")
     for (more, behind), runs in sorted(table.items()):
         print(f"{more:>33} | {behind:<22} | {runs}")
+    if given.migrations > 0:
+        print("migrations that were killed, by the records in the copy: " + ", ".join(f"{what} {kills}" for what, kills in sorted(left.items())))
     print(f"{given.runs} runs, {ended} of them ended before the kill; {least} to {most} edits acknowledged, {total} in all")
     print(f"{time.monotonic() - began:.1f} s; every acknowledged edit was kept, each journal was opened again, and {sheets} sheets came back")
 

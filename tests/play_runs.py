@@ -3,8 +3,8 @@
 
     python3 tests/play_runs.py PROGRAM [FILE ..]
 
-Each row has a folder of its own, in which the journal before is the file `J`, and its runs come one behind another: their words, what is
-on standard input, the exit status, what is on standard output and on standard error, and, behind the last, the bytes of the journal. A
+Each row has a folder of its own, in which the journal before is the file `J` and the copy before the file `G`, and its runs come one behind another: their
+words, what is on standard input, the exit status, what is on standard output and on standard error, and, behind the last, the bytes of both. A
 row with a line `fail`, one at whose doors fewer connections wait than are asked for, and one whose threads cannot be started need an object in
 memory, and are not played; nor can be seen here how many calls a disk had, what a cabinet counted and whether an input was read. Connections
 are those of a free port of this machine, one behind another. The notation is told in crates/run_rows/src/rows.rt and texts.rt. FILE is a name such as `days.txt`;
@@ -84,7 +84,7 @@ class File:
 
     def bytes(self, words):
         """The bytes of BYTES."""
-        known = {"header": b"STREAMOFFICE-J1\n", "closed": b"\0", "empty": b""}
+        known = {"header": b"STREAMOFFICE-J1\n", "second-header": b"STREAMOFFICE-J2\n", "closed": b"\0", "empty": b""}
         return b"".join(known[word] if word in known else bytes.fromhex(self.pieces.get(word, word)) for word in words.split(" "))
 
     def stream(self, run, mark):
@@ -168,18 +168,21 @@ class Played:
                 self.left_out += len(runs_of(lines))
                 continue
             with tempfile.TemporaryDirectory() as folder:
-                self.row(f"{name}: {title}", file, lines, pathlib.Path(folder, "J"))
+                self.row(f"{name}: {title}", file, lines, pathlib.Path(folder))
 
-    def row(self, title, file, lines, journal):
-        before, left, runs = said(lines, "journal"), said(lines, "left"), runs_of(lines)
-        if before is not None:
-            journal.write_bytes(file.bytes(before))
+    def row(self, title, file, lines, folder):
+        runs = runs_of(lines)
+        for word, name in [("journal", "J"), ("copy", "G")]:
+            if said(lines, word) is not None:
+                (folder / name).write_bytes(file.bytes(said(lines, word)))
         for place, run in enumerate(runs):
             wanted = self.due(file, run)
-            got = self.run(file, run, journal)
-            if place == len(runs) - 1 and left is not None:
-                wanted["what is left"] = None if left == "nothing" else file.bytes(left)
-                got["what is left"] = journal.read_bytes() if journal.exists() else None
+            got = self.run(file, run, folder)
+            for word, name in [("left", "J"), ("copied", "G")] if place == len(runs) - 1 else []:
+                due, path = said(lines, word), folder / name
+                if due is not None:
+                    wanted[f"what is {word}"] = None if due == "nothing" else file.bytes(due)
+                    got[f"what is {word}"] = path.read_bytes() if path.exists() else None
             self.compare(f"{title}, run {place + 1}", wanted, got)
 
     def due(self, file, run):
@@ -197,13 +200,13 @@ class Played:
         starts = [0] + [place for place, line in enumerate(lines) if line == "or"] + [len(lines)]
         return [file.stream(lines[start:end], "<") for start, end in zip(starts, starts[1:])]
 
-    def run(self, file, run, journal):
+    def run(self, file, run, folder):
         head, connections = parts_of(run)
         given, port = int(said(head, "given") or 0), free_port()
         words = ["" if word == "''" else word for word in head[0].split(" ")[1:]]
         words = [str(port) if before == "--port" else word for before, word in zip([""] + words, words)]
         streams = {name: subprocess.PIPE for name in ("stdin", "stdout", "stderr")}
-        with subprocess.Popen([self.program, *words], cwd=journal.parent, **streams) as process:
+        with subprocess.Popen([self.program, *words], cwd=folder, **streams) as process:
             written = []
             for each in connections[:given] if given and wait_for(process, port) else []:
                 with socket.create_connection(("127.0.0.1", port), timeout=600) as stream:

@@ -1,6 +1,6 @@
 #!/usr/bin/env python3
 """Runs the commands to each of their statuses, and looks at all three standard streams; status 6 of `init`, of `serve` and of
-`trial` is not among them.
+`trial`, and 12 of `migrate`, are not among them.
 
     python3 tests/statuses.py PROGRAM [--long]
 
@@ -29,6 +29,8 @@ NOT_A_JOURNAL, EXISTS = b"streamoffice: not a journal\n", b"streamoffice: journa
 NO_DOCUMENT = b"streamoffice: not a station document\n"
 # Journals of no edits, of a station, and of a station with a reading.
 EMPTY, STATION, READING = (journals.journal(range(1, edits + 1)) for edits in range(3))
+# The same in the first format.
+FIRST_EMPTY, FIRST_STATION, FIRST_READING = (journals.journal(range(1, edits + 1), 1) for edits in range(3))
 
 
 def answer(status, body, allow=b""):
@@ -40,6 +42,11 @@ def reply(number, repeated=b"false"):
     return answer(b"200 OK", b'{"edit":%d,"repeated":%s}' % (number, repeated))
 
 
+# What is told of the edit that puts the reading.
+ASKED = b'{"by":"%s","comment":"","kind":"PutReadings","ref":"%s","site":"01646500"}' % (
+    journals.person(2).encode(),
+    journals.reference(2).encode(),
+)
 MALFORMED = answer(b"400 Bad Request", b'{"code":"Malformed"}')
 NO_STATION = answer(b"409 Conflict", b'{"code":"NoStation"}')
 
@@ -133,10 +140,13 @@ def ends(place):
         ("init over a journal that was begun", "init", EMPTY[:9], b"", (0, b"", b""), EMPTY),
         ("init over no edits", "init", EMPTY, b"", (8, b"", EXISTS), EMPTY),
         ("init over an edit", "init", STATION, b"", (8, b"", EXISTS), STATION),
+        ("init over no edits, in the first format", "init", FIRST_EMPTY, b"", (8, b"", EXISTS), FIRST_EMPTY),
+        ("init over the first format's header alone", "init", FIRST_EMPTY[:-1], b"", (0, b"", b""), EMPTY),
         ("init over another file", "init", b"x" * 18, b"", (5, b"", NOT_A_JOURNAL), b"x" * 18),
         ("batch of nothing", "batch", EMPTY, b"", (0, b"", b""), EMPTY),
         ("batch of a station and a reading", "batch", EMPTY, requests([1, 2]), (0, both, b""), READING),
         ("batch of a reading of no station", "batch", EMPTY, request(2), (0, NO_STATION, b""), EMPTY),
+        ("batch in the first format", "batch", FIRST_EMPTY, requests([1, 2]), (0, both, b""), FIRST_READING),
         ("batch on nothing", "batch", None, request(2), (5, b"", NOT_A_JOURNAL), None),
         ("batch on another file", "batch", b"x" * 18, request(2), (5, b"", NOT_A_JOURNAL), b"x" * 18),
         ("batch on a damaged one", "batch", cut, request(2), (5, b"", b"streamoffice: damaged at %d\n" % len(cut)), cut),
@@ -314,6 +324,12 @@ def replies(place):
         ("an edit of no known kind", other(3, kind="Unknown"), answer(bad, b'{"code":"Body","member":"kind"}')),
         ("an ill formed member", other(3, site="1"), answer(bad, b'{"code":"Body","member":"site"}')),
         ("a further member", other(3, more=1), answer(bad, b'{"code":"Body","member":"?"}')),
+        ("an edit with a comment", other(3, comment="ok"), reply(3)),
+        ("a comment that is none", other(3, comment="a\n"), answer(bad, b'{"code":"Body","member":"comment"}')),
+        ("an edit again, with a comment", other(2, comment="ok"), answer(conflict, b'{"code":"RefReused","edit":2}')),
+        ("a question of an edit", get(b"/edits/2"), answer(b"200 OK", ASKED)),
+        ("a question of no edit", get(b"/edits/3"), answer(missing, b'{"code":"NoEdit"}')),
+        ("a POST to the number of an edit", post(b"/edits/2"), not_allowed(b"GET")),
         ("a question of no station", get(b"/stations/00000001"), answer(missing, b'{"code":"NoStation"}')),
         ("no target", get(b"/nothing"), answer(missing, b'{"code":"NoRoute"}')),
         ("no turns", post(b"/turns/0"), answer(missing, b'{"code":"NoRoute"}')),
@@ -324,6 +340,49 @@ def replies(place):
         ("a body that is too long", post(b"/edits", b" " * 4_194_305), answer(b"413 Payload Too Large", b'{"code":"TooLarge"}')),
     ]:
         expect(f"reply to {what}", (0, wanted, b""), place.on_journal("batch", READING, data))
+    data, wanted = other(3, comment="ok") + request(3), answer(conflict, b'{"code":"NoComments"}') + reply(3)
+    expect("reply to a comment in the first format", (0, wanted, b""), place.on_journal("batch", FIRST_READING, data))
+    expect("    what is left", journals.journal([1, 2, 3], 1), place.content())
+
+
+def migrated(place, source, copy, before=None):
+    """Copies a journal of this content to one of this content, or to none; the answer, and what the copy has then."""
+    path = place.journal.with_name("source")
+    place.journal.unlink(missing_ok=True)
+    path.unlink(missing_ok=True)
+    for each, content in [(path, source), (place.journal, copy)]:
+        if content is not None:
+            each.write_bytes(content)
+    answer = place.run(["migrate", "--from", str(path), "--journal", str(place.journal)], b"x", before)
+    expect("    what is copied", source, path.read_bytes() if path.exists() else None)
+    return answer, place.content()
+
+
+def migrations(place):
+    """Each status of `migrate` but 12, with its cause, and what the copy has then."""
+    others = journals.journal([1, 3])
+    for what, source, copy, line, after in [
+        ("to nothing", FIRST_READING, None, (0, b""), READING),
+        ("of the second format", READING, None, (0, b""), READING),
+        ("of no edits", FIRST_EMPTY, None, (0, b""), EMPTY),
+        ("to a front of it", FIRST_READING, STATION, (0, b""), READING),
+        ("to a copy of it", FIRST_READING, READING, (0, b""), READING),
+        ("to what a stopped making leaves", FIRST_READING, EMPTY[:9], (0, b""), READING),
+        ("of nothing", None, None, (5, NOT_A_JOURNAL), None),
+        ("of another file", b"x" * 18, None, (5, NOT_A_JOURNAL), None),
+        ("of a damaged one", FIRST_READING[:-1], None, (5, b"streamoffice: damaged at %d\n" % (len(FIRST_READING) - 1)), None),
+        ("to another file", FIRST_READING, b"x" * 18, (5, NOT_A_JOURNAL), b"x" * 18),
+        ("to a damaged one", FIRST_READING, STATION[:-1], (5, b"streamoffice: damaged at %d\n" % (len(STATION) - 1)), STATION[:-1]),
+        ("to one of the first format", FIRST_READING, FIRST_STATION, (11, b"streamoffice: journals differ at 0\n"), FIRST_STATION),
+        ("to one of another edit", FIRST_READING, others, (11, b"streamoffice: journals differ at 2\n"), others),
+        ("to one of more edits", FIRST_STATION, READING, (11, b"streamoffice: journals differ at 2\n"), READING),
+    ]:
+        expect(f"migrate {what}", ((line[0], b"", line[1]), after), migrated(place, source, copy))
+    content = journals.journal(range(1, 400_001), 1)
+    wanted = ((6, b"", b"streamoffice: out of memory\n"), None)
+    expect("migrate with little memory", wanted, migrated(place, content, None, limit_memory))
+    name = str(place.journal)
+    expect("migrate to itself", (1, b"", USAGE), place.run(["migrate", "--from", name, "--journal", name]))
 
 
 def not_allowed(method):
@@ -384,6 +443,14 @@ def another_run(place):
             got = place.run([command, "--journal", str(place.journal), *TABLES.get(command, ())], request(2))
             expect(f"{command} beside another run", (4, b"", DISK_FAULT), got)
             expect("    what is left", READING, place.content())
+        other = place.journal.with_name("other")
+        for what, source, copy, before in [("of", place.journal, other, None), ("to", other, place.journal, FIRST_READING)]:
+            if before is not None:
+                other.write_bytes(before)
+            got = place.run(["migrate", "--from", str(source), "--journal", str(copy)])
+            expect(f"migrate {what} the journal of another run", (4, b"", DISK_FAULT), got)
+            expect("    what is left of the other one", before, other.read_bytes() if other.exists() else None)
+            expect("    what is left", READING, place.content())
         first.stdin.write(request(3))
         first.stdin.close()
         expect("the first run goes on", reply(3), first.stdout.read())
@@ -424,7 +491,7 @@ def main():
     if len(sys.argv) not in (2, 3):
         raise SystemExit(__doc__)
     program = str(pathlib.Path(sys.argv[1]).resolve())
-    cases = [usage, own_name, ends, served, stations, tables, trial, replies, closed_streams, failing_streams, another_run, little_memory]
+    cases = [usage, own_name, ends, served, stations, tables, trial, replies, migrations, closed_streams, failing_streams, another_run, little_memory]
     for case in cases + [long_input] * ("--long" in sys.argv):
         with tempfile.TemporaryDirectory() as folder:
             case(Place(program, folder))

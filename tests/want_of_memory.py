@@ -13,11 +13,12 @@ as `whole_run.txt` or `logger_year.txt` (some minutes), and its replies with all
 A request whose body finds no memory, since its bytes and no fewer are refused, is answered 507, and the next request as ever.
 
 `init` is run so too: it makes a journal, or ends by a status and leaves nothing that keeps a second `init` from making one. So is
-`stations`: its lines come, one of which may tell of no memory, or a status and no line; run again, it adds what is missing. And
-`trial --number 1`, for each of its first 300 allocations and then one in `--step`: its whole text comes, or a status and no text.
+`stations`: its lines come, one of which may tell of no memory, or a status and no line; run again, it adds what is missing. So
+is `migrate` of a journal of the first format with approved days: whatever comes of it, the journal keeps its bytes, and run again it ends
+with 0 and leaves a copy of all records. And `trial --number 1`, for each of its first 300 allocations and then one in `--step`: its whole text comes, or a status and no text.
 
 A run that ends for want of memory, also of memory for its words, has the status 6, its line on standard error, and nothing on
-standard output. `init` may end with 4 and its line too, where the file could not be opened.
+standard output. `init` and `migrate` may end with 4 and its line too, where a file could not be opened.
 
 It needs a C compiler (`cc`) for the few lines that stand before the system's allocator, and says so where there is none.
 """
@@ -31,6 +32,7 @@ import subprocess
 import sys
 import tempfile
 
+import journals
 import play_runs
 
 SHIM = r"""
@@ -293,6 +295,28 @@ def refused_stations(program, shim, folder, document, number):
     return ran.returncode
 
 
+# How many edits the journal has that is copied; days are approved by some of them.
+COPIED = 150
+
+
+def refused_migration(program, shim, folder, number):
+    """Copies a journal with one allocation refused, and then with all the memory there is; the status of the first."""
+    source, copy = (pathlib.Path(folder, "%s-%d" % (name, number)) for name in ("source", "copy"))
+    content, whole = (journals.journal(range(1, COPIED + 1), form) for form in (1, 2))
+    source.write_bytes(content)
+    words = [program, "migrate", "--from", str(source), "--journal", str(copy)]
+    ran = refused(words, shim, number)
+    is_done = copy.exists() and copy.read_bytes() == whole
+    again = subprocess.run(words, capture_output=True)
+    if not is_ended(ran, (0, 4, 6)) or ran.stdout or (ran.returncode == 0 and not is_done):
+        raise SystemExit("migrate, allocation %d: status %d, %r" % (number, ran.returncode, ran.stderr))
+    if again.returncode != 0 or copy.read_bytes() != whole or source.read_bytes() != content:
+        raise SystemExit("migrate, allocation %d, run again: status %d, or what is copied differs" % (number, again.returncode))
+    source.unlink()
+    copy.unlink()
+    return ran.returncode
+
+
 def refused_trial(program, shim, text, number):
     """Runs a trial with one allocation refused; its status."""
     ran = refused([program, "trial", "--number", "1"], shim, number)
@@ -347,6 +371,11 @@ def main():
             document = (pathlib.Path(__file__).resolve().parent.parent / "examples/stations.toml").read_bytes()
             made, _ = count_allocations([program, "stations", "--journal", os.path.join(folder, "made")], shim, folder, document)
             tell("stations", pool.map(lambda n: refused_stations(program, shim, folder, document, n), range(1, made + 1)))
+            source = pathlib.Path(folder, "source")
+            source.write_bytes(journals.journal(range(1, COPIED + 1), 1))
+            words = [program, "migrate", "--from", str(source), "--journal", os.path.join(folder, "copy")]
+            made, _ = count_allocations(words, shim, folder)
+            tell("migrate", pool.map(lambda n: refused_migration(program, shim, folder, n), range(1, made + 1)))
             made, text = count_allocations([program, "trial", "--number", "1"], shim, folder)
             turns = [*range(1, min(made, 300) + 1), *range(301, made + 1, given.step)]
             tell("trial", pool.map(lambda n: refused_trial(program, shim, text, n), turns))

@@ -1,6 +1,6 @@
 #!/usr/bin/env python3
 """Runs the commands to each of their statuses, and looks at all three standard streams; status 6 of `init`, of `serve` and of
-`trial`, and 12 of `migrate`, are not among them.
+`trial`, 12 of `migrate`, and those of `import` and `notes` are not among them.
 
     python3 tests/statuses.py PROGRAM [--long]
 

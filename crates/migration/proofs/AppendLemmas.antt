@@ -4,6 +4,7 @@ use Rattle.std.proofs.lemmas.Grind.{flat_map-append}
 use Rattle.std.proofs.lemmas.List.{append-nil, drop_at, drop_more, length-drop, take_all, take_more}
 use Rattle.std.proofs.lemmas.List.Folds.{length-flat_map-take}
 use Rattle.devices.specs.declared.disks.Disk.{Ghosts}
+use Rattle.devices.specs.Disks.{IsOverwritten}
 use Rattle.journal.proofs.Moments.{joined, started, widened}
 use Rattle.journal.specs.JournalBytes.{IsJournalOf, StandsFor, block, front}
 use Rattle.journal.specs.Keeping.{Holds, in_flight}
@@ -12,9 +13,9 @@ use Rattle.journal.specs.declared.keeping.AppendFault.{AppendFault}
 use Rattle.journal.specs.declared.keeping.AppendFault.TheVariants.{Full, Fault as Failed}
 use Rattle.journal.specs.declared.keeping.Journal.{Journal}
 use Rattle.journal.specs.declared.opening.OpenFault.TheVariants.{Fault, NotAJournal, Damaged, NoMemory}
-use Rattle.migration.proofs.GoLemmas.{front_stands}
+use Rattle.migration.proofs.GoLemmas.{between_stands}
 use Rattle.migration.proofs.RoomLemmas.{room_is}
-use Rattle.migration.specs.Copying.{GoesBehind, HasAll, IsFrontOf}
+use Rattle.migration.specs.Copying.{GoesBehind, HasAll, IsBetween, appended}
 use Rattle.migration.specs.declared.copying.CopyFault.{CopyFault}
 use Rattle.migration.specs.declared.copying.CopyFault.TheVariants.{Open, Differs}
 use Rattle.records.specs.Sheets.{Record}
@@ -69,6 +70,12 @@ parts_at records done rest place parts long =
     let all = take_all (length records - place) (drop place records) (omega (arith, count)) in
     parts ∙ ap (λ (l : List Record). done ++ l) (sym behind ∙ sym all)
 
+pub slice_is : (records done rest : List Record) (place : ℕ) → records ≡ done ++ rest → length done ≡ place
+    → take (length records - place) (drop place records) ≡ rest
+slice_is records done rest place parts long =
+    let count = length-drop place records in
+    take_all (length records - place) (drop place records) (omega (arith, count)) ∙ ap (drop place) parts ∙ drop_at done rest place long
+
 -- the room that is left behind the first records
 pub room_behind : (limit gate : ℕ) (records done rest : List Record) → records ≡ done ++ rest → gate ≡ length (front Second done)
     → length (front Second records) + 1 ≤ limit → gate + length (flat_map (block Second) rest) + 1 ≤ limit
@@ -111,21 +118,23 @@ module _ {D : Type 0} (g : Ghosts D) where
     left_still done piece journal is holds =
         started g journal.disk (StandsFor Second done (Some piece)) (λ image left. inl (stands_now done journal is holds image left))
 
-    pub front_still : (done rest : List Record) (journal : Journal D g) → journal.format ≡ Second → Holds done None journal
-        → LeavesOnly g journal.disk journal.disk (IsFrontOf (done ++ rest))
-    front_still done rest journal is holds =
-        started g journal.disk (IsFrontOf (done ++ rest)) (λ image left. (done, (rest, refl), stands_now done journal is holds image left))
+    pub between_still : (done rest : List Record) (journal : Journal D g) → journal.format ≡ Second → Holds done None journal
+        → LeavesOnly g journal.disk journal.disk (IsBetween done (done ++ rest))
+    between_still done rest journal is holds =
+        started g journal.disk (IsBetween done (done ++ rest))
+        (λ image left. (done, ([], append-nil done), (rest, refl), stands_now done journal is holds image left))
 
   -- one append more
-  pub front_on : (done records : List Record) (index : ℕ) (piece : Record) (old mid new : D) → index < length records → piece ≡ get_or records index piece
-      → LeavesOnly g old mid (IsFrontOf (done ++ records)) → LeavesOnly g mid new (StandsFor Second (done ++ take index records) (Some piece))
-      → LeavesOnly g old new (IsFrontOf (done ++ records))
-  front_on done records index piece old mid new lt here first second =
+  pub between_on : (done records : List Record) (index : ℕ) (piece : Record) (old mid new : D) → index < length records → piece ≡ get_or records index piece
+      → LeavesOnly g old mid (IsBetween done (done ++ records)) → LeavesOnly g mid new (StandsFor Second (done ++ take index records) (Some piece))
+      → LeavesOnly g old new (IsBetween done (done ++ records))
+  between_on done records index piece old mid new lt here first second =
       let behind = drop (index + 1) records in
       let parts : done ++ records ≡ (done ++ take index records) ++ piece ∷ behind =
       ap (λ (l : List Record). done ++ l) (next_parts records index piece lt here) ∙ sym (append_assoc done (take index records) (piece ∷ behind)) in
-      joined g old mid new (IsFrontOf (done ++ records)) (StandsFor Second (done ++ take index records) (Some piece)) (IsFrontOf (done ++ records)) first second
-      (λ image is. is) (λ image is. front_stands (done ++ take index records) behind piece (done ++ records) image parts is)
+      joined g old mid new (IsBetween done (done ++ records)) (StandsFor Second (done ++ take index records) (Some piece)) (IsBetween done (done ++ records))
+      first second (λ image is. is)
+      (λ image is. between_stands done (done ++ take index records) behind piece (done ++ records) image (take index records, refl) parts is)
 
   pub holds_on : (done records : List Record) (index : ℕ) (piece : Record) (journal : Journal D g) → index < length records → piece ≡ get_or records index piece
       → Holds ((done ++ take index records) ++ piece ∷ []) None journal → Holds (done ++ take (index + 1) records) None journal
@@ -142,18 +151,18 @@ module _ {D : Type 0} (g : Ghosts D) where
     images = λ image left. subst (λ (f : Format). IsJournalOf f records image) is (holds.images image left);
   }
 
-  behind_by : {T : Type 0} (records : List Record) (result : Result T CopyFault) (old : D) (journal : Journal D g) → journal.format ≡ Second
-      → OnOk result (Holds records None journal) → LeavesOnly g old journal.disk (IsFrontOf records)
-      → IfErr result (λ fault. (fault ≡ Open Fault) ⊎ (fault ≡ Open NoMemory)) → GoesBehind g records result old journal.disk
-  behind_by records (Ok value) old journal is holds leaves only = (leaves, has_all records journal is holds)
-  behind_by records (Err (Open Fault)) old journal is holds leaves only = leaves
-  behind_by records (Err (Open NoMemory)) old journal is holds leaves only = leaves
-  behind_by records (Err (Open NotAJournal)) old journal is holds leaves only = elim only [ inl e ↦ absurd (cc) | inr e ↦ absurd (cc) ]
-  behind_by records (Err (Open (Damaged at))) old journal is holds leaves only = elim only [ inl e ↦ absurd (cc) | inr e ↦ absurd (cc) ]
-  behind_by records (Err (Differs number)) old journal is holds leaves only = elim only [ inl e ↦ absurd (cc) | inr e ↦ absurd (cc) ]
-
-  pub goes_behind : {T : Type 0} (records done rest : List Record) (result : Result T CopyFault) (old : D) (journal : Journal D g) → records ≡ done ++ rest
-      → journal.format ≡ Second → OnOk result (Holds (done ++ rest) None journal) → LeavesOnly g old journal.disk (IsFrontOf (done ++ rest))
-      → IfErr result (λ fault. (fault ≡ Open Fault) ⊎ (fault ≡ Open NoMemory)) → GoesBehind g records result old journal.disk
-  goes_behind {T = T} records done rest result old journal parts is holds leaves only =
-      subst (λ (l : List Record). GoesBehind g {T = T} l result old journal.disk) (sym parts) (behind_by (done ++ rest) result old journal is holds leaves only)
+  pub goes_behind : {T : Type 0} (first rest : List Record) (gate : ℕ) (result : Result T CopyFault) (old : D) (journal : Journal D g)
+      → journal.format ≡ Second → gate ≡ length (front Second first) → OnOk result (Holds (first ++ rest) None journal)
+      → LeavesOnly g old journal.disk (IsBetween first (first ++ rest))
+      → OnOk result (IsOverwritten (g.content old) gate (appended rest) (g.content journal.disk))
+      → IfErr result (λ fault. (fault ≡ Open Fault) ⊎ (fault ≡ Open NoMemory)) → GoesBehind g first rest result old journal.disk
+  goes_behind first rest gate (Ok value) old journal is at holds leaves wrote only = (
+    leaves,
+    has_all (first ++ rest) journal is holds,
+    subst (λ (n : ℕ). IsOverwritten (g.content old) n (appended rest) (g.content journal.disk)) at wrote,
+  )
+  goes_behind first rest gate (Err (Open Fault)) old journal is at holds leaves wrote only = leaves
+  goes_behind first rest gate (Err (Open NoMemory)) old journal is at holds leaves wrote only = leaves
+  goes_behind first rest gate (Err (Open NotAJournal)) old journal is at holds leaves wrote only = elim only [ inl e ↦ absurd (cc) | inr e ↦ absurd (cc) ]
+  goes_behind first rest gate (Err (Open (Damaged place))) old journal is at holds leaves wrote only = elim only [ inl e ↦ absurd (cc) | inr e ↦ absurd (cc) ]
+  goes_behind first rest gate (Err (Differs number)) old journal is at holds leaves wrote only = elim only [ inl e ↦ absurd (cc) | inr e ↦ absurd (cc) ]

@@ -1,22 +1,27 @@
 -- What a copy leaves at each moment, from its beginning on.
-use Rattle.std.proofs.Common.{◌≡◌, ◌⊎◌, inl, inr, ⊎_elim, ℕ, ◌≤◌, false, List, [], ◌∷◌, Option, Some, IfSome, Result, Ok, Err, refl, sym, ◌∙◌, subst, arith}
+use Rattle.std.proofs.Common.{◌≡◌, ◌⊎◌, inl, inr, ⊎_elim, ℕ, ◌≤◌, false, List, [], ◌∷◌, length, Option, Some, IfSome, IsSomeAnd, Result, Ok, Err, refl, sym, ◌∙◌, subst, arith}
+use Rattle.std.proofs.lemmas.List.{append-nil}
 use Rattle.std.specs.Result.{IsErrAnd}
+use mathlib.Core.List.{IsPrefix}
 use Rattle.devices.specs.declared.disks.Disk.{Ghosts}
-use Rattle.devices.specs.Disks.{IsDurable, IsUnchanged, NothingNew, Torn}
+use Rattle.devices.specs.Faults.{Rose}
+use Rattle.devices.specs.Disks.{IsDurable, IsUnchanged, NothingNew, Torn, overwritten}
 use Rattle.journal.proofs.Made.{small}
 use Rattle.journal.proofs.Moments.{joined, widened}
 use Rattle.journal.proofs.OnlyReading.{reads_joined}
 use Rattle.journal.proofs.Occupied.{made_anew, occupied_or_free}
 use Rattle.journal.proofs.Stops.{here}
+use Rattle.journal.proofs.Walks.{one_list}
 use Rattle.journal.specs.Init.{InitAnswers, InitLeaves, IsLeftByInit}
-use Rattle.journal.specs.JournalBytes.{HasAnyHeader, IsJournalOf, IsTaken, empty_journal}
+use Rattle.journal.specs.JournalBytes.{HasAnyHeader, IsJournalOf, IsTaken, empty_journal, front}
 use Rattle.journal.specs.Moments.{LeavesOnly, OnlyReads, SyncsFirst}
 use Rattle.journal.specs.Writing.{Lists, WasTorn}
 use Rattle.journal.specs.declared.making.InitFault.{InitFault}
 use Rattle.journal.specs.declared.making.InitFault.TheVariants as making
 use Rattle.journal.specs.declared.opening.OpenFault.TheVariants.{Fault, NotAJournal, Damaged, NoMemory}
 use Rattle.migration.proofs.AnswerLemmas.{empty_is, not_barred}
-use Rattle.migration.specs.Copying.{Begins, Copies, GoesOn, HasBegun, IsAnswered, IsBarred, IsFoundOver, IsFree, IsFrontOf, IsLeftByCopy, IsLeftMaking, IsLeftWith, IsMadeOver, MayBegin, beginning_of}
+use Rattle.migration.proofs.WrittenLemmas.{made_copy}
+use Rattle.migration.specs.Copying.{Begins, Copies, GoesOn, HasAll, HasBegun, HasCause, IsAnswered, IsBarred, IsBetween, IsCopied, IsFoundOver, IsFree, IsLeftByCopy, IsLeftMaking, IsLeftWith, IsMadeOver, MayBegin, WentOn, appended, beginning_of}
 use Rattle.migration.specs.declared.copying.CopyFault.{CopyFault}
 use Rattle.migration.specs.declared.copying.CopyFault.TheVariants.{Open, Differs}
 use Rattle.records.specs.Sheets.{Record}
@@ -122,15 +127,15 @@ module _ {D : Type 0} (g : Ghosts D) where
   not_begun_at T U records bytes old new (Open Fault) (inl reads) = (tt, inl reads)
   not_begun_at T U records bytes old new (Open Fault) (inr begun) = (
     tt,
-    inr (record {
-      begins = inl begun.0;
-      any_moment = record {
+    inr (inl (
+      begun.0,
+      record {
         synced = begun.1.synced;
         first = begun.1.first;
         before = begun.1.before;
         since = widened g begun.1.synced new IsLeftMaking (IsLeftByCopy records) begun.1.since (left_making records);
-      };
-    }),
+      },
+    )),
   )
   not_begun_at T U records bytes old new (Open (Damaged place)) begun = absurd begun
   not_begun_at T U records bytes old new (Open NoMemory) begun = absurd begun
@@ -149,72 +154,67 @@ module _ {D : Type 0} (g : Ghosts D) where
 
   -- a copy that went on behind its beginning, from what was found or made
   goes_on_synced : ((disk : D) (since : ℕ) (image : List ℕ) → since ≤ g.moment disk → g.may_leave disk image → g.left_since disk since image)
-      → (records : List Record) (old mid new : D) (P : List ℕ → Type 0) → SyncsFirst g old mid P → ((image : List ℕ) → P image → IsLeftByCopy records image)
-      → LeavesOnly g mid new (λ image. g.may_leave mid image ⊎ IsFrontOf records image) → SyncsFirst g old new (IsLeftByCopy records)
-  goes_on_synced counts_now records old mid new P s wider leaves = record {
+      → (P F R : List ℕ → Type 0) (old mid new : D) → SyncsFirst g old mid P → ((image : List ℕ) → P image → R image)
+      → ((image : List ℕ) → F image → R image) → LeavesOnly g mid new (λ image. g.may_leave mid image ⊎ F image) → SyncsFirst g old new R
+  goes_on_synced counts_now P F R old mid new s wider further leaves = record {
     synced = s.synced;
     first = s.first;
     before = s.before;
-    since = joined g s.synced mid new P (λ image. g.may_leave mid image ⊎ IsFrontOf records image) (IsLeftByCopy records) s.since leaves wider
-        (λ image which. ⊎_elim (λ left. wider image (left_then counts_now old mid P s image left)) (λ front. inl (inr front)) which);
+    since = joined g s.synced mid new P (λ image. g.may_leave mid image ⊎ F image) R s.since leaves wider
+        (λ image which. ⊎_elim (λ left. wider image (left_then counts_now old mid P s image left)) (further image) which);
   }
-
-  reads_synced : ((disk : D) (since : ℕ) (image : List ℕ) → since ≤ g.moment disk → g.may_leave disk image → g.left_since disk since image)
-      → (records : List Record) (old mid new : D) (P : List ℕ → Type 0) → SyncsFirst g old mid P → ((image : List ℕ) → P image → IsLeftByCopy records image)
-      → OnlyReads g mid new → SyncsFirst g old new (IsLeftByCopy records)
-  reads_synced counts_now records old mid new P s wider reads =
-      goes_on_synced counts_now records old mid new P s wider
-      (widened g mid new (g.may_leave mid) (λ image. g.may_leave mid image ⊎ IsFrontOf records image) reads.any_moment (λ image left. inl left))
 
   module _ (counts_now : (disk : D) (since : ℕ) (image : List ℕ) → since ≤ g.moment disk → g.may_leave disk image → g.left_since disk since image)
       (records : List Record) (bytes : List ℕ) (old mid new : D) where
     -- over a journal that was found
+    may_begin : WentOn g records bytes mid new → MayBegin records bytes
+    may_begin went = inr (went.first, (went.rest, sym went.parts), went.stood)
+
+    begun_found : IsFoundOver g bytes old mid → WentOn g records bytes mid new → HasBegun g records bytes old new
+    begun_found found went =
+        let prefix : IsPrefix went.first records = (went.rest, sym went.parts) in
+        inr (
+          went.first,
+          went.stood,
+          prefix,
+          goes_on_synced counts_now (λ image. image ≡ bytes) (IsBetween went.first records) (IsBetween went.first records) old mid new found.any_moment
+              (λ image is. (went.first, ([], append-nil went.first), prefix, subst (IsJournalOf Second went.first) (sym is) went.stood))
+              (λ image is. is) went.any_moment,
+        )
+
     over_found : {T : Type 0} (copied : Result T CopyFault) → IsFoundOver g bytes old mid → GoesOn g {T = T} records bytes copied mid new
         → IsAnswered {T = T} records bytes copied × IsLeftWith g {T = T} records bytes copied old new
     over_found (Ok done) found went = (
-      inr went.0,
+      may_begin went.0,
       (
-        record {
-          begins = inr went.0;
-          any_moment = goes_on_synced counts_now records old mid new (λ image. image ≡ bytes) found.any_moment
-              (λ image is. inl (inr (subst (IsFrontOf records) (sym is) went.0))) went.1;
-        },
-        went.2,
+        begun_found found went.0,
+        went.1,
+        subst (λ (o : Option (List ℕ)). IsSomeAnd o (IsCopied records bytes)) (sym went.2)
+            (inr (went.0.first, went.0.rest, went.0.stood, went.0.parts, refl)),
       ),
     )
     over_found (Err (Open Fault)) found (inl reads) = (tt, inl (reads_joined g old mid new found.reads reads))
-    over_found (Err (Open Fault)) found (inr went) = (
-      tt,
-      inr (record {
-        begins = inr went.0;
-        any_moment = goes_on_synced counts_now records old mid new (λ image. image ≡ bytes) found.any_moment
-            (λ image is. inl (inr (subst (IsFrontOf records) (sym is) went.0))) went.1;
-      }),
-    )
+    over_found (Err (Open Fault)) found (inr went) = (tt, inr (begun_found found went))
     over_found (Err (Open NoMemory)) found (inl reads) = (tt, inl (reads_joined g old mid new found.reads reads))
-    over_found (Err (Open NoMemory)) found (inr went) = (
-      tt,
-      inr (record {
-        begins = inr went.0;
-        any_moment = goes_on_synced counts_now records old mid new (λ image. image ≡ bytes) found.any_moment
-            (λ image is. inl (inr (subst (IsFrontOf records) (sym is) went.0))) went.1;
-      }),
-    )
+    over_found (Err (Open NoMemory)) found (inr went) = (tt, inr (begun_found found went))
     over_found (Err (Open NotAJournal)) found went = absurd went.0
     over_found (Err (Open (Damaged place))) found went = ((found.taken, went.0), reads_joined g old mid new found.reads went.1)
     over_found (Err (Differs number)) found went = ((found.taken, went.0), reads_joined g old mid new found.reads went.1)
 
     -- over one that was made
-    begun_made : (made : IsMadeOver g bytes old mid) → LeavesOnly g mid new (λ image. g.may_leave mid image ⊎ IsFrontOf records image)
-        → HasBegun g records bytes old new
-    begun_made made leaves = record {
-      begins = inl made.free;
-      any_moment = goes_on_synced counts_now records old mid new IsLeftMaking made.any_moment (left_making records) leaves;
-    }
+    begun_made : (F : List ℕ → Type 0) → ((image : List ℕ) → F image → IsLeftByCopy records image) → IsMadeOver g bytes old mid
+        → LeavesOnly g mid new (λ image. g.may_leave mid image ⊎ F image) → HasBegun g records bytes old new
+    begun_made F further made leaves =
+        inl (made.free, goes_on_synced counts_now IsLeftMaking F (IsLeftByCopy records) old mid new made.any_moment (left_making records) further leaves)
 
-    read_made : (made : IsMadeOver g bytes old mid) → OnlyReads g mid new → HasBegun g records bytes old new
+    went_made : IsMadeOver g bytes old mid → WentOn g records (empty_journal Second) mid new → HasBegun g records bytes old new
+    went_made made went =
+        begun_made (IsBetween went.first records) (λ image is. inl (inr (is.0, is.2, is.3))) made went.any_moment
+
+    read_made : IsMadeOver g bytes old mid → OnlyReads g mid new → HasBegun g records bytes old new
     read_made made reads =
-        begun_made made (widened g mid new (g.may_leave mid) (λ image. g.may_leave mid image ⊎ IsFrontOf records image) reads.any_moment (λ image left. inl left))
+        begun_made (λ image. ⊥) (λ image none. absurd none) made
+        (widened g mid new (g.may_leave mid) (λ image. g.may_leave mid image ⊎ ⊥) reads.any_moment (λ image left. inl left))
 
     never_barred : {T : Type 0} (fault : CopyFault) → IsBarred records (empty_journal Second) fault → (fault ≡ Open Fault → ⊥) → (fault ≡ Open NoMemory → ⊥) → T
     never_barred fault barred no_fault memory = absurd (by fault barred no_fault memory)
@@ -232,11 +232,17 @@ module _ {D : Type 0} (g : Ghosts D) where
 
     over_made : {T : Type 0} (copied : Result T CopyFault) → IsMadeOver g bytes old mid → GoesOn g {T = T} records (empty_journal Second) copied mid new
         → IsAnswered {T = T} records bytes copied × IsLeftWith g {T = T} records bytes copied old new
-    over_made (Ok done) made went = (inl made.free, (begun_made made went.1, went.2))
+    over_made (Ok done) made went =
+        let none : went.0.first ≡ [] = one_list Second went.0.first [] (empty_journal Second) went.0.stood (empty_is Second) in
+        let copy = overwritten (empty_journal Second) (length (front Second went.0.first)) (appended went.0.rest) in
+        let whole : IsCopied records bytes copy = inl (made.free, made_copy records went.0.first went.0.rest none went.0.parts) in (
+          inl made.free,
+          (went_made made went.0, went.1, subst (λ (o : Option (List ℕ)). IsSomeAnd o (IsCopied records bytes)) (sym went.2) whole),
+        )
     over_made (Err (Open Fault)) made (inl reads) = (tt, inr (read_made made reads))
-    over_made (Err (Open Fault)) made (inr went) = (tt, inr (begun_made made went.1))
+    over_made (Err (Open Fault)) made (inr went) = (tt, inr (went_made made went))
     over_made (Err (Open NoMemory)) made (inl reads) = (tt, inr (read_made made reads))
-    over_made (Err (Open NoMemory)) made (inr went) = (tt, inr (begun_made made went.1))
+    over_made (Err (Open NoMemory)) made (inr went) = (tt, inr (went_made made went))
     over_made (Err (Open NotAJournal)) made went = absurd went.0
     over_made (Err (Open (Damaged place))) made went = never_barred (Open (Damaged place)) went.0 (λ e. absurd (cc e)) (λ e. absurd (cc e))
     over_made (Err (Differs number)) made went = never_barred (Differs number) went.0 (λ e. absurd (cc e)) (λ e. absurd (cc e))
@@ -253,3 +259,16 @@ module _ {D : Type 0} (g : Ghosts D) where
       (λ made. over_made counts_now records bytes old mid new {T = T} copied made
       (at (g.content mid) (empty_journal Second) _ made.made went (Second, (0 ∷ [], refl))))
       (at (g.content old) bytes _ is begun))
+
+-- the count of faults behind a beginning
+pub begun_cause : (made : Result (Unit {0}) InitFault) (before mid now : ℕ) → mid ≡ before → ((made ≡ Err making.Fault → ⊥) → now ≡ mid)
+    → (made ≡ Err making.Fault → Rose mid now) → HasCause before now (beginning_of made)
+begun_cause (Ok done) before mid now same stays rose = stays (λ e. absurd (cc)) ∙ same
+begun_cause (Err making.Exists) before mid now same stays rose = stays (λ e. absurd (cc)) ∙ same
+begun_cause (Err making.NotAJournal) before mid now same stays rose = λ failed. absurd (cc)
+begun_cause (Err making.Fault) before mid now same stays rose = λ failed. subst (λ (n : ℕ). Rose n now) same (rose refl)
+
+pub failed_cause : {T : Type 0} (result : Result T CopyFault) (before now : ℕ) → IsErrAnd result (λ fault. fault ≡ Open Fault) → Rose before now
+    → HasCause before now result
+failed_cause (Ok done) before now is rose = absurd is
+failed_cause {T} (Err fault) before now is rose = subst (λ (f : CopyFault). HasCause {T = T} before now (Err f)) (sym is) (λ e. rose)

@@ -1,8 +1,8 @@
 -- How a copy goes on over a journal that was opened.
-use Rattle.std.proofs.Common.{◌≡◌, ◌⊎◌, inl, inr, ⊎_elim, ℕ, suc, ◌+◌, ◌≤◌, List, [], ◌∷◌, ◌++◌, Option, Some, IfSome, IsSome, Result, Ok, Err, refl, sym, ◌∙◌, subst, arith, append_assoc}
+use Rattle.std.proofs.Common.{◌≡◌, ◌⊎◌, inl, inr, ⊎_elim, ℕ, suc, ◌+◌, ◌≤◌, List, [], ◌∷◌, ◌++◌, length, Option, Some, IfSome, IsSome, Result, Ok, Err, refl, sym, ◌∙◌, ap, subst, arith, append_assoc}
 use mathlib.Core.List.{IsPrefix}
 use Rattle.devices.specs.declared.disks.Disk.{Ghosts}
-use Rattle.devices.specs.Disks.{IsUnchanged}
+use Rattle.devices.specs.Disks.{IsOverwritten, IsUnchanged}
 use Rattle.devices.specs.Faults.{Rose}
 use Rattle.journal.proofs.Moments.{joined, widened}
 use Rattle.journal.proofs.OnlyReading.{reads_joined}
@@ -12,7 +12,7 @@ use Rattle.journal.specs.Moments.{LeavesOnly, OnlyReads}
 use Rattle.journal.specs.Reading.{IsRefusal}
 use Rattle.journal.specs.declared.opening.OpenFault.{OpenFault}
 use Rattle.journal.specs.declared.opening.OpenFault.TheVariants.{Fault, NotAJournal, Damaged, NoMemory}
-use Rattle.migration.specs.Copying.{GoesBehind, GoesOn, HasFailed, IsBarred, IsFrontOf, LeavesFronts}
+use Rattle.migration.specs.Copying.{GoesBehind, GoesOn, HasAll, HasCause, IsBarred, IsBetween, WentOn, appended}
 use Rattle.migration.specs.Matching.{DiffersAt}
 use Rattle.migration.specs.declared.copying.CopyFault.{CopyFault}
 use Rattle.migration.specs.declared.copying.CopyFault.TheVariants.{Open, Differs}
@@ -23,12 +23,16 @@ use Rattle.records.specs.declared.formats.Format.TheVariants.{Second}
 at : (content : Option (List ℕ)) (bytes : List ℕ) (P : List ℕ → Type 0) → content ≡ Some bytes → IfSome content P → P bytes
 at content bytes P is h = subst (λ (o : Option (List ℕ)). IfSome o P) is h
 
--- a front of the records, and one more of them
-pub front_stands : (done rest : List Record) (piece : Record) (records : List Record) (image : List ℕ) → records ≡ done ++ piece ∷ rest
-    → StandsFor Second done (Some piece) image → IsFrontOf records image
-front_stands done rest piece records image is (inl without) = (done, (piece ∷ rest, sym is), without)
-front_stands done rest piece records image is (inr with_it) =
-    (done ++ piece ∷ [], (rest, append_assoc done (piece ∷ []) rest ∙ sym is), with_it)
+-- those of the records that stood there and some more, and one more of them
+pub between_stands : (first done rest : List Record) (piece : Record) (records : List Record) (image : List ℕ) → IsPrefix first done
+    → records ≡ done ++ piece ∷ rest → StandsFor Second done (Some piece) image → IsBetween first records image
+between_stands first done rest piece records image before is (inl without) = (done, before, (piece ∷ rest, sym is), without)
+between_stands first done rest piece records image before is (inr with_it) = (
+  done ++ piece ∷ [],
+  (before.0 ++ piece ∷ [], sym (append_assoc first before.0 (piece ∷ [])) ∙ ap (λ (l : List Record). l ++ piece ∷ []) before.1),
+  (rest, append_assoc done (piece ∷ []) rest ∙ sym is),
+  with_it,
+)
 
 module _ {D : Type 0} (g : Ghosts D) where
   -- a call that kept the content and left nothing new at any moment
@@ -56,28 +60,38 @@ module _ {D : Type 0} (g : Ghosts D) where
       here (g.content old) (λ bytes. HasAnyHeader bytes → GoesOn g {T = T} records bytes (Err (Open fault)) old new) (λ bytes is.
       refused_at T records bytes old new fault before now (subst (λ (o : Option (List ℕ)). IsRefusal o fault before now) is refused) reads)
 
-  pub refused_rose : {T : Type 0} (content : Option (List ℕ)) (fault : OpenFault) (before now : ℕ) → IsRefusal content fault before now
-      → HasFailed {T = T} (Err (Open fault)) → Rose before now
-  refused_rose content fault before now refused failed =
-      let same : fault ≡ Fault = cc in
-      subst (λ (f : OpenFault). IsRefusal content f before now) same refused
+  pub refused_cause : (T : Type 0) (content : Option (List ℕ)) (why : OpenFault) (before now : ℕ) → IsRefusal content why before now
+      → HasCause {T = T} before now (Err (Open why))
+  refused_cause T content why before now refused failed = subst (λ (f : OpenFault). IsRefusal content f before now) failed refused
 
   -- reads before a copy goes on
-  fronts_behind : (records : List Record) (old mid new : D) → OnlyReads g old mid → LeavesFronts g records mid new → LeavesFronts g records old new
-  fronts_behind records old mid new reads leaves =
-      joined g old mid new (g.may_leave old) (λ image. g.may_leave mid image ⊎ IsFrontOf records image) (λ image. g.may_leave old image ⊎ IsFrontOf records image)
-      reads.any_moment leaves (λ image left. inl left) (λ image which. ⊎_elim (λ left. inl (reads.images image left)) (λ front. inr front) which)
+  left_behind : (P : List ℕ → Type 0) (old mid new : D) → OnlyReads g old mid → LeavesOnly g mid new (λ image. g.may_leave mid image ⊎ P image)
+      → LeavesOnly g old new (λ image. g.may_leave old image ⊎ P image)
+  left_behind P old mid new reads leaves =
+      joined g old mid new (g.may_leave old) (λ image. g.may_leave mid image ⊎ P image) (λ image. g.may_leave old image ⊎ P image) reads.any_moment leaves
+      (λ image left. inl left) (λ image which. ⊎_elim (λ left. inl (reads.images image left)) (λ between. inr between) which)
+
+  went_behind : (records : List Record) (bytes : List ℕ) (old mid new : D) → OnlyReads g old mid → WentOn g records bytes mid new
+      → WentOn g records bytes old new
+  went_behind records bytes old mid new reads went = record {
+    first = went.first;
+    rest = went.rest;
+    stood = went.stood;
+    parts = went.parts;
+    any_moment = left_behind (IsBetween went.first records) old mid new reads went.any_moment;
+  }
 
   reads_then : (old mid new : D) → OnlyReads g old mid → OnlyReads g mid new → OnlyReads g old new
   reads_then old mid new first second = reads_joined g old mid new first second
 
   pub behind_reads : {T : Type 0} (records : List Record) (bytes : List ℕ) (copied : Result T CopyFault) (old mid new : D) → OnlyReads g old mid
       → GoesOn g {T = T} records bytes copied mid new → GoesOn g {T = T} records bytes copied old new
-  behind_reads records bytes (Ok done) old mid new reads went = (went.0, fronts_behind records old mid new reads went.1, went.2)
+  unfolding went_behind
+  behind_reads records bytes (Ok done) old mid new reads went = (went_behind records bytes old mid new reads went.0, went.1, went.2)
   behind_reads records bytes (Err (Open Fault)) old mid new reads (inl more) = inl (reads_then old mid new reads more)
-  behind_reads records bytes (Err (Open Fault)) old mid new reads (inr went) = inr (went.0, fronts_behind records old mid new reads went.1)
+  behind_reads records bytes (Err (Open Fault)) old mid new reads (inr went) = inr (went_behind records bytes old mid new reads went)
   behind_reads records bytes (Err (Open NoMemory)) old mid new reads (inl more) = inl (reads_then old mid new reads more)
-  behind_reads records bytes (Err (Open NoMemory)) old mid new reads (inr went) = inr (went.0, fronts_behind records old mid new reads went.1)
+  behind_reads records bytes (Err (Open NoMemory)) old mid new reads (inr went) = inr (went_behind records bytes old mid new reads went)
   behind_reads records bytes (Err (Open NotAJournal)) old mid new reads went = (went.0, reads_then old mid new reads went.1)
   behind_reads records bytes (Err (Open (Damaged place))) old mid new reads went = (went.0, reads_then old mid new reads went.1)
   behind_reads records bytes (Err (Differs number)) old mid new reads went = (went.0, reads_then old mid new reads went.1)
@@ -105,31 +119,42 @@ module _ {D : Type 0} (g : Ghosts D) where
       barred_at T records bytes fault old new (at (g.content old) bytes _ is barred) reads)
 
   -- a copy that was appended behind what was read
-  appended_at : {T : Type 0} (records : List Record) (bytes : List ℕ) (copied : Result T CopyFault) (old mid new : D) → OnlyReads g old mid
-      → IsFrontOf records bytes → GoesBehind g {T = T} records copied mid new → GoesOn g {T = T} records bytes copied old new
-  appended_at records bytes copied old mid new reads front went = by copied went
+  appended_at : {T : Type 0} (records : List Record) (bytes : List ℕ) (first rest : List Record) (copied : Result T CopyFault) (old mid new : D)
+      → OnlyReads g old mid → IsJournalOf Second first bytes → records ≡ first ++ rest → g.content mid ≡ Some bytes
+      → GoesBehind g {T = T} first rest copied mid new → GoesOn g {T = T} records bytes copied old new
+  appended_at records bytes first rest copied old mid new reads stood parts told went = by copied went
     where
-      fronts : LeavesOnly g mid new (IsFrontOf records) → LeavesFronts g records old new
-      fronts leaves =
-          fronts_behind records old mid new reads
-          (widened g mid new (IsFrontOf records) (λ image. g.may_leave mid image ⊎ IsFrontOf records image) leaves (λ image is. inr is))
+      on : LeavesOnly g mid new (IsBetween first (first ++ rest)) → WentOn g records bytes old new
+      on leaves = record {
+        first = first;
+        rest = rest;
+        stood = stood;
+        parts = parts;
+        any_moment = left_behind (IsBetween first records) old mid new reads
+            (widened g mid new (IsBetween first (first ++ rest)) (λ image. g.may_leave mid image ⊎ IsBetween first records image) leaves
+            (λ image is. inr (subst (λ (l : List Record). IsBetween first l image) (sym parts) is)));
+      }
 
-      by : {T : Type 0} (copied : Result T CopyFault) → GoesBehind g {T = T} records copied mid new → GoesOn g {T = T} records bytes copied old new
-      by (Ok done) went = (front, fronts went.0, went.1)
-      by (Err (Open Fault)) went = inr (front, fronts went)
-      by (Err (Open NoMemory)) went = inr (front, fronts went)
+      by : {T : Type 0} (copied : Result T CopyFault) → GoesBehind g {T = T} first rest copied mid new → GoesOn g {T = T} records bytes copied old new
+      by (Ok done) went = (
+        on went.0,
+        subst (λ (l : List Record). HasAll g l new) (sym parts) went.1,
+        subst (λ (o : Option (List ℕ)). IsOverwritten o (length (front Second first)) (appended rest) (g.content new)) told went.2,
+      )
+      by (Err (Open Fault)) went = inr (on went)
+      by (Err (Open NoMemory)) went = inr (on went)
       by (Err (Open NotAJournal)) went = absurd went
       by (Err (Open (Damaged place))) went = absurd went
       by (Err (Differs number)) went = absurd went
 
-  pub appended_goes_on : {T : Type 0} (records done : List Record) (copied : Result T CopyFault) (old mid again new : D) → OnlyReads g old mid
-      → IsPrefix done records → IfSome (g.content old) (IsJournalOf Second done) → again ≡ mid
-      → (IsSome (g.content mid) → GoesBehind g {T = T} records copied again new)
+  pub appended_goes_on : {T : Type 0} (records first rest : List Record) (copied : Result T CopyFault) (old mid again new : D) → OnlyReads g old mid
+      → records ≡ first ++ rest → IfSome (g.content old) (IsJournalOf Second first) → again ≡ mid
+      → (IsSome (g.content mid) → GoesBehind g {T = T} first rest copied again new)
       → IfSome (g.content old) (λ bytes. GoesOn g {T = T} records bytes copied old new)
-  appended_goes_on {T} records done copied old mid again new reads front stands same went =
+  appended_goes_on {T} records first rest copied old mid again new reads parts stands same went =
       here (g.content old) (λ bytes. GoesOn g {T = T} records bytes copied old new) (λ bytes is.
-      appended_at {T = T} records bytes copied old mid new reads (done, front, at (g.content old) bytes _ is stands)
-      (subst (λ (d : D). GoesBehind g {T = T} records copied d new) same
+      appended_at {T = T} records bytes first rest copied old mid new reads (at (g.content old) bytes _ is stands) parts (reads.same ∙ is)
+      (subst (λ (d : D). GoesBehind g {T = T} first rest copied d new) same
       (went (subst (λ (o : Option (List ℕ)). IsSome o) (sym (reads.same ∙ is)) refl))))
 
 -- the record that differs bars a copy

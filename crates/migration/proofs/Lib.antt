@@ -6,3 +6,4 @@ pub mod MatchLemmas
 pub mod PlaceLemmas
 pub mod ReadLemmas
 pub mod RoomLemmas
+pub mod WrittenLemmas

@@ -1,14 +1,15 @@
 //! Records copied into a journal of the second format, which is made where none is.
 
 ghost use Rattle.std.specs.Prelude.{◌≡◌, ◌⊎◌, ◌≤◌, ◌+◌, ◌++◌, ◌∷◌, List, [], true, false, length, flat_map, IfErr, IfOk, IfSome, OnOk, Some, None, Err};
-ghost use Rattle.devices.specs.Disks.{IsDurable};
+ghost use Rattle.devices.specs.Disks.{IsDurable, IsOverwritten};
 ghost use Rattle.devices.specs.Faults.{Rose};
 ghost use Rattle.journal.specs.JournalBytes.{HasAnyHeader, StandsFor, block, front};
 ghost use Rattle.journal.specs.Keeping.{Holds};
 ghost use Rattle.journal.specs.Moments.{LeavesOnly, OnlyReads};
 ghost use Rattle.journal.specs.Reading.{HasEnded, HasRead};
-ghost use Rattle.migration.specs.Copying.{Begins, Copies, GoesBehind, GoesOn, HasFailed, IsBarred, IsFrontOf, beginning_of};
+ghost use Rattle.migration.specs.Copying.{Begins, Copies, GoesBehind, GoesOn, HasCause, IsBarred, IsBetween, appended, beginning_of};
 ghost use Rattle.migration.specs.Reading.{HasRoom};
+ghost use Rattle.records.specs.Payloads.{closed_gate};
 ghost use Rattle.records.specs.Sheets.{Record};
 ghost use Rattle.records.specs.declared.formats.Format.TheVariants.{Second};
 
@@ -56,7 +57,7 @@ impl From<OpenFault> for CopyFault {
 /// first of the records, only the further ones are appended; and where it has others, or is of the first format, nothing is written. The disk is
 /// given back, whatever came.
 ///
-/// The disk is synced first. So a stop at any moment leaves what a copy of the same records may begin on again.
+/// The disk is synced first. So a stop at any moment leaves what a copy of the same records may begin on again, and no fewer records than stood there.
 pub fn copy_records<D: Disk>(
     alloc: Global,
     disk: D,
@@ -65,7 +66,7 @@ pub fn copy_records<D: Disk>(
 ) -> (Result<(), CopyFault>, D)
     requires { HasRoom limit records.now }
     ensures copies { Copies D.Disk records.now result.0 disk result.1 }
-    ensures cause { HasFailed result.0 → Rose (D.faults disk) (D.faults result.1) }
+    ensures cause { HasCause (D.faults disk) (D.faults result.1) result.0 }
     ensures counted { D.faults disk ≤ D.faults result.1 }
 {
     let mut disk = disk;
@@ -84,7 +85,7 @@ fn copy_behind<D: Disk>(
 ) -> (Result<(), CopyFault>, D)
     requires { HasRoom limit records.now }
     ensures goes_on { IfSome (D.content disk) (λ bytes. HasAnyHeader bytes → GoesOn D.Disk records.now bytes result.0 disk result.1) }
-    ensures cause { HasFailed result.0 → Rose (D.faults disk) (D.faults result.1) }
+    ensures cause { HasCause (D.faults disk) (D.faults result.1) result.0 }
     ensures counted { D.faults disk ≤ D.faults result.1 }
 {
     match journal::open(alloc, disk) {
@@ -96,7 +97,7 @@ fn copy_behind<D: Disk>(
 /// Syncs, and makes a journal of no records where one may be made.
 fn begin<D: Disk>(disk: &mut D) -> Result<(), CopyFault>
     ensures begins { IfSome (D.content disk.old) (λ bytes. Begins D.Disk bytes result disk.old disk.new) }
-    ensures cause { HasFailed result → Rose (D.faults disk.old) (D.faults disk.new) }
+    ensures cause { HasCause (D.faults disk.old) (D.faults disk.new) result }
     ensures counted { D.faults disk.old ≤ D.faults disk.new }
 {
     disk.sync()?;
@@ -125,7 +126,7 @@ fn go_on<D: Disk>(
     requires room { HasRoom limit records.now }
     ensures goes_on { IsDurable (D.content opening.ahead.disk) (D.may_leave opening.ahead.disk)
         → IfSome (D.content opening.ahead.disk) (λ bytes. GoesOn D.Disk records.now bytes result.0 opening.ahead.disk result.1) }
-    ensures cause { HasFailed result.0 → Rose (D.faults opening.ahead.disk) (D.faults result.1) }
+    ensures cause { HasCause (D.faults opening.ahead.disk) (D.faults result.1) result.0 }
     ensures counted { D.faults opening.ahead.disk ≤ D.faults result.1 }
 {
     let mut opening = opening;
@@ -148,7 +149,7 @@ fn place_in<D: Disk>(
     ensures within { IfOk result (λ place. place ≤ length records.now) }
     ensures barred { IfErr result (λ fault. IfSome (D.content opening.old.ahead.disk) (λ bytes. IsBarred records.now bytes fault)) }
     ensures disk { OnlyReads D.Disk opening.old.ahead.disk opening.new.ahead.disk }
-    ensures cause { HasFailed result → Rose (D.faults opening.old.ahead.disk) (D.faults opening.new.ahead.disk) }
+    ensures cause { HasCause (D.faults opening.old.ahead.disk) (D.faults opening.new.ahead.disk) result }
 {
     if opening.format() == Format::First {
         return Err(CopyFault::Differs(0));
@@ -172,9 +173,9 @@ fn append_from<D: Disk>(
     requires format { journal.format ≡ Second }
     requires settled { journal.in_doubt ≡ false }
     requires room { HasRoom journal.limit records.now }
-    ensures appended { (done rest : List Record) → records.now ≡ done ++ rest → length done ≡ place → Holds done None journal
-        → GoesBehind D.Disk records.now result.0 journal.disk result.1 }
-    ensures cause { HasFailed result.0 → Rose (D.faults journal.disk) (D.faults result.1) }
+    ensures appended { (first rest : List Record) → records.now ≡ first ++ rest → length first ≡ place → Holds first None journal
+        → GoesBehind D.Disk first rest result.0 journal.disk result.1 }
+    ensures cause { HasCause (D.faults journal.disk) (D.faults result.1) result.0 }
     ensures counted { D.faults journal.disk ≤ D.faults result.1 }
 {
     let mut journal = journal;
@@ -193,10 +194,12 @@ fn append_all<D: Disk>(
     requires room { journal.old.gate + length (flat_map (block Second) records.now) + 1 ≤ journal.old.limit }
     ensures appended { (done : List Record) → Holds done None journal.old → OnOk result (Holds (done ++ records.now) None journal.new) }
     ensures any_moment { (done : List Record) → Holds done None journal.old
-        → LeavesOnly D.Disk journal.old.disk journal.new.disk (IsFrontOf (done ++ records.now)) }
+        → LeavesOnly D.Disk journal.old.disk journal.new.disk (IsBetween done (done ++ records.now)) }
+    ensures wrote { (done : List Record) → Holds done None journal.old
+        → OnOk result (IsOverwritten (D.content journal.old.disk) journal.old.gate (appended records.now) (D.content journal.new.disk)) }
     ensures only { IfErr result (λ fault. (fault ≡ CopyFault.Open OpenFault.Fault) ⊎ (fault ≡ CopyFault.Open OpenFault.NoMemory)) }
     ensures format { journal.new.format ≡ Second }
-    ensures cause { HasFailed result → Rose (D.faults journal.old.disk) (D.faults journal.new.disk) }
+    ensures cause { HasCause (D.faults journal.old.disk) (D.faults journal.new.disk) result }
     ensures counted { D.faults journal.old.disk ≤ D.faults journal.new.disk }
 {
     for piece in records {
@@ -213,6 +216,7 @@ fn append<D: Disk>(alloc: Global, journal: &mut Journal<D>, piece: &Record) -> R
     ensures appended { (done : List Record) → Holds done None journal.old → OnOk result (Holds (done ++ piece.now ∷ []) None journal.new) }
     ensures any_moment { (done : List Record) → Holds done None journal.old
         → LeavesOnly D.Disk journal.old.disk journal.new.disk (StandsFor Second done (Some piece.now)) }
+    ensures wrote { OnOk result (IsOverwritten (D.content journal.old.disk) journal.old.gate (block Second piece.now ++ closed_gate ∷ []) (D.content journal.new.disk)) }
     ensures gate { OnOk result (journal.new.gate ≡ journal.old.gate + length (block Second piece.now)) }
     ensures settled { OnOk result (journal.new.in_doubt ≡ false) }
     ensures only { IfErr result (λ fault. (fault ≡ OpenFault.Fault) ⊎ (fault ≡ OpenFault.NoMemory)) }

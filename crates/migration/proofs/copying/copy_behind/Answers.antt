@@ -1,5 +1,5 @@
 -- The journal is opened, and the copy goes on over it.
-use Rattle.migration.proofs.GoLemmas.{only_reads, opened_goes_on, refused_goes_on, refused_rose}
+use Rattle.migration.proofs.GoLemmas.{only_reads, opened_goes_on, refused_cause, refused_goes_on}
 use Rattle.migration.proofs.copying.copy_behind.Goals as goal
 
 pub returns-in-Ok-clause-goes_on : goal.returns-in-Ok-clause-goes_on
@@ -16,4 +16,4 @@ returns-in-Err-clause-goes_on g c =
     (only_reads g.D.Disk g.met.D.Disk.counts_now c.args.disk c.in-Err.refused.disk refused.refused_same refused.refused_any_moment refused.refused_counted)
 
 pub returns-in-Err-clause-cause : goal.returns-in-Err-clause-cause
-returns-in-Err-clause-cause g c = refused_rose g.D.Disk _ _ _ _ c.in-Err.ensures.refused
+returns-in-Err-clause-cause g c = refused_cause g.D.Disk (Unit {0}) _ _ _ _ c.in-Err.ensures.refused

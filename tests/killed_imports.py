@@ -9,7 +9,7 @@ has come to a random length, since most of the time goes to the text. After each
 text, byte for byte, at most one of them beyond those that were told. Then the whole text is imported: all edits must be told under their
 numbers, with the counts of readings and of skipped rows, and the journal must hold each edit exactly once, in order. Imported once more,
 it must say the same and leave every byte of the journal. Prints how many edits the killed runs left, and ends with status 1 at the first
-run that is not so, and where no kill came between two edits. 100 kills take about a minute.
+run that is not so, and where no kill came between two edits. 100 kills take some minutes.
 
 A kill stops the program and not the disk, as in `killed_runs.py`.
 """

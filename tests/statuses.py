@@ -1,6 +1,6 @@
 #!/usr/bin/env python3
 """Runs the commands to each of their statuses, and looks at all three standard streams; status 6 of `init`, of `serve` and of
-`trial`, 12 of `migrate`, and those of `import` and `notes` are not among them.
+`trial`, and 12 of `migrate` are not among them.
 
     python3 tests/statuses.py PROGRAM [--long]
 
@@ -9,6 +9,7 @@ at the first that differs. The statuses of replies are among them. A name of the
 that are closed, that can't be read or written, and a journal that another run has open are among the cases. It takes
 seconds; with --long also the status that comes after 2^36 bytes of input, which takes a minute or two.
 """
+import functools
 import json
 import os
 import pathlib
@@ -77,6 +78,12 @@ class Place:
         return self.journal.read_bytes() if self.journal.exists() else None
 
 
+@functools.cache
+def long_journal():
+    """A journal of many edits, for which little memory does not do."""
+    return journals.journal(range(1, 400_001))
+
+
 def expect(what, wanted, got):
     if wanted != got:
         raise SystemExit(f"{what}:\n  wanted {wanted}\n  got    {got}")
@@ -104,6 +111,8 @@ def usage(place):
         ["stations", "--journal", name, "--"],
         ["daily", "--journal", name, "--site", "01646500", "--from", "2024-01-05", "--to", "2024-01-04", "--turns", "0"],
         ["water", "--journal", name, "--site", "01646500", "--year", "1900", "--turns", "0"],
+        ["import", "--journal", name, "--site", "01646500", "--column", "00065", "--by", "AB", "--ref", "u" * 31],
+        ["notes", "--journal", name, *FIELD_DATA["notes"][:2], "--number", "0", *FIELD_DATA["notes"][4:]],
         ["trial"],
         ["trial", "--number", "1234567890"],
         ["--help"],
@@ -258,10 +267,72 @@ def tables(place):
         ]:
             expect(command + what, wanted, place.on_journal(command, content, b"x", before, options))
             expect("    what is left", content, place.content())
-        content = journals.journal(range(1, 400_001))
+        content = long_journal()
         got = place.on_journal(command, content, b"", limit_memory, options)
         expect(f"{command} with little memory", (6, b"", b"streamoffice: out of memory\n"), got)
         expect("    what is left", content, place.content())
+
+
+# A column of two readings, and notes of three verticals.
+NAMES = b"agency_cd\tsite_no\tdatetime\ttz_cd\t00065\n5s\t15s\t20d\t6s\t14n\n"
+ROW = b"USGS\t01646500\t2024-01-05 0%d:00\tEST\t%s\n"
+UNITS = NAMES + ROW % (1, b"1.00") + ROW % (2, b"Ice") + ROW % (3, b"1.50")
+NOTES = b"distance,depth,v2,v6,v8\n0,0,,,\n10,2,,1.5,\n20,0,,,\n"
+FIGURES = b"VERTICAL 1 Q 0.000000 SHARE 0.00\nVERTICAL 2 Q 30.000000 SHARE 100.00\nVERTICAL 3 Q 0.000000 SHARE 0.00\nTOTAL 30.000000\n"
+FIELD_DATA = {
+    "import": (*SITE, "--column", "00065", "--by", "AB", "--ref", "u"),
+    "notes": (*SITE, "--number", "1", "--at", "2024-01-05T12:00:00Z", "--gage", "1.5", "--grade", "good", "--by", "AB", "--ref", "n"),
+}
+# Of each its text, and what is written where the edit is told so; a text of the greatest length that states the same; and a text that is
+# refused, with its line.
+TEXTS = {
+    "import": (
+        UNITS,
+        b"%s\nreadings 2 skipped 1\n",
+        UNITS + b"#" * (67_108_864 - len(UNITS)),
+        (13, UNITS + ROW % (4, b"-100001"), b"streamoffice: rdb Range at line 6\n"),
+        b"streamoffice: rdb Long at line 0\n",
+    ),
+    "notes": (
+        NOTES,
+        FIGURES + b"%s\n",
+        NOTES + b"\n" * (1_048_576 - len(NOTES)),
+        (14, NOTES + b"30,x,,,\n", b"streamoffice: notes Number at 5\n"),
+        b"streamoffice: notes Long at 0\n",
+    ),
+}
+
+
+def field_data(place):
+    """Unit values and measurement notes over real files, with every stream."""
+    for command, options in FIELD_DATA.items():
+        text, written, longest, (refused, bad, line), long_line = TEXTS[command]
+        done = (0, written % b"edit 2", b"")
+        expect(command, done, place.on_journal(command, STATION, text, options=options))
+        kept = place.content()
+        expect("    what is left begins as before", STATION[:-1], kept[: len(STATION) - 1])
+        # the figures of notes come before the edit, the line of readings behind it
+        cut = kept if command == "import" else STATION
+        for what, content, data, wanted, after, before in [
+            (" again", kept, text, done, kept, None),
+            (" of the longest text", STATION, longest, done, kept, None),
+            (" of no station", EMPTY, text, (0, written % b"refused NoStation", b""), EMPTY, None),
+            (", stream 0 closed", STATION, b"", (2, b"", INPUT_FAULT), STATION, closed(0)),
+            (", stream 1 closed", STATION, text, (3, b"", OUTPUT_FAULT), cut, closed(1)),
+            (" on nothing", None, text, (5, b"", NOT_A_JOURNAL), None, None),
+            (" on a damaged one", STATION[:-1], text, (5, b"", b"streamoffice: damaged at %d\n" % (len(STATION) - 1)), STATION[:-1], None),
+            (" of a text that is refused", STATION, bad, (refused, b"", line), STATION, None),
+            (" of a text that is too long", STATION, longest + b"\n", (refused, b"", long_line), STATION, None),
+        ]:
+            expect(command + what, wanted, place.on_journal(command, content, data, before, options))
+            expect("    what is left", after, place.content())
+        out_of_memory = (6, b"", b"streamoffice: out of memory\n")
+        content = long_journal()
+        expect(f"{command} with little memory", out_of_memory, place.on_journal(command, content, text, limit_memory, options))
+        expect("    what is left", content, place.content())
+    got = place.on_journal("import", STATION, TEXTS["import"][2], limit_memory, FIELD_DATA["import"])
+    expect("import of a text for which there is no memory", out_of_memory, got)
+    expect("    what is left", STATION, place.content())
 
 
 # the total of the trial of a number, as an independent program computes it
@@ -439,8 +510,9 @@ def another_run(place):
         first.stdin.write(request(2))
         first.stdin.flush()
         first.stdout.read(len(reply(2)))
-        for command in ["init", "batch", "stations", *TABLES]:
-            got = place.run([command, "--journal", str(place.journal), *TABLES.get(command, ())], request(2))
+        options = {**TABLES, **FIELD_DATA}
+        for command in ["init", "batch", "stations", *options]:
+            got = place.run([command, "--journal", str(place.journal), *options.get(command, ())], request(2))
             expect(f"{command} beside another run", (4, b"", DISK_FAULT), got)
             expect("    what is left", READING, place.content())
         other = place.journal.with_name("other")
@@ -464,7 +536,7 @@ def limit_memory():
 
 def little_memory(place):
     """A long journal where there is memory for few readings alone."""
-    content = journals.journal(range(1, 400_001))
+    content = long_journal()
     for command, data in [("batch", request(2)), ("stations", document(("01646500", "s-1")))]:
         got = place.on_journal(command, content, data, before=limit_memory)
         expect(f"{command} with little memory", (6, b"", b"streamoffice: out of memory\n"), got)
@@ -491,7 +563,7 @@ def main():
     if len(sys.argv) not in (2, 3):
         raise SystemExit(__doc__)
     program = str(pathlib.Path(sys.argv[1]).resolve())
-    cases = [usage, own_name, ends, served, stations, tables, trial, replies, migrations, closed_streams, failing_streams, another_run, little_memory]
+    cases = [usage, own_name, ends, served, stations, tables, field_data, trial, replies, migrations, closed_streams, failing_streams, another_run, little_memory]
     for case in cases + [long_input] * ("--long" in sys.argv):
         with tempfile.TemporaryDirectory() as folder:
             case(Place(program, folder))

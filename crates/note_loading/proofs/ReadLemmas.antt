@@ -1,5 +1,5 @@
 -- The figures of an input, and why it has none.
-use Rattle.std.proofs.Common.{◌≡◌, ◌∙◌, refl, sym, subst, ℕ, ◌+◌, ◌<◌, List, [], length, Option, Some, None, IfSome, Result, Ok, Err, inl, inr}
+use Rattle.std.proofs.Common.{◌≡◌, ◌∙◌, refl, sym, subst, ℕ, ◌+◌, ◌<◌, ◌≤◌, List, [], length, Option, Some, None, IfSome, Result, Ok, Err, inl, inr}
 use Rattle.std.specs.Prelude.{◌⊎◌}
 use Rattle.midsection.specs.Reading.{notes_of}
 use Rattle.midsection.specs.declared.faults.NotesFault.{NotesFault}
@@ -35,25 +35,27 @@ pub unstated : (text : List ℕ) (fault : NotesFault) (end : NotesEnd) → end �
 unstated text fault end is why = subst (IsUnstated text) (sym is) (told text fault why)
 
 -- a text that states no notes is the whole input
-ends_unread : (end : NotesEnd) (input : List ℕ) → IsUnstated input end → EndsUnread end input []
-ends_unread ends.Done input why = absurd why
-ends_unread ends.InputFault input why = absurd why
-ends_unread ends.OutputFault input why = absurd why
-ends_unread ends.TooLong input why = absurd why
-ends_unread (ends.Refused fault) input why = (refl, why)
-ends_unread ends.NoMemory input why = tt
+ends_unread : (end : NotesEnd) (input : List ℕ) → length input ≤ most_bytes → IsUnstated input end → EndsUnread end input []
+ends_unread ends.Done input within why = absurd why
+ends_unread ends.InputFault input within why = absurd why
+ends_unread ends.OutputFault input within why = absurd why
+ends_unread ends.TooLong input within why = absurd why
+ends_unread (ends.Refused fault) input within why = ((refl, within), why)
+ends_unread ends.NoMemory input within why = tt
 
-pub unread_text : (end : NotesEnd) (l0 l : Option (List ℕ)) (text : List ℕ) → IsWhole l0 text l → IsUnstated text end → IsUnread l0 end l
-unread_text end None l text whole why = tt
-unread_text end (Some input) None text whole why = absurd whole
-unread_text end (Some input) (Some left) text whole why =
-    subst (λ (l : List ℕ). EndsUnread end input l) (sym whole.1) (ends_unread end input (subst (λ (t : List ℕ). IsUnstated t end) (sym whole.0) why))
+pub unread_text : (end : NotesEnd) (l0 l : Option (List ℕ)) (text : List ℕ) → IsWhole l0 text l → length text ≤ most_bytes → IsUnstated text end → IsUnread l0 end l
+unread_text end None l text whole within why = tt
+unread_text end (Some input) None text whole within why = absurd whole
+unread_text end (Some input) (Some left) text whole within why =
+    let long : length input ≤ most_bytes = subst (λ (t : List ℕ). length t ≤ most_bytes) (sym whole.0) within in
+    subst (λ (l : List ℕ). EndsUnread end input l) (sym whole.1) (ends_unread end input long (subst (λ (t : List ℕ). IsUnstated t end) (sym whole.0) why))
 
 -- and so is one that states notes
-pub read_text : (figures : Figures) (l0 l : Option (List ℕ)) (text : List ℕ) → IsWhole l0 text l → IsStatedAs text figures → IsReadAs l0 figures l
-read_text figures None l text whole is = tt
-read_text figures (Some input) None text whole is = absurd whole
-read_text figures (Some input) (Some left) text whole is = (subst (λ (t : List ℕ). IsStatedAs t figures) (sym whole.0) is, whole.1)
+pub read_text : (figures : Figures) (l0 l : Option (List ℕ)) (text : List ℕ) → IsWhole l0 text l → length text ≤ most_bytes → IsStatedAs text figures → IsReadAs l0 figures l
+read_text figures None l text whole within is = tt
+read_text figures (Some input) None text whole within is = absurd whole
+read_text figures (Some input) (Some left) text whole within is =
+    (subst (λ (t : List ℕ). IsStatedAs t figures) (sym whole.0) is, (whole.1, subst (λ (t : List ℕ). length t ≤ most_bytes) (sym whole.0) within))
 
 -- an input that was not read whole
 not_read : (error : NotRead) (l0 l : Option (List ℕ)) → IsTakenWithin (most_bytes + 1) l0 l → (error ≡ unread.TooLong → IfSome l0 (λ input. most_bytes < length input))

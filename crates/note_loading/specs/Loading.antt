@@ -1,5 +1,5 @@
 -- What was read, written and asked where measurement notes were loaded.
-use Rattle.std.specs.Prelude.{◌≡◌, ◌⊎◌, ℕ, ℤ, ◌+◌, ◌<◌, Bool, true, false, List, [], ◌++◌, length, codes, Option, IfSome, IsSomeAnd, Ok, Err, ⊤}
+use Rattle.std.specs.Prelude.{◌≡◌, ◌⊎◌, ℕ, ℤ, ◌+◌, ◌<◌, ◌≤◌, Bool, true, false, List, [], ◌++◌, length, codes, Option, IfSome, IsSomeAnd, Ok, Err, ⊤}
 use Rattle.desk.specs.Endings.{StopsWithin}
 use Rattle.devices.specs.Sinks.{AreWritten, IsCutShort}
 use Rattle.edits.specs.declared.content.Edit.{Edit}
@@ -52,12 +52,16 @@ abbrev pub TellsNotes : Bool → Visit → List ℕ → History → History → 
 TellsNotes done v input h after written =
     (verticals : List Vertical) × (notes_of input ≡ Ok verticals) × Tells done v (total verticals) (figures_text verticals) h after written
 
+-- all of the input was taken, and it is no longer than notes may be
+abbrev pub IsAllOf : List ℕ → List ℕ → Type 0
+IsAllOf input left = (left ≡ []) × (length input ≤ most_bytes)
+
 -- what was written and has happened at each end, by the input
 abbrev pub LoadsBy : NotesEnd → Visit → History → List ℕ → List ℕ → History → List ℕ → Type 0
-LoadsBy ends.Done v h input left after written = (left ≡ []) × TellsNotes true v input h after written
-LoadsBy ends.OutputFault v h input left after written = (left ≡ []) × TellsNotes false v input h after written
+LoadsBy ends.Done v h input left after written = IsAllOf input left × TellsNotes true v input h after written
+LoadsBy ends.OutputFault v h input left after written = IsAllOf input left × TellsNotes false v input h after written
 LoadsBy ends.TooLong v h input left after written = (most_bytes < length input) × NothingDone h after written
-LoadsBy (ends.Refused fault) v h input left after written = (left ≡ []) × (notes_of input ≡ Err fault) × NothingDone h after written
+LoadsBy (ends.Refused fault) v h input left after written = IsAllOf input left × (notes_of input ≡ Err fault) × NothingDone h after written
 LoadsBy ends.InputFault v h input left after written = NothingDone h after written
 LoadsBy ends.NoMemory v h input left after written = NothingDone h after written
 
@@ -91,7 +95,7 @@ IsUnstated text ends.NoMemory = ⊤
 
 -- all of the input was taken, and states notes of these figures
 abbrev pub IsReadAs : Option (List ℕ) → Figures → Option (List ℕ) → Type 0
-IsReadAs before figures after = IfSome before (λ input. IsSomeAnd after (λ left. IsStatedAs input figures × (left ≡ [])))
+IsReadAs before figures after = IfSome before (λ input. IsSomeAnd after (λ left. IsStatedAs input figures × IsAllOf input left))
 
 -- the input is too long, or states no notes
 abbrev pub EndsUnread : NotesEnd → List ℕ → List ℕ → Type 0
@@ -99,7 +103,7 @@ EndsUnread ends.Done input left = ⊥
 EndsUnread ends.InputFault input left = ⊤
 EndsUnread ends.OutputFault input left = ⊥
 EndsUnread ends.TooLong input left = most_bytes < length input
-EndsUnread (ends.Refused fault) input left = (left ≡ []) × (notes_of input ≡ Err fault)
+EndsUnread (ends.Refused fault) input left = IsAllOf input left × (notes_of input ≡ Err fault)
 EndsUnread ends.NoMemory input left = ⊤
 
 abbrev pub IsUnread : Option (List ℕ) → NotesEnd → Option (List ℕ) → Type 0

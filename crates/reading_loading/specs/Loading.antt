@@ -1,5 +1,6 @@
 -- How the loading of the readings of a text ends.
-use Rattle.std.specs.Prelude.{◌≡◌, ◌⊎◌, ℕ, ◌+◌, ◌<◌, Bool, true, false, List, [], ◌++◌, length, Option, IfSome, IsSomeAnd, ⊤}
+use Rattle.std.specs.Prelude.{◌≡◌, ◌⊎◌, ℕ, ◌+◌, ◌<◌, ◌≤◌, Bool, true, false, List, [], ◌++◌, length, Option, IfSome, IsSomeAnd, ⊤}
+use Rattle.std.specs.List.{concat}
 use Rattle.desk.specs.Endings.{StopsWithin}
 use Rattle.devices.specs.Faults.{Rose}
 use Rattle.devices.specs.Sinks.{AreWritten}
@@ -15,6 +16,8 @@ use Rattle.reading_loading.specs.Puts.{AreFirstPuts, ArePuts, Order}
 use Rattle.reading_loading.specs.declared.limits.TheConstants.{MOST_BYTES}
 use Rattle.reading_loading.specs.declared.loading.ReadingsEnd.{ReadingsEnd}
 use Rattle.reading_loading.specs.declared.loading.ReadingsEnd.TheVariants.{Done, InputFault, OutputFault, TooLong, Refused, NoMemory}
+use Rattle.told_edits.specs.Again.{AreToldAsBefore, TellNumbers}
+use Rattle.told_edits.specs.Lines.{AreSent}
 use Rattle.told_edits.specs.Telling.{AreTold}
 use Rattle.whole_inputs.specs.Inputs.{IsTakenAtMost}
 use Rattle.whole_inputs.specs.declared.inputs.NotRead.{NotRead}
@@ -38,9 +41,13 @@ AreUnitsTold false order units h after written =
 abbrev pub NothingDone : History → History → List ℕ → Type 0
 NothingDone h after written = (after ≡ h) × (written ≡ [])
 
+-- all of the input was taken, and it is no longer than a text of readings may be
+abbrev pub IsAllOf : List ℕ → List ℕ → Type 0
+IsAllOf input left = (left ≡ []) × (length input ≤ MOST_BYTES)
+
 -- the whole input states these readings
 abbrev pub StatesUnits : Order → List ℕ → List ℕ → UnitList → Type 0
-StatesUnits order input left units = IsStated order.site order.column input units × (left ≡ [])
+StatesUnits order input left units = IsStated order.site order.column input units × IsAllOf input left
 
 -- why the text was not read, or states no readings; ends behind which edits were asked have no such reason
 abbrev pub UnstatedBy : Order → ReadingsEnd → List ℕ → List ℕ → Type 0
@@ -48,7 +55,7 @@ UnstatedBy order Done input left = ⊥
 UnstatedBy order InputFault input left = ⊤
 UnstatedBy order OutputFault input left = ⊥
 UnstatedBy order TooLong input left = MOST_BYTES < length input
-UnstatedBy order (Refused fault) input left = IsRefused order.site order.column input fault × (left ≡ [])
+UnstatedBy order (Refused fault) input left = IsRefused order.site order.column input fault × IsAllOf input left
 UnstatedBy order NoMemory input left = ⊤
 
 -- what was written and has happened at each end, by the input
@@ -105,3 +112,15 @@ LoadingCause OutputFault source_before source_now sink_before sink_now = Rose si
 LoadingCause TooLong source_before source_now sink_before sink_now = ⊤
 LoadingCause (Refused fault) source_before source_now sink_before sink_now = ⊤
 LoadingCause NoMemory source_before source_now sink_before sink_now = ⊤
+
+-- A text of readings was loaded, and again behind more edits: where a line told a number at first it tells it again, or that there was no memory
+-- to look, and where all of them told one, nothing happened.
+pub record IsLoadedAgain (units : UnitList) (edits : List Edit) (h after later last : History) (written again : List ℕ) : Type 0 where
+  pub lines : List (List ℕ)
+  pub lines_again : List (List ℕ)
+  pub sent : AreSent end_of h edits lines after
+  pub sent_again : AreSent end_of later edits lines_again last
+  pub first : written ≡ concat lines ++ count_line units
+  pub second : again ≡ concat lines_again ++ count_line units
+  pub told : AreToldAsBefore end_of edits lines lines_again
+  pub nothing : TellNumbers end_of edits lines → last ≡ later

@@ -5,12 +5,13 @@ ghost use Rattle.std.specs.List.{concat, flat_map};
 ghost use Rattle.edits.specs.Lawful.{most_readings};
 ghost use Rattle.edits.specs.declared.content.Edit.{Edit};
 ghost use Rattle.fixed_units.specs.declared.readings.Reading.{Reading};
+ghost use Rattle.history.specs.Accepted.{edits_of};
 ghost use Rattle.history.specs.Events.{History};
 ghost use Rattle.history.specs.Legal.{IsLegal};
 ghost use Rattle.rdb_records.specs.Units.{IsStated};
 ghost use Rattle.rdb_records.specs.declared.units.UnitList.{UnitList};
 ghost use Rattle.reading_loading.specs.Lines.{count_line, end_of};
-ghost use Rattle.reading_loading.specs.Loading.{Loads};
+ghost use Rattle.reading_loading.specs.Loading.{IsLoadedAgain, Loads};
 ghost use Rattle.reading_loading.specs.Puts.{ArePuts, Order, readings_put};
 ghost use Rattle.reading_loading.specs.declared.loading.ReadingsEnd.TheVariants as ReadingsEnd;
 ghost use Rattle.told_edits.specs.Again.{AreInForce, AreToldAgain};
@@ -36,9 +37,15 @@ pub fn readings_in_force_are_put_again()
 {}
 
 /// However often a text is loaded, and whatever is refused of it, each of its edits that is not refused stands once: those that a loading adds
-/// to the accepted edits are new ones of its own, in order, and each of which a line tells a number is known under it from then on.
+/// to the accepted edits are new ones of its own, in order, and each of which a line tells a number is known under it from then on. Loaded again,
+/// whatever was accepted meanwhile, each of these lines tells that number, or that there was no memory to look; and where all of them told one,
+/// nothing happens.
 pub fn each_put_stands_once()
-    ensures { (order : Order) (units : UnitList) (h after : History) (input left written : List ℕ) → IsLegal h → IsStated order.site order.column input units
+    ensures settled { (order : Order) (units : UnitList) (h after : History) (input left written : List ℕ) → IsLegal h → IsStated order.site order.column input units
         → Loads order h after ReadingsEnd.Done input left written
         → (edits : List Edit) × ArePuts order units.readings edits × ((lines : List (List ℕ)) × AreSettled end_of h after edits lines × (written ≡ concat lines ++ count_line units)) }
+    ensures again { (order : Order) (units : UnitList) (h after later last : History) (more : List Edit) (input left written rest again : List ℕ) → IsLegal h
+        → IsStated order.site order.column input units → Loads order h after ReadingsEnd.Done input left written
+        → IsLegal later → edits_of later.events ≡ edits_of after.events ++ more → Loads order later last ReadingsEnd.Done input rest again
+        → (edits : List Edit) × ArePuts order units.readings edits × IsLoadedAgain units edits h after later last written again }
 {}

@@ -28,3 +28,26 @@ AreToldAgain end [] (number ∷ numbers) lines = ⊥
 AreToldAgain end (edit ∷ edits) [] lines = ⊥
 AreToldAgain end (edit ∷ edits) (number ∷ numbers) [] = ⊥
 AreToldAgain end (edit ∷ edits) (number ∷ numbers) (line ∷ lines) = IsToldAgain (end edit) number line × AreToldAgain end edits numbers lines
+
+-- a line tells a number
+abbrev pub TellsNumber : List ℕ → List ℕ → Type 0
+TellsNumber end line = (number : ℕ) × (line ≡ accepted_line end number)
+
+-- each of the lines of these edits does
+abbrev pub TellNumbers : (Edit → List ℕ) → List Edit → List (List ℕ) → Type 0
+TellNumbers end [] [] = ⊤
+TellNumbers end [] (line ∷ lines) = ⊥
+TellNumbers end (edit ∷ edits) [] = ⊥
+TellNumbers end (edit ∷ edits) (line ∷ lines) = TellsNumber (end edit) line × TellNumbers end edits lines
+
+-- where a line told a number it is told again, or that there was no memory to look
+abbrev pub IsToldAsBefore : List ℕ → List ℕ → List ℕ → Type 0
+IsToldAsBefore end line again = TellsNumber end line → (again ≡ line) ⊎ (again ≡ refused_line end NoMemory)
+
+abbrev pub AreToldAsBefore : (Edit → List ℕ) → List Edit → List (List ℕ) → List (List ℕ) → Type 0
+AreToldAsBefore end [] [] [] = ⊤
+AreToldAsBefore end [] [] (line ∷ again) = ⊥
+AreToldAsBefore end [] (line ∷ lines) again = ⊥
+AreToldAsBefore end (edit ∷ edits) [] again = ⊥
+AreToldAsBefore end (edit ∷ edits) (line ∷ lines) [] = ⊥
+AreToldAsBefore end (edit ∷ edits) (line ∷ lines) (told ∷ again) = IsToldAsBefore (end edit) line told × AreToldAsBefore end edits lines again

@@ -7,7 +7,7 @@ ghost use Rattle.history.specs.Accepted.{edits_of};
 ghost use Rattle.history.specs.Events.{History};
 ghost use Rattle.history.specs.Legal.{IsLegal};
 ghost use Rattle.office.specs.Counting.{fault_count};
-ghost use Rattle.told_edits.specs.Again.{AreInForce, AreToldAgain, IsToldAgain};
+ghost use Rattle.told_edits.specs.Again.{AreInForce, AreToldAgain, AreToldAsBefore, IsToldAgain, TellNumbers};
 ghost use Rattle.told_edits.specs.Lines.{AreSent, IsSent, tells_fault_line};
 ghost use Rattle.told_edits.specs.Settled.{AreSettled, IsKnownAs};
 
@@ -36,10 +36,14 @@ pub fn edits_in_force_are_told_again()
 
 /// Whatever becomes of edits that are asked, each stands once: those that join the accepted edits are new ones of them, in order, and each of
 /// which a line tells a number is known under it, whatever is accepted later. Sent again then it is told that number, or that there was no
-/// memory to look, and nothing happens.
+/// memory to look, and nothing happens. So it is of all of them, sent again in order, whatever was accepted meanwhile: each line that told a
+/// number tells it again, or that there was no memory to look; and where all of them told one, nothing happens at all.
 pub fn each_edit_stands_once()
     ensures settled { (end : Edit → List ℕ) (h after : History) (edits : List Edit) (lines : List (List ℕ)) → IsLegal h → AreSent end h edits lines after
         → AreSettled end h after edits lines }
     ensures again { (end : List ℕ) (h later next : History) (edit : Edit) (number : ℕ) (more : List Edit) (line : List ℕ) → IsKnownAs h edit number
         → edits_of later.events ≡ edits_of h.events ++ more → IsSent end later edit line next → (next ≡ later) × IsToldAgain end number line }
+    ensures all_again { (end : Edit → List ℕ) (h after later last : History) (edits more : List Edit) (lines again : List (List ℕ)) → IsLegal h → AreSent end h edits lines after
+        → IsLegal later → edits_of later.events ≡ edits_of after.events ++ more → AreSent end later edits again last
+        → AreToldAsBefore end edits lines again × (TellNumbers end edits lines → last ≡ later) }
 {}

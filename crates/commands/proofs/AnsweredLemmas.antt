@@ -1,9 +1,7 @@
--- Where no fault is counted each request of a run that is done was answered.
-use Rattle.std.proofs.Common.{◌≡◌, ◌⊎◌, ℕ, zero, suc, ◌+◌, ◌≤◌, List, Option, Result, Ok, Err, IsSome, IsSomeAnd, sym, ◌∙◌, ap, subst, inl, inr, ⊎_elim, refl, arith}
-use Rattle.std.specs.Prelude.{count_by}
-use Rattle.command_words.specs.Words.{Batch, Serve}
+-- Where no fault is counted each request of a run that is done was answered, and each edit of one that loads an input.
+use Rattle.std.proofs.Common.{◌≡◌, ◌⊎◌, ℕ, zero, suc, List, Result, Ok, Err, IsSome, IsSomeAnd, sym, ◌∙◌, ap, subst, inl, inr, ⊎_elim, refl, arith}
+use Rattle.command_words.specs.Words.{Batch, Import, ImportAsked, Notes, NotesAsked, Serve, Stations}
 use Rattle.desk.proofs.FaultLemmas.{all_opened}
-use Rattle.desk.specs.Replies.{tells_fault}
 use Rattle.desk.specs.Serving.{Served}
 use Rattle.desk.specs.declared.sessions.SessionEnd.{SessionEnd}
 use Rattle.desk.specs.declared.sessions.SessionEnd.TheVariants as sessions
@@ -22,16 +20,19 @@ use Rattle.serving.specs.declared.whole.ServeEnd.TheVariants as ends
 use Rattle.shared_office.specs.declared.entries.Entry.{Entry}
 use Rattle.shared_office.specs.declared.entries.Fixed.{Fixed}
 use Rattle.commands.proofs.BatchLemmas.{ends_well}
-use Rattle.commands.proofs.FailingLemmas.{batch_fails, serve_fails}
-use Rattle.commands.specs.Answered.{AreAnswered, AreServedWell}
+use Rattle.commands.proofs.FailingLemmas.{batch_fails, no_line_fails, serve_fails}
+use Rattle.commands.specs.Answered.{AreAnswered, AreServedWell, IsLoadedWell}
 use Rattle.commands.specs.Batch.{RepliesOver, ServedBetween, session_ending}
 use Rattle.commands.specs.Beside.{ServedBesideWorkers, WorksBeside, ends_told}
-use Rattle.commands.specs.Opening.{Carries, LeadsTo, RunsOver, WorksUnder, ending_over}
+use Rattle.commands.specs.Loading.{Loaded, LoadsNotes, LoadsReadings, LoadsStations, NotesLoaded, ReadingsLoaded, StationsLoaded, loading_ending, notes_ending, readings_ending}
+use Rattle.commands.specs.Opening.{Carries, LeadsTo, RunsOver, WorksUnder, ending_over, opening_ending}
 use Rattle.commands.specs.Ready.{CabinetIsWell, IsWellFormed}
-use Rattle.commands.specs.Runs.{Runs}
-use Rattle.commands.specs.Serving.{AreServedBeside, IsUnserved, ServesBetween, failed_beside, serving_ending}
+use Rattle.commands.specs.Runs.{EndsBy, Runs}
+use Rattle.commands.specs.Serving.{AreServedBeside, IsUnserved, ServesBetween, serving_ending}
 use Rattle.commands.specs.Statuses.{status_of}
-use Rattle.commands.specs.Worlds.{Shelf, Told, World}
+use Rattle.commands.specs.Worlds.{IsIdle, Shelf, Told, World}
+use Rattle.commands.specs.declared.endings.Ending.{Ending}
+use Rattle.commands.specs.declared.endings.Ending.TheVariants.{NoMemory}
 
 -- a run that is done ended by itself
 batch_done : (end : Result SessionEnd OpenFault) → status_of (ending_over session_ending end) ≡ 0 → end ≡ Ok sessions.End
@@ -63,6 +64,13 @@ doors_failed (Err opening.Fault) is = absurd (cc is)
 doors_failed (Err opening.NotAJournal) is = absurd (cc is)
 doors_failed (Err (opening.Damaged at)) is = absurd (cc is)
 doors_failed (Err opening.NoMemory) is = absurd (cc is)
+
+-- the journal of a run of such a status was opened
+not_unopened : (why : OpenFault) → (status_of (opening_ending why) ≡ 0) ⊎ (status_of (opening_ending why) ≡ 3) → ⊥
+not_unopened opening.Fault is = ⊎_elim (λ e. cc e) (λ e. cc e) is
+not_unopened opening.NotAJournal is = ⊎_elim (λ e. cc e) (λ e. cc e) is
+not_unopened (opening.Damaged at) is = ⊎_elim (λ e. cc e) (λ e. cc e) is
+not_unopened opening.NoMemory is = ⊎_elim (λ e. cc e) (λ e. cc e) is
 
 module _ {S K E C L P D : Type 0} (g : Ghosts D) (tell : World S K E C L P → Told D) where
   -- what came of a run, from some records to some history
@@ -149,6 +157,51 @@ module _ {S K E C L P D : Type 0} (g : Ghosts D) (tell : World S K E C L P → T
       → IsServedOver ends.DoorFault workers (tell before) (tell after)
   serve_answers_before name port workers connections before after run well =
       served_by name port workers connections 7 ends.DoorFault before after doors_failed (λ e. cc e) run well
+
+  -- what was done over the journal where an input was loaded
+  abbrev LoadsOver : {End : Type 0} → List ℕ → Loaded End → Result End OpenFault → Told D → Told D → Type 0
+  LoadsOver name Loads end before after =
+      RunsOver g name (Carries g) (Loads before.input after.input before.output after.output) end before.cabinet after.cabinet
+
+  loaded_well : {End : Type 0} (name : List ℕ) (ending_of : End → Ending) (Loads : Loaded End) (status : ℕ) (before after : World S K E C L P)
+      (ending : Ending) (Did : Result End OpenFault → Type 0) → ((end : Result End OpenFault) → Did end → LoadsOver name Loads end (tell before) (tell after))
+      → status ≡ status_of ending → ((ending ≡ NoMemory) × IsIdle before after) ⊎ EndsBy (ending_over ending_of) Did ending
+      → (status ≡ 0) ⊎ (status ≡ 3) → CabinetIsWell (tell before) (tell after) → IsLoadedWell ending_of Loads status (tell before) (tell after)
+  loaded_well {End} name ending_of Loads status before after ending Did over told did asked well =
+      ⊎_elim
+      (λ none. absurd (⊎_elim (λ e. cc e) (λ e. cc e)
+      (subst (λ (n : ℕ). (n ≡ 0) ⊎ (n ≡ 3)) (told ∙ ap status_of none.0) asked)))
+      (λ found. by found.0 (told ∙ ap status_of found.1) (over found.0 found.2))
+      did
+    where
+      by : (end : Result End OpenFault) → status ≡ status_of (ending_over ending_of end) → LoadsOver name Loads end (tell before) (tell after)
+          → IsLoadedWell ending_of Loads status (tell before) (tell after)
+      by (Ok end) is w =
+          let none = no_fault name (Carries g) (Loads (tell before).input (tell after).input (tell before).output (tell after).output end)
+          (tell before).cabinet (tell after).cabinet well w in
+          (end, is, w.pieces, w.last, w.worked, no_line_fails (reopen usual w.last.format w.pieces) w.last none)
+      by (Err why) is w = absurd (not_unopened why (subst (λ (n : ℕ). (n ≡ 0) ⊎ (n ≡ 3)) is asked))
+
+  pub stations_told : (name : List ℕ) (status : ℕ) (before after : World S K E C L P) → Runs g tell (Stations name) status before after
+      → (status ≡ 0) ⊎ (status ≡ 3) → CabinetIsWell (tell before) (tell after)
+      → IsLoadedWell loading_ending StationsLoaded status (tell before) (tell after)
+  stations_told name status before after run =
+      loaded_well name loading_ending StationsLoaded status before after run.ending (λ end. LoadsStations g tell name end before after)
+      (λ end did. did.over) run.told.status_is run.did
+
+  pub readings_told : (what : ImportAsked) (status : ℕ) (before after : World S K E C L P) → Runs g tell (Import what) status before after
+      → (status ≡ 0) ⊎ (status ≡ 3) → CabinetIsWell (tell before) (tell after)
+      → IsLoadedWell readings_ending (ReadingsLoaded what) status (tell before) (tell after)
+  readings_told what status before after run =
+      loaded_well what.journal readings_ending (ReadingsLoaded what) status before after run.ending (λ end. LoadsReadings g tell what end before after)
+      (λ end did. did.over) run.told.status_is run.did
+
+  pub notes_told : (what : NotesAsked) (status : ℕ) (before after : World S K E C L P) → Runs g tell (Notes what) status before after
+      → (status ≡ 0) ⊎ (status ≡ 3) → CabinetIsWell (tell before) (tell after)
+      → IsLoadedWell notes_ending (NotesLoaded what) status (tell before) (tell after)
+  notes_told what status before after run =
+      loaded_well what.journal notes_ending (NotesLoaded what) status before after run.ending (λ end. LoadsNotes g tell what end before after)
+      (λ end did. did.over) run.told.status_is run.did
 
 -- a connection that fails nowhere, of an input that is well formed, is served to its end, unless there was no memory to begin
 pub connection_ends : (fixed : Fixed) (came went : Ends) (start : ℕ) (list : List Entry) (places : List ℕ) (served : Served fixed came went start list places)

@@ -1,7 +1,7 @@
--- No more replies of a run tell that the journal failed than the disk has counted faults.
-use Rattle.std.proofs.Common.{◌≡◌, ℕ, ◌+◌, ◌-◌, ◌≤◌, List, [], ◌∷◌, ◌++◌, length, sym, ◌∙◌, ap, subst, arith}
+-- No more replies of a run, and no more lines, tell that the journal failed than the disk has counted faults.
+use Rattle.std.proofs.Common.{◌≡◌, ℕ, ◌+◌, ◌-◌, ◌≤◌, Bool, true, false, List, [], ◌∷◌, ◌++◌, length, refl, sym, ◌∙◌, ap, subst, arith}
 use Rattle.std.specs.List.{concat}
-use Rattle.std.specs.Prelude.{count_by}
+use Rattle.std.specs.Prelude.{cond, count_by}
 use Rattle.std.proofs.lemmas.List.{length-map}
 use mathlib.Core.List.{IsPrefix}
 use Rattle.desk.proofs.FaultLemmas.{all_opened}
@@ -10,6 +10,7 @@ use Rattle.desk.specs.Replies.{AreReplies, tells_fault}
 use Rattle.desk.specs.declared.sessions.SessionEnd.{SessionEnd}
 use Rattle.devices.specs.Doors.{Connections, Ends}
 use Rattle.devices.specs.declared.disks.Disk.{Ghosts}
+use Rattle.edits.specs.declared.content.Edit.{Edit}
 use Rattle.history.specs.After.{reopen}
 use Rattle.history.specs.Events.{History}
 use Rattle.office.specs.Counting.{fault_count}
@@ -28,10 +29,13 @@ use Rattle.shared_office.specs.Passages.{RoseBy}
 use Rattle.shared_office.specs.Passing.{fixed_in}
 use Rattle.shared_office.specs.declared.entries.Entry.{Entry}
 use Rattle.shared_office.specs.declared.entries.Entry.TheVariants.{Happened}
+use Rattle.told_edits.proofs.FaultLemmas.{all_told}
+use Rattle.told_edits.specs.Lines.{AreSent, IsSent, tells_fault_line}
 use Rattle.turnstile.proofs.ListLemmas.{times-append}
 use Rattle.turnstile.specs.Places.{places, times}
 use Rattle.wire.specs.declared.messages.Message.{Message}
 use Rattle.commands.proofs.SharingLemmas.{not_ended, same_history}
+use Rattle.commands.specs.Answered.{TellsNoFault}
 use Rattle.commands.specs.Beside.{WorksBeside}
 use Rattle.commands.specs.Opening.{Carries, LeadsTo}
 use Rattle.commands.specs.Serving.{AreServedBeside, failed_beside}
@@ -76,6 +80,31 @@ batch_fails g workers came went end h last a =
     let is = ap (λ (k : History). fault_count k.events) a.last_is in
     omega (arith, few, first, is)
 
+-- one text counts for one, or for none
+count_of_one : (tells : List ℕ → Bool) (text : List ℕ) → count_by tells (text ∷ []) ≡ 0 + cond {A = ℕ} (tells text) 1 0
+count_of_one tells text = refl
+
+tells_none : (told : Bool) → cond {A = ℕ} told 1 0 ≡ 0 → told ≡ false
+tells_none true none = absurd (cc none)
+tells_none false none = refl
+
+-- one edit is one of a list
+sent_alone : (end : List ℕ) (h : History) (edit : Edit) (line : List ℕ) (last : History) → IsSent end h edit line last
+    → AreSent (λ edit. end) h (edit ∷ []) (line ∷ []) last
+sent_alone end h edit line last sent = (last, sent, refl)
+
+-- where no fault joined the history, no line tells one
+pub no_line_fails : (h last : History) → fault_count last.events ≡ 0 → TellsNoFault h last
+no_line_fails h last none = record {
+  many = λ end edits lines sent.
+      let told = all_told end h edits lines last sent in
+      omega (arith, told, none);
+  one = λ end edit line sent.
+      let told = all_told (λ edit. end) h (edit ∷ []) (line ∷ []) last (sent_alone end h edit line last sent) in
+      let is = count_of_one tells_fault_line line in
+      tells_none (tells_fault_line line) (omega (arith, told, none, is));
+}
+
 -- a disk that has counted some faults has counted fewer
 fewer : (n m faults : ℕ) → n ≤ m → RoseBy m 0 faults → RoseBy n 0 faults
 fewer n m faults few rose = omega (arith, few, rose)
@@ -101,3 +130,15 @@ module _ {D : Type 0} (g : Ghosts D) (format : Format) (pieces : List Record) (l
       → LeadsTo g pieces last found left → RoseBy (failed_beside served) 0 (g.faults left)
   serve_counted workers told served leads =
       counted (failed_beside served) (serve_fails g workers told (reopen usual format pieces) last served) leads
+
+  pub lines_counted : (end : Edit → List ℕ) (edits : List Edit) (lines : List (List ℕ)) → AreSent end (reopen usual format pieces) edits lines last
+      → Carries g pieces last found left → RoseBy (count_by tells_fault_line lines) 0 (g.faults left)
+  lines_counted end edits lines sent carries =
+      let told = all_told end (reopen usual format pieces) edits lines last sent in
+      fewer (count_by tells_fault_line lines) (fault_count last.events) (g.faults left) (omega (arith, told)) carries.causes
+
+  pub line_counted : (end : List ℕ) (edit : Edit) (line : List ℕ) → IsSent end (reopen usual format pieces) edit line last
+      → Carries g pieces last found left → tells_fault_line line ≡ true → RoseBy 1 0 (g.faults left)
+  line_counted end edit line sent carries tells =
+      subst (λ (n : ℕ). RoseBy n 0 (g.faults left)) (count_of_one tells_fault_line line ∙ ap (λ (told : Bool). 0 + cond {A = ℕ} told 1 0) tells)
+      (lines_counted (λ edit. end) (edit ∷ []) (line ∷ []) (sent_alone end (reopen usual format pieces) edit line last sent) carries)

@@ -1,5 +1,5 @@
 -- A disk that was taken out from under a name is under it again.
-use Rattle.std.proofs.Common.{◌≡◌, ℕ, Bool, List, Result, Ok, Err, IfOk}
+use Rattle.std.proofs.Common.{◌≡◌, ℕ, Bool, List, Result, Ok, Err, IfOk, OnOk}
 use Rattle.devices.specs.Cabinets.{IsCounted, IsKept, IsOpened}
 use Rattle.devices.specs.declared.cabinets.Opened.TheVariants as opens
 use Rattle.devices.specs.declared.disks.Disk.{Ghosts}
@@ -21,8 +21,8 @@ handled_under g name make P before meanwhile after found left given fresh uncoun
   counted = counted;
 }
 
--- two facts of what was answered
-pub both_ok : {A E : Type 0} (result : Result A E) (P : A → Type 0) (S : Type 0) (Q : A → Type 0) → IfOk result P → IfOk result (λ value. S)
-    → ((value : A) → P value → S → Q value) → IfOk result Q
-both_ok (Ok value) P S Q p s q = q value p s
-both_ok (Err fault) P S Q p s q = tt
+-- three facts of what was answered
+pub all_ok : {A E : Type 0} (result : Result A E) (P : A → Type 0) (S R : Type 0) (Q : A → Type 0) → IfOk result P → IfOk result (λ value. S)
+    → OnOk result R → ((value : A) → P value → S → R → Q value) → IfOk result Q
+all_ok (Ok value) P S R Q p s r q = q value p s r
+all_ok (Err fault) P S R Q p s r q = tt

@@ -41,13 +41,13 @@ begins_further {A} xs ys zs first second = (
 )
 
 -- a list, and at most one more
-record AndMore (records next : List Record) : Type 0 where
-  more : List Record
-  few : length more ≤ 1
-  is : next ≡ records ++ more
+pub record AndMore (records next : List Record) : Type 0 where
+  pub more : List Record
+  pub few : length more ≤ 1
+  pub is : next ≡ records ++ more
 
 -- what stands for some records, or for these and one more, is the journal of these or of these and one more
-stands_more : (format : Format) (records : List Record) (o : Option Record) (image : List ℕ) (next : List Record)
+pub stands_more : (format : Format) (records : List Record) (o : Option Record) (image : List ℕ) (next : List Record)
     → IsJournalOf format next image → StandsFor format records o image → AndMore records next
 stands_more format records None image next journal stands =
     record { more = []; few = omega arith; is = one_list format next records image journal stands ∙ sym (append-nil records) }
@@ -218,7 +218,7 @@ module _ {D : Type 0} (g : Ghosts D) (pieces : List Record) (last : History) whe
     carried_under (Some b) None found left goes was_found is_left = absurd is_left
     carried_under (Some b) (Some a) found left goes was_found is_left = carried_at (b name) (a name) found left goes.0 was_found is_left
 
-    left_under : (b a : Option (List ℕ → Place D)) (image : List ℕ) → GoesOnUnder g name (Carries g pieces last) b a
+    pub left_under : (b a : Option (List ℕ → Place D)) (image : List ℕ) → GoesOnUnder g name (Carries g pieces last) b a
         → IsSomeAnd b (λ places. HasKept (λ disk. IsSome (g.content disk)) (places name))
         → IsSomeAnd a (λ places. HasKept (λ disk. (g.content disk ≡ Some image) ⊎ g.may_leave disk image) (places name))
         → IsLeft last image
@@ -226,7 +226,7 @@ module _ {D : Type 0} (g : Ghosts D) (pieces : List Record) (last : History) whe
     left_under (Some b) None image goes told has = absurd has
     left_under (Some b) (Some a) image goes told has = left_at (b name) (a name) image goes.0 told has
 
-    found_under : (b a : Option (List ℕ → Place D)) (image : List ℕ) → GoesOnUnder g name (Carries g pieces last) b a
+    pub found_under : (b a : Option (List ℕ → Place D)) (image : List ℕ) → GoesOnUnder g name (Carries g pieces last) b a
         → IsSomeAnd b (λ places. HasKept (λ disk. g.content disk ≡ Some image) (places name))
         → IsJournalOf last.format pieces image
     found_under None a image goes has = absurd has

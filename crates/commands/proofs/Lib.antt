@@ -1,3 +1,4 @@
+pub mod AgainLemmas
 pub mod AnsweredLemmas
 pub mod AskedLemmas
 pub mod BatchLemmas
@@ -16,6 +17,7 @@ pub mod OpeningLemmas
 pub mod PlaceLemmas
 pub mod ReadingsLemmas
 pub mod ReopenLemmas
+pub mod RepeatingLemmas
 pub mod RunLemmas
 pub mod ServingLemmas
 pub mod SharingLemmas

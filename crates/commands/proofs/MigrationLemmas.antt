@@ -1,9 +1,9 @@
 -- How a migration ends.
-use Rattle.std.proofs.Common.{◌≡◌, ◌≢◌, ◌⊎◌, ℕ, ◌≤◌, Bool, true, false, if◌then◌else◌, nat_lt, List, [], ◌∷◌, Option, Some, None, IfSome, IsSomeAnd, Result, Ok, Err, refl, sym, ◌∙◌, ap, subst, inl, inr, ⊎_elim, arith}
+use Rattle.std.proofs.Common.{◌≡◌, ◌≢◌, ◌⊎◌, ℕ, Bool, true, false, ◌||◌, if◌then◌else◌, nat_eq, nat_lt, List, Option, Some, None, IfSome, IsSomeAnd, Result, Ok, Err, refl, sym, ◌∙◌, ap, subst, inl, inr, ⊎_elim, arith}
 use Rattle.devices.specs.declared.cabinets.Opened.{Opened}
 use Rattle.devices.specs.declared.cabinets.Opened.TheVariants as opens
 use Rattle.devices.specs.declared.disks.Disk.{Ghosts}
-use Rattle.devices.specs.Cabinets.{Place, Free, Kept, Out, HasCause as CabinetCause, is_kept, IsCounted, IsGiven, IsKept, IsOpened, OthersStay}
+use Rattle.devices.specs.Cabinets.{Place, Free, Kept, Out, HasCause as CabinetCause, is_kept, IsCounted, IsGiven, IsKept, IsOpened}
 use Rattle.devices.specs.Failures.{one_more}
 use Rattle.devices.specs.Faults.{Rose}
 use Rattle.journal.proofs.Walks.{journal_header, not_damaged, one_format, one_header, one_list, damaged_header}
@@ -11,7 +11,7 @@ use Rattle.journal.specs.JournalBytes.{IsDamagedAt, IsJournalOf}
 use Rattle.journal.specs.declared.opening.OpenFault.{OpenFault}
 use Rattle.journal.specs.declared.opening.OpenFault.TheVariants as opening
 use Rattle.migration.proofs.AnswerLemmas.{not_barred}
-use Rattle.migration.specs.Copying.{Copies, HasFailed, MayBegin}
+use Rattle.migration.specs.Copying.{HasCause as HasCopyCause, HasFailed, MayBegin}
 use Rattle.migration.specs.Reading.{HasRoom, IsUnread, StandsForAll}
 use Rattle.migration.specs.declared.copying.CopyFault.{CopyFault}
 use Rattle.migration.specs.declared.copying.CopyFault.TheVariants as copying
@@ -27,12 +27,45 @@ use Rattle.commands.specs.Places.{HasKept, bytes_found}
 use Rattle.commands.specs.Ready.{CabinetIsWell, CanBeCopied, IsDone}
 use Rattle.commands.specs.Statuses.{status_of}
 use Rattle.commands.specs.Worlds.{Shelf, Told, World}
-use Rattle.commands.specs.declared.migrating.MigrationFault.{MigrationFault}
 use Rattle.commands.specs.declared.migrating.MigrationFault.TheVariants.{Unread, Full, Uncopied}
 
 -- a copy that was not made
 abbrev not_copied : CopyFault → Result (Unit {0}) CopyFault
 not_copied fault = Err fault
+
+-- a copy that failed has its cause
+copy_rose : (before now : ℕ) (copied : Result (Unit {0}) CopyFault) → HasCopyCause before now copied → HasFailed copied → Rose before now
+copy_rose before now copied cause failed =
+    let rose : HasCopyCause before now (not_copied (copying.Open opening.Fault)) =
+    subst (λ (c : Result (Unit {0}) CopyFault). HasCopyCause before now c) failed cause in
+    rose refl
+
+-- a disk without faults is none of the cabinet's
+unmoved : (faults before after : ℕ) → faults ≡ 0 → IsCounted faults before after → after ≡ before
+unmoved faults before after none counted = subst (λ (n : ℕ). IsCounted n before after) none counted
+
+-- at these statuses no fault was met
+abbrev pub IsUnfailed : ℕ → Type 0
+IsUnfailed status = (status ≡ 0) ⊎ ((status ≡ 11) ⊎ (status ≡ 12))
+
+abbrev pub is_unfailed : ℕ → Bool
+is_unfailed status = nat_eq status 0 || nat_eq status 11 || nat_eq status 12
+
+unfailed_is : (status : ℕ) → IsUnfailed status → is_unfailed status ≡ true
+unfailed_is status is =
+    elim is [
+      | inl e ↦ ap is_unfailed e
+      | inr rest ↦ elim rest [ inl e ↦ ap is_unfailed e | inr e ↦ ap is_unfailed e ]
+    ]
+
+pub not_unfailed : (status : ℕ) → is_unfailed status ≡ false → IsUnfailed status → ⊥
+not_unfailed status not is = let never : true ≡ false = sym (unfailed_is status is) ∙ not in cc never
+
+opening_failed : (why : OpenFault) → IsUnfailed (status_of (opening_ending why)) → ⊥
+opening_failed opening.Fault is = not_unfailed 4 refl is
+opening_failed opening.NotAJournal is = not_unfailed 5 refl is
+opening_failed (opening.Damaged at) is = not_unfailed 5 refl is
+opening_failed opening.NoMemory is = not_unfailed 6 refl is
 
 -- what rose behind a disk that was kept rose in all
 rose_through : (faults before between after : ℕ) → IsCounted faults before between → Rose between after → Rose before after
@@ -93,7 +126,8 @@ module _ {D : Type 0} (g : Ghosts D) where
   uncopied_cause : (name : List ℕ) (records : List Record) (copied : Result (Unit {0}) CopyFault) (before after : Shelf D)
       → IsCopiedUnder g name records copied before after → HasFailed copied → Rose before.faults after.faults
   uncopied_cause name records copied before after (inl h) failed =
-      rose_handled name true (IsLeftCopied g records copied) before after h (h.handled.cause failed)
+      rose_handled name true (IsLeftCopied g records copied) before after h
+      (copy_rose (g.faults h.found) (g.faults h.left) copied h.handled.cause failed)
   uncopied_cause name records copied before after (inr h) failed = rose_refused name true before after h.1
 
   migration_cause : (from to : List ℕ) (migrated : Migrated) (before after : Told D) → IsMigrated g from to migrated before.cabinet after.cabinet
@@ -109,14 +143,42 @@ module _ {D : Type 0} (g : Ghosts D) where
       (ap (λ (w : OpenFault). not_copied (copying.Open w)) is)))
   migration_cause from to (Err (Uncopied (copying.Differs number))) before after h = innocent 11 before after refl
 
+  -- a disk that had no fault raised no count
+  unrisen : (name : List ℕ) (make : Bool) (P : D → D → Type 0) (before after : Shelf D) (h : IsHandledUnder g name make P before after)
+      → g.faults h.left ≡ g.faults h.found → after.faults ≡ before.faults
+  unrisen name make P before after h same =
+      unmoved (g.faults h.left) h.meanwhile.faults after.faults (same ∙ h.fresh) h.counted ∙ h.uncounted
+
+  read_well : (name : List ℕ) (records : List Record) (before after : Shelf D) → AreReadUnder g name records before after
+      → after.faults ≡ before.faults
+  read_well name records before after h = unrisen name false (AreReadOf g records) before after h h.handled.well
+
+  copied_well : (name : List ℕ) (records : List Record) (copied : Result (Unit {0}) CopyFault) (before after : Shelf D)
+      → IsCopiedUnder g name records copied before after → ¬ (HasFailed copied)
+      → ((old new : ℕ) → HasCopyCause old new copied → new ≡ old) → after.faults ≡ before.faults
+  copied_well name records copied before after (inl h) calm stays =
+      unrisen name true (IsLeftCopied g records copied) before after h (stays (g.faults h.found) (g.faults h.left) h.handled.cause)
+  copied_well name records copied before after (inr h) calm stays = absurd (calm h.0)
+
+  pub migrated_well : (from to : List ℕ) (migrated : Migrated) (before after : Shelf D) → IsMigrated g from to migrated before after
+      → IsUnfailed (status_of (migration_ending migrated)) → after.faults ≡ before.faults
+  migrated_well from to (Ok done) before after h is =
+      copied_well to h.0 (Ok tt) h.1 after h.4 (λ e. cc e) (λ old new same. same) ∙ read_well from h.0 before h.1 h.2
+  migrated_well from to (Err (Unread why)) before after h is = absurd (opening_failed why is)
+  migrated_well from to (Err Full) before after h is = read_well from h.0 before after h.1
+  migrated_well from to (Err (Uncopied (copying.Open why))) before after h is = absurd (opening_failed why is)
+  migrated_well from to (Err (Uncopied (copying.Differs number))) before after h is =
+      copied_well to h.0 (not_copied (copying.Differs number)) h.1 after h.4 (λ e. cc e) (λ old new same. same)
+      ∙ read_well from h.0 before h.1 h.2
+
   -- what was given is what stood there
-  given_here : (name : List ℕ) (make : Bool) (p0 p1 : Option (List ℕ → Place D)) (found : D) (Q : Place D → Type 0) (R : Type 0)
+  pub given_here : (name : List ℕ) (make : Bool) (p0 p1 : Option (List ℕ → Place D)) (found : D) (Q : Place D → Type 0) (R : Type 0)
       → IsOpened g name make p0 p1 (opens.Disk found) → IsSomeAnd p0 (λ b. Q (b name)) → ((place : Place D) → IsGiven g make place found → Q place → R) → R
   given_here name make None p1 found Q R opened q follows = absurd q
   given_here name make (Some b) None found Q R opened q follows = absurd opened
   given_here name make (Some b) (Some a) found Q R opened q follows = follows (b name) opened.0 q
 
-  others_stay : (name other : List ℕ) (make : Bool) (p0 p1 p2 : Option (List ℕ → Place D)) (found left : D) (Q : Place D → Type 0)
+  pub others_stay : (name other : List ℕ) (make : Bool) (p0 p1 p2 : Option (List ℕ → Place D)) (found left : D) (Q : Place D → Type 0)
       → IsOpened g name make p0 p1 (opens.Disk found) → IsKept name left p1 p2 → other ≢ name → IsSomeAnd p0 (λ b. Q (b other)) → IsSomeAnd p2 (λ a. Q (a other))
   others_stay name other make None p1 p2 found left Q opened kept apart q = absurd q
   others_stay name other make (Some b) None p2 found left Q opened kept apart q = absurd opened
@@ -132,7 +194,7 @@ module _ {D : Type 0} (g : Ghosts D) where
   stood P Out found given kept = absurd kept
 
   -- and so are the bytes on which a copy begins
-  given_bytes : (place : Place D) (found : D) → IsGiven g true place found → g.content found ≡ bytes_found g place
+  pub given_bytes : (place : Place D) (found : D) → IsGiven g true place found → g.content found ≡ bytes_found g place
   given_bytes Free found given = given.1.none
   given_bytes (Kept held) found given = given.same
   given_bytes Out found given = given.1.none
@@ -215,7 +277,7 @@ module _ {D : Type 0} (g : Ghosts D) where
       not_barred (Unit {0}) records two.0 fault two.2 two.1.0) in
       ⊎_elim
       (λ is. absurd (well (rose_handled to true (IsLeftCopied g records (Err fault)) before after h
-      (h.handled.cause (ap not_copied is)))))
+      (copy_rose (g.faults h.found) (g.faults h.left) (not_copied fault) h.handled.cause (ap not_copied is)))))
       (λ is. ap (λ (f : CopyFault). status_of (migration_ending (Err (Uncopied f)))) is)
       which
 

@@ -1,5 +1,5 @@
 -- What the end of a run of `notes` says of its status.
-use Rattle.std.proofs.Common.{◌≡◌, ◌⊎◌, ℕ, ◌<◌, ◌≤◌, List, length, Option, Some, None, IsSomeAnd, Result, refl, inl, inr, arith}
+use Rattle.std.proofs.Common.{◌≡◌, ◌⊎◌, ℕ, List, Option, Some, None, IsSomeAnd, Result, refl, inl, inr, arith}
 use Rattle.command_words.specs.Words.{NotesAsked}
 use Rattle.devices.specs.Faults.{Rose}
 use Rattle.devices.specs.declared.disks.Disk.{Ghosts}

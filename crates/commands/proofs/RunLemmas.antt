@@ -4,7 +4,7 @@ use Rattle.command_words.specs.Words.{Asked, Init, Batch, Serve, Stations, Trial
 use Rattle.devices.specs.declared.disks.Disk.{Ghosts}
 use Rattle.commands.proofs.Lawful.{HasCause, IsEarly, IsLawful, by_ending, innocent}
 use Rattle.commands.proofs.MakingLemmas.{making_lawful}
-use Rattle.commands.proofs.MigrationLemmas.{migration_lawful}
+use Rattle.commands.proofs.MigrationLemmas.{IsUnfailed, migrated_well, migration_lawful, not_unfailed}
 use Rattle.commands.proofs.BatchLemmas.{batch_lawful, unserved}
 use Rattle.commands.proofs.NotesLemmas.{notes_lawful, unwritten_at_notes}
 use Rattle.commands.proofs.ReadingsLemmas.{readings_lawful, unwritten_at_units}
@@ -151,6 +151,15 @@ module _ {S K E C L P D : Type 0} (g : Ghosts D) (tell : World S K E C L P → T
       ⊎_elim
       (λ none. (none.1.streams, none.1.doors))
       (λ did. (did.2.streams, did.2.doors))
+      run.did
+
+  pub migrate_unfailed : (from to : List ℕ) (status : ℕ) (before after : World S K E C L P) → Runs g tell (Migrate from to) status before after
+      → (status ≡ 0) ⊎ ((status ≡ 11) ⊎ (status ≡ 12)) → (tell after).cabinet.faults ≡ (tell before).cabinet.faults
+  migrate_unfailed from to status before after run is =
+      ⊎_elim
+      (λ none. absurd (not_unfailed 6 refl (subst IsUnfailed (memory_status (Migrate from to) status before after run none.0) is)))
+      (λ did. migrated_well g from to did.0 (tell before).cabinet (tell after).cabinet did.2.migrated_under
+      (subst IsUnfailed (run.told.status_is ∙ ap status_of did.1) is))
       run.did
 
   pub trial_alone : (number status : ℕ) (before after : World S K E C L P) → Runs g tell (Trial number) status before after

@@ -1,3 +1,4 @@
+pub mod Again
 pub mod Answered
 pub mod Batch
 pub mod Beside
@@ -8,6 +9,7 @@ pub mod Migrating
 pub mod Opening
 pub mod Places
 pub mod Ready
+pub mod Repeating
 pub mod Runs
 pub mod Serving
 pub mod Sharing

@@ -1,15 +1,14 @@
 -- What a run of `migrate` comes to.
-use Rattle.std.specs.Prelude.{◌≡◌, ◌⊎◌, ℕ, Bool, true, false, List, Option, IfSome, Result, Ok, Err, ⊤}
+use Rattle.std.specs.Prelude.{◌≡◌, ◌⊎◌, ℕ, Bool, true, false, List, IfSome, Result, Ok, Err, ⊤}
 use Rattle.devices.specs.Cabinets.{HasCause, IsCounted, IsKept, IsOpened}
 use Rattle.devices.specs.Disks.{IsUnchanged}
-use Rattle.devices.specs.Faults.{Rose}
 use Rattle.devices.specs.declared.cabinets.Opened.{Opened}
 use Rattle.devices.specs.declared.cabinets.Opened.TheVariants as opens
 use Rattle.devices.specs.declared.disks.Disk.{Ghosts}
 use Rattle.journal.specs.Moments.{IsContent, LeavesOnly, SyncsFirst}
 use Rattle.journal.specs.declared.opening.OpenFault.{OpenFault}
 use Rattle.journal.specs.declared.opening.OpenFault.TheVariants as opening
-use Rattle.migration.specs.Copying.{Copies, HasFailed}
+use Rattle.migration.specs.Copying.{Copies, HasCause as HasCopyCause, HasFailed}
 use Rattle.migration.specs.Reading.{HasRoom, IsUnread, StandsForAll}
 use Rattle.migration.specs.declared.copying.CopyFault.{CopyFault}
 use Rattle.migration.specs.declared.copying.CopyFault.TheVariants as copying
@@ -60,11 +59,13 @@ module _ {D : Type 0} (g : Ghosts D) where
     pub places : IsOpened g name make before.places after.places opened
     pub cause : HasCause before.faults after.faults opened
 
-  -- The records of a journal were read to its end. Nothing was written, and from the sync that came first on a stop leaves what the journal has.
+  -- The records of a journal were read to its end, and the disk had no fault. Nothing was written, and from the sync that came first on a stop leaves
+  -- what the journal has.
   pub record AreReadOf (records : List Record) (found left : D) : Type 0 where
     pub stood : IfSome (g.content found) (StandsForAll records)
     pub same : IsUnchanged (g.content found) (g.content left)
     pub any_moment : SyncsFirst g found left (IsContent (g.content found))
+    pub well : g.faults left ≡ g.faults found
 
   -- they were not, and a stop leaves what it might have left before
   pub record IsLeftUnread (why : OpenFault) (found left : D) : Type 0 where
@@ -72,10 +73,10 @@ module _ {D : Type 0} (g : Ghosts D) where
     pub same : IsUnchanged (g.content found) (g.content left)
     pub any_moment : LeavesOnly g found left (g.may_leave found)
 
-  -- the records were copied, or not, and a failure has its cause
+  -- The records were copied, or not. A failure has its cause, and a copy that is done, or other records that were found, came without a fault.
   pub record IsLeftCopied (records : List Record) (copied : Result (Unit {0}) CopyFault) (found left : D) : Type 0 where
     pub copies : Copies g records copied found left
-    pub cause : HasFailed copied → Rose (g.faults found) (g.faults left)
+    pub cause : HasCopyCause (g.faults found) (g.faults left) copied
 
   abbrev pub IsUnreadUnder : List ℕ → OpenFault → Shelf D → Shelf D → Type 0
   IsUnreadUnder name why before after =

@@ -3,7 +3,6 @@ use Rattle.std.specs.Prelude.{◌≡◌, ◌⊎◌, ℕ, List, [], ◌∷◌, �
 use Rattle.devices.specs.Faults.{Rose}
 use Rattle.devices.specs.Sinks.{IsCutShort}
 use Rattle.midsection.specs.Reading as midsection
-use Rattle.midsection.specs.declared.faults.NotesFault.{NotesFault}
 use Rattle.rdb_records.specs.Units as units
 use Rattle.rdb_records.specs.declared.faults.UnitFault.{UnitFault}
 use Rattle.rdb_records.specs.declared.faults.UnitFault.TheVariants as unit_faults

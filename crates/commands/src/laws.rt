@@ -1,13 +1,15 @@
 //! What holds of the runs of all commands, and of those of one.
 
-ghost use Rattle.std.specs.Prelude.{◌≡◌, ◌⊎◌, ℕ, ◌+◌, ◌≤◌, List, [], ◌++◌, ◌∷◌, ℤ, IsSome, IsSomeAnd, count_by, length, map};
+ghost use Rattle.std.specs.Prelude.{◌≡◌, ◌≢◌, ◌⊎◌, ℕ, ◌+◌, ◌≤◌, true, List, [], ◌++◌, ◌∷◌, ℤ, IsSome, IsSomeAnd, count_by, length, map};
 ghost use mathlib.Core.List.{IsPrefix};
 ghost use Rattle.command_words.specs.Words.{Asked, Batch, Daily, DailyAsked, Import, ImportAsked, Init, Migrate, Notes, NotesAsked, Serve, Stations, Trial, Water, WaterAsked};
-ghost use Rattle.commands.specs.Answered.{AreAnswered, AreServedWell};
+ghost use Rattle.commands.specs.Again.{BeginsToCopy, HasBoth, TellsCopy};
+ghost use Rattle.commands.specs.Answered.{AreAnswered, AreServedWell, IsLoadedWell};
 ghost use Rattle.commands.specs.Beside.{WorksBeside, ends_told};
 ghost use Rattle.commands.specs.Joined.{AreOneBehindAnother, AreOneCourse, BehindTheEnd, Has, HasOrLeaves, IsFoundBy, IsFrontOf, IsTold, IsUnplayed, Plays, Run, StopsWithin, Stretch, Within, steps_of};
+ghost use Rattle.commands.specs.Loading.{NotesLoaded, ReadingsLoaded, StationsLoaded, loading_ending, notes_ending, readings_ending};
 ghost use Rattle.commands.specs.Opening.{Carries, LeadsTo};
-ghost use Rattle.commands.specs.Ready.{IsWellFormed};
+ghost use Rattle.commands.specs.Ready.{IsReady, IsWellFormed};
 ghost use Rattle.commands.specs.Runs.{Runs};
 ghost use Rattle.commands.specs.Serving.{AreServedBeside, IsUnserved, failed_beside};
 ghost use Rattle.commands.specs.Sharing.{begun};
@@ -19,6 +21,7 @@ ghost use Rattle.desk.specs.declared.sessions.SessionEnd.{SessionEnd};
 ghost use Rattle.desk.specs.declared.sessions.SessionEnd.TheVariants as sessions;
 ghost use Rattle.devices.specs.Doors.{Connections, Ends};
 ghost use Rattle.devices.specs.Faults.{Rose};
+ghost use Rattle.edits.specs.declared.content.Edit.{Edit};
 ghost use Rattle.fixed_units.specs.Quantities.{SiteNumber};
 ghost use Rattle.history.specs.Accepted.{accepted, edit_of};
 ghost use Rattle.history.specs.After.{reopen};
@@ -26,11 +29,14 @@ ghost use Rattle.history.specs.Awaited.{pending_days};
 ghost use Rattle.history.specs.Events.{History};
 ghost use Rattle.history.specs.Legal.{IsLegal};
 ghost use Rattle.http_api.specs.declared.asks.Ask.TheVariants as asks;
+ghost use Rattle.journal.specs.JournalBytes.{empty_journal};
+ghost use Rattle.journal.specs.Moments.{SyncsFirst};
 ghost use Rattle.office.specs.Counting.{fault_count};
 ghost use Rattle.office.specs.Steps.{GoesOver, Step, added};
 ghost use Rattle.office_inputs.specs.Usual.{usual};
 ghost use Rattle.records.specs.Sheets.{Record};
 ghost use Rattle.records.specs.declared.formats.Format.{Format};
+ghost use Rattle.records.specs.declared.formats.Format.TheVariants.{First};
 ghost use Rattle.register.specs.Registered.{NoneOut, Registered};
 ghost use Rattle.serving.specs.Crews.{IsWorkIn};
 ghost use Rattle.serving.specs.Failing.{failed_in};
@@ -38,6 +44,7 @@ ghost use Rattle.serving.specs.declared.whole.ServeEnd.TheVariants as serving;
 ghost use Rattle.shared_office.specs.Passages.{RoseBy};
 ghost use Rattle.shared_office.specs.declared.entries.Entry.{Entry};
 ghost use Rattle.shared_office.specs.declared.entries.Fixed.{Fixed};
+ghost use Rattle.told_edits.specs.Lines.{AreSent, IsSent, tells_fault_line};
 ghost use Rattle.wire.specs.declared.messages.Message.{Message};
 ghost use Rattle.workers.specs.declared.workers.WorkerEnd.TheVariants as worker;
 
@@ -126,7 +133,8 @@ pub fn each_503_of_a_run_has_its_fault<D: Disk>()
 {}
 
 /// No more replies of a run are 503 than the disk that is left has counted faults, unless its count stands at the end of its type: those of a
-/// session that nobody works beside, those of one beside workers, and those of all connections of `serve` together.
+/// session that nobody works beside, those of one beside workers, and those of all connections of `serve` together. Nor do more lines of
+/// `stations` or `import` tell that the journal failed than the disk has counted faults; and where the line of `notes` does, it has counted one.
 pub fn no_more_503s_than_faults<D: Disk>()
     ensures alone { (format : Format) (pieces : List Record) (last : History) (found left : D) (messages : List Message)
         (replies : List (List ℕ)) → AreReplies (reopen usual format pieces) messages replies last → Carries D.Disk pieces last found left
@@ -137,6 +145,12 @@ pub fn no_more_503s_than_faults<D: Disk>()
     ensures serve { (format : Format) (pieces : List Record) (last : History) (found left : D) (workers : ℕ) (told : Connections)
         (served : AreServedBeside D.Disk workers told (reopen usual format pieces) last) → LeadsTo D.Disk pieces last found left
         → RoseBy (failed_beside served) 0 (D.faults left) }
+    ensures lines { (format : Format) (pieces : List Record) (last : History) (found left : D) (end : Edit → List ℕ) (edits : List Edit)
+        (lines : List (List ℕ)) → AreSent end (reopen usual format pieces) edits lines last → Carries D.Disk pieces last found left
+        → RoseBy (count_by tells_fault_line lines) 0 (D.faults left) }
+    ensures line { (format : Format) (pieces : List Record) (last : History) (found left : D) (end : List ℕ) (edit : Edit) (line : List ℕ)
+        → IsSent end (reopen usual format pieces) edit line last → Carries D.Disk pieces last found left → tells_fault_line line ≡ true
+        → RoseBy 1 0 (D.faults left) }
 {}
 
 /// Where a worker ended drained, whoever worked beside it, no day is pending at the end of the run: behind what it found then stand the
@@ -262,4 +276,69 @@ pub fn where_no_fault_is_counted_each_request_is_answered<
         (served : Served fixed came went start list places) → IsSomeAnd came.left IsWellFormed → IsSome came.written
         → ¬ (Rose came.input_faults went.input_faults) → ¬ (Rose came.output_faults went.output_faults)
         → (served.end ≡ sessions.End) ⊎ (served.end ≡ sessions.NoMemory) }
+{}
+
+/// Where a run of `stations`, `import` or `notes` is done, or its output failed, and no fault of the cabinet was counted, no line tells that the
+/// journal failed. At every other status no line is written.
+pub fn where_no_fault_is_counted_no_line_tells_one<
+    S: Source,
+    K: Sink,
+    E: Sink,
+    C: Cabinet,
+    L: Doors,
+    P: Spawner,
+>()
+    ensures stations { (name : List ℕ) (status : ℕ) (before after : World S K E C L P)
+        → Runs C.Disk.Disk (told_by S.Source K.Sink E.Sink C.Cabinet L.Doors P.Spawner) (Stations name) status before after
+        → (status ≡ 0) ⊎ (status ≡ 3) → ¬ (Rose (C.faults before.cabinet) (C.faults after.cabinet))
+        → IsLoadedWell loading_ending StationsLoaded status
+        (told_by S.Source K.Sink E.Sink C.Cabinet L.Doors P.Spawner before) (told_by S.Source K.Sink E.Sink C.Cabinet L.Doors P.Spawner after) }
+    ensures import { (asked : ImportAsked) (status : ℕ) (before after : World S K E C L P)
+        → Runs C.Disk.Disk (told_by S.Source K.Sink E.Sink C.Cabinet L.Doors P.Spawner) (Import asked) status before after
+        → (status ≡ 0) ⊎ (status ≡ 3) → ¬ (Rose (C.faults before.cabinet) (C.faults after.cabinet))
+        → IsLoadedWell readings_ending (ReadingsLoaded asked) status
+        (told_by S.Source K.Sink E.Sink C.Cabinet L.Doors P.Spawner before) (told_by S.Source K.Sink E.Sink C.Cabinet L.Doors P.Spawner after) }
+    ensures notes { (asked : NotesAsked) (status : ℕ) (before after : World S K E C L P)
+        → Runs C.Disk.Disk (told_by S.Source K.Sink E.Sink C.Cabinet L.Doors P.Spawner) (Notes asked) status before after
+        → (status ≡ 0) ⊎ (status ≡ 3) → ¬ (Rose (C.faults before.cabinet) (C.faults after.cabinet))
+        → IsLoadedWell notes_ending (NotesLoaded asked) status
+        (told_by S.Source K.Sink E.Sink C.Cabinet L.Doors P.Spawner before) (told_by S.Source K.Sink E.Sink C.Cabinet L.Doors P.Spawner after) }
+{}
+
+/// A migration that is done met no fault: the cabinet's count is as before. So it is where other records stand under the other name, and where the
+/// records have no room.
+pub fn a_migration_that_is_done_met_no_fault<
+    S: Source,
+    K: Sink,
+    E: Sink,
+    C: Cabinet,
+    L: Doors,
+    P: Spawner,
+>()
+    ensures { (from to : List ℕ) (status : ℕ) (before after : World S K E C L P)
+        → Runs C.Disk.Disk (told_by S.Source K.Sink E.Sink C.Cabinet L.Doors P.Spawner) (Migrate from to) status before after
+        → (status ≡ 0) ⊎ ((status ≡ 11) ⊎ (status ≡ 12)) → C.faults after.cabinet ≡ C.faults before.cabinet }
+{}
+
+/// A migration that was stopped while it copied can be run again. Where the journal that it copies stands as it was, and under the other name what
+/// a stop left at some moment since the sync that began the copy, `migrate` has what it needs to be done, but for want of memory. An empty journal
+/// of the first format is left out, which may happen to stand where the journal was being made. A migration that is done began to copy.
+pub fn a_stopped_migration_can_be_run_again<
+    S: Source,
+    K: Sink,
+    E: Sink,
+    C: Cabinet,
+    L: Doors,
+    P: Spawner,
+>()
+    ensures begins { (from to : List ℕ) (before after : World S K E C L P)
+        → Runs C.Disk.Disk (told_by S.Source K.Sink E.Sink C.Cabinet L.Doors P.Spawner) (Migrate from to) 0 before after → from ≢ to
+        → TellsCopy C.Disk.Disk to (shelf C.Cabinet before.cabinet)
+        → BeginsToCopy C.Disk.Disk from to (shelf C.Cabinet before.cabinet) (shelf C.Cabinet after.cabinet) }
+    ensures stopped { (from to journal : List ℕ) (before after again : World S K E C L P)
+        (begun : BeginsToCopy C.Disk.Disk from to (shelf C.Cabinet before.cabinet) (shelf C.Cabinet after.cabinet)) → from ≢ to
+        → Has C.Disk.Disk from journal (shelf C.Cabinet before.cabinet)
+        → SyncsFirst C.Disk.Disk begun.copy.found begun.copy.left (λ image. image ≢ empty_journal First
+        → HasBoth C.Disk.Disk from to journal image (shelf C.Cabinet again.cabinet)
+        → IsReady C.Disk.Disk (Migrate from to) (told_by S.Source K.Sink E.Sink C.Cabinet L.Doors P.Spawner again)) }
 {}

@@ -12,6 +12,7 @@ mod loading;
 mod making;
 mod migrating;
 mod opening;
+pub mod repeats;
 mod sharing;
 mod tables;
 pub mod top;

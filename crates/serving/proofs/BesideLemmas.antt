@@ -1,14 +1,13 @@
 -- Connections that were served beside workers.
-use Rattle.std.proofs.Common.{◌≡◌, ◌≢◌, ℕ, zero, suc, ◌+◌, ◌-◌, ◌<◌, ◌≤◌, Bool, true, false, List, [], ◌∷◌, ◌++◌, length, take, Option, Some, None, sym, ap, ◌∙◌, refl, subst, append_assoc, append-nil, length-append, arith}
-use Rattle.std.specs.Prelude.{All, IsSomeAnd, if◌then◌else◌, slice_get, ℤ}
+use Rattle.std.proofs.Common.{◌≡◌, ℕ, ◌+◌, ◌-◌, ◌<◌, ◌≤◌, Bool, true, false, List, [], ◌∷◌, ◌++◌, length, take, Option, Some, None, sym, ap, ◌∙◌, refl, subst, append_assoc, append-nil, length-append, arith}
+use Rattle.std.specs.Prelude.{All, IsSomeAnd, if◌then◌else◌}
 use Rattle.std.specs.List.{AllByRecursion, concat}
 use Rattle.std.proofs.lemmas.List.Elements.{All-from_recursion, recursion_from_All}
 use mathlib.Core.List.{IsPrefix}
 use Rattle.desk.specs.Serving.{Served}
 use Rattle.devices.specs.Doors.{Ends}
 use Rattle.devices.specs.declared.disks.Disk.{Ghosts}
-use Rattle.fixed_units.specs.Quantities.{SiteNumber}
-use Rattle.history.specs.Events.{Event, Published}
+use Rattle.history.specs.Events.{Event}
 use Rattle.serving.specs.Crews.{IsWorkIn}
 use Rattle.serving.specs.Serving.{IsPublicationAt, ServedBeside}
 use Rattle.serving.specs.Taking.{AreServed}

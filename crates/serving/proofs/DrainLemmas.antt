@@ -1,22 +1,19 @@
 -- Where a worker found that the end was told and no day pending, publications alone stand behind what it found, and no day is pending then.
-use Rattle.std.proofs.Common.{◌≡◌, ◌≢◌, ℕ, ◌+◌, ◌-◌, ◌<◌, ◌≤◌, true, false, List, [], ◌∷◌, ◌++◌, length, map, filter, Option, Some, None, sym, ap, ◌∙◌, refl, subst, append_assoc, append-nil, length-append, arith}
+use Rattle.std.proofs.Common.{◌≡◌, ◌≢◌, ℕ, ◌+◌, ◌-◌, ◌<◌, ◌≤◌, true, List, [], ◌∷◌, ◌++◌, length, map, filter, Some, sym, ap, ◌∙◌, refl, subst, append_assoc, append-nil, length-append, arith}
 use Rattle.std.specs.Prelude.{slice_get, ℤ}
 use Rattle.std.specs.List.{AllByRecursion, concat}
-use Rattle.std.proofs.lemmas.List.Elements.{recursion_from_All}
 use Rattle.std.proofs.lemmas.Option.{slice_get_within}
 use mathlib.Core.List.{IsPrefix}
 use Rattle.devices.specs.declared.disks.Disk.{Ghosts}
 use Rattle.fixed_units.specs.Quantities.{SiteNumber}
-use Rattle.history.specs.After.{publication}
 use Rattle.history.specs.Awaited.{pending_days}
 use Rattle.history.specs.Events.{Event, Accepted, Published, Faulted}
 use Rattle.register.proofs.SettleLemmas.{is_other, pending_left}
 use Rattle.serving.specs.Crews.{IsWorkIn}
-use Rattle.serving.proofs.BesideLemmas.{work_at}
 use Rattle.serving.proofs.EventLemmas.{Adds, IsEventAt, all_weaker, get_here, times_behind}
 use Rattle.serving.proofs.WorkedLemmas.{IsPublished, tasks_add}
 use Rattle.shared_office.proofs.TaskLemmas.{events_more}
-use Rattle.shared_office.specs.Entries.{before_ending, events_in, has_ended}
+use Rattle.shared_office.specs.Entries.{events_in, has_ended}
 use Rattle.shared_office.specs.Holdings.{Holding, Follow, last_of}
 use Rattle.shared_office.specs.Passing.{Lock, fixed_in}
 use Rattle.shared_office.specs.Working.{IsDrained}

@@ -1,18 +1,15 @@
 -- No more replies of connections tell that the journal failed than faults have joined the list, since each fault has one place.
-use Rattle.std.proofs.Common.{◌≡◌, ◌⊎◌, ℕ, zero, suc, ◌+◌, ◌-◌, ◌<◌, ◌≤◌, List, [], ◌∷◌, ◌++◌, length, map, take, Option, Some, None, sym, ap, ◌∙◌, refl, subst, inl, inr, append_assoc, append-nil, length-append, arith}
-use Rattle.std.specs.Prelude.{IsSomeAnd, count_by, slice_get}
+use Rattle.std.proofs.Common.{◌≡◌, ◌⊎◌, ℕ, suc, ◌+◌, ◌-◌, ◌<◌, ◌≤◌, List, [], ◌∷◌, ◌++◌, length, map, take, Option, Some, None, sym, ap, ◌∙◌, refl, subst, inl, inr, append_assoc, append-nil, length-append, arith}
+use Rattle.std.specs.Prelude.{IsSomeAnd, slice_get}
 use Rattle.std.specs.List.{concat}
 use Rattle.std.proofs.lemmas.Bool.{cases_lt}
-use Rattle.std.proofs.lemmas.List.{length-map}
 use native.Mathlib.Decide.{ℕ_discrete}
 use mathlib.Core.List.{IsPrefix}
 use Rattle.desk.proofs.GrowthLemmas.{AllGrow}
 use Rattle.desk.proofs.SharedFaultLemmas.{fewer_before, replies_hold}
 use Rattle.desk.specs.Behind.{faults_added}
-use Rattle.desk.specs.Replies.{tells_fault}
 use Rattle.desk.specs.Serving.{Served}
 use Rattle.devices.specs.Doors.{Ends}
-use Rattle.history.specs.Events.{Event}
 use Rattle.office.proofs.CountLemmas.{fault_count-append}
 use Rattle.office.specs.Counting.{fault_count}
 use Rattle.serving.proofs.EventLemmas.{get_here}

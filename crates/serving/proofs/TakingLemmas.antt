@@ -1,5 +1,5 @@
 -- Connections that are taken in.
-use Rattle.std.proofs.Common.{◌≡◌, ◌≢◌, ℕ, zero, suc, ◌+◌, ◌<◌, ◌≤◌, List, [], ◌∷◌, ◌++◌, length, take, Option, Some, None, sym, ap, ◌∙◌, refl, subst, append_assoc, append-nil, length-append, arith}
+use Rattle.std.proofs.Common.{◌≡◌, ℕ, zero, suc, ◌+◌, ◌<◌, ◌≤◌, List, [], ◌∷◌, ◌++◌, length, take, Option, Some, None, sym, ap, ◌∙◌, refl, subst, append_assoc, append-nil, length-append, arith}
 use Rattle.std.specs.Prelude.{IsSomeAnd}
 use Rattle.std.specs.List.{concat}
 use mathlib.Core.List.{IsPrefix}
@@ -9,7 +9,7 @@ use Rattle.devices.specs.declared.disks.Disk.{Ghosts}
 use Rattle.serving.specs.Connections.{IsConnection, IsSplitOff}
 use Rattle.serving.specs.Taking.{AreServed, AreTasked, IsTaken}
 use Rattle.serving.proofs.CrewLemmas.{follow_in, follow_out}
-use Rattle.shared_office.specs.Holdings.{Holding, Follow, places_of}
+use Rattle.shared_office.specs.Holdings.{Follow, places_of}
 use Rattle.shared_office.specs.Passing.{Lock, PassTo, fixed_in}
 use Rattle.shared_office.specs.declared.entries.Entry.{Entry}
 use Rattle.shared_office.specs.declared.entries.Fixed.{Fixed}

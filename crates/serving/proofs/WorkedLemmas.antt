@@ -1,5 +1,5 @@
 -- What sessions and workers add.
-use Rattle.std.proofs.Common.{◌≡◌, ◌⊎◌, ◌++◌, ℕ, zero, suc, inl, inr, List, [], ◌∷◌, ◌∙◌, ap, refl, subst, sym, append-nil, Option}
+use Rattle.std.proofs.Common.{◌≡◌, ℕ, zero, suc, inl, inr, List, [], ◌∷◌, ◌∙◌, ap, refl, subst, sym, append-nil, Option}
 use Rattle.std.specs.Prelude.{All, Result, Ok, Err, ℤ, ⊤}
 use Rattle.std.specs.List.{AllByRecursion}
 use Rattle.std.proofs.lemmas.List.Elements.{recursion_from_All}

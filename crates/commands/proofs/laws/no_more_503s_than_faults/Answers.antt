@@ -1,4 +1,4 @@
-use Rattle.commands.proofs.FailingLemmas.{alone_counted, beside_counted, serve_counted}
+use Rattle.commands.proofs.FailingLemmas.{alone_counted, beside_counted, line_counted, lines_counted, serve_counted}
 use Rattle.commands.proofs.laws.no_more_503s_than_faults.Goals as goal
 
 pub returns-clause-alone : goal.returns-clause-alone
@@ -9,3 +9,9 @@ returns-clause-beside g c = beside_counted g.D.Disk
 
 pub returns-clause-serve : goal.returns-clause-serve
 returns-clause-serve g c = serve_counted g.D.Disk
+
+pub returns-clause-lines : goal.returns-clause-lines
+returns-clause-lines g c = lines_counted g.D.Disk
+
+pub returns-clause-line : goal.returns-clause-line
+returns-clause-line g c = line_counted g.D.Disk

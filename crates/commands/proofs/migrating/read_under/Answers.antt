@@ -1,5 +1,5 @@
 use Rattle.std.proofs.Common.{inl, false}
-use Rattle.commands.proofs.HandledLemmas.{both_ok, handled_under}
+use Rattle.commands.proofs.HandledLemmas.{all_ok, handled_under}
 use Rattle.commands.proofs.PlaceLemmas.{taken_out}
 use Rattle.commands.specs.Migrating.{AreReadOf, IsLeftUnread}
 use Rattle.commands.specs.Worlds.{shelf}
@@ -14,10 +14,10 @@ pub returns-in-Disk-clause-read : goal.returns-in-Disk-clause-read
 returns-in-Disk-clause-read g c =
     let read = c.read_records-read in
     let opened = c.in-Disk.ensures in
-    both_ok read.result.0 _ _ _ read.ensures.read read.ensures.synced (λ records stood synced.
+    all_ok read.result.0 _ _ _ _ read.ensures.read read.ensures.synced read.ensures.done (λ records stood synced well.
     handled_under g.C.Disk.Disk c.args.name.now false (AreReadOf g.C.Disk.Disk records.items) (shelf g.C.Cabinet c.args.cabinet.now) (shelf g.C.Cabinet c.open.new.self)
     (shelf g.C.Cabinet c.keep.new.self) c.in-Disk.disk read.result.1 opened.opened opened.fresh opened.cause
-    (record { stood = stood; same = read.ensures.same; any_moment = synced }) c.keep.ensures.kept c.keep.ensures.counted)
+    (record { stood = stood; same = read.ensures.same; any_moment = synced; well = well }) c.keep.ensures.kept c.keep.ensures.counted)
 
 pub returns-in-Disk-clause-refused : goal.returns-in-Disk-clause-refused
 returns-in-Disk-clause-refused g c =

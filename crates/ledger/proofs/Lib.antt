@@ -1,0 +1,4 @@
+pub mod JoinLemmas
+pub mod ReadLemmas
+pub mod RowLemmas
+pub mod RunLemmas

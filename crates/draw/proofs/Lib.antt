@@ -1,0 +1,5 @@
+pub mod FieldLemmas
+pub mod JoinLemmas
+pub mod RowLemmas
+pub mod RunLemmas
+pub mod TextLemmas

@@ -1,0 +1,11 @@
+pub mod Curves
+pub mod Dates
+pub mod Elements
+pub mod Endings
+pub mod Frames
+pub mod Hydrographs
+pub mod Marks
+pub mod Rows
+pub mod Runs
+pub mod Spreads
+pub mod Tables

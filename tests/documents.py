@@ -10,7 +10,7 @@ column is headed `Request` has the lines of that output, or else the bodies of t
 last before it; one that is `below` is the next plain block. Any other plain block in a document that names sessions has to be a whole request, the body
 of one, or a whole reply of the session that was named last before it, or of the first one where none was: its lines without the CR that HTTP has in a head.
 
-Not played, and told with their lines: blocks that ask `rt`, `git` or `bring`, that name a user of the machine or that run a script of `tests`, the plain block behind
+Not played, and told with their lines: blocks that ask `rt`, `git`, `bring`, `ledger` or `draw`, that name a user of the machine or that run a script of `tests`, the plain block behind
 such a block, blocks of any other kind (files of settings), and plain blocks in a document without sessions that follow no run (drawings).
 What the text says between the blocks is not compared, nor are tables of another first column. The script ends with status 1 at the first text that does
 not come; it takes seconds, and needs curl.
@@ -30,7 +30,7 @@ TOP = pathlib.Path(__file__).resolve().parent.parent
 PLAYED = ("README.md", "docs/TOUR.md", "docs/HTTP.md", "docs/OPERATING.md")
 EMPTY = TOP / "examples/empty_journal"
 # What a block asks for that is not run.
-ELSEWHERE = re.compile(r"^\s*(\w+=\S+ )*(\S+ \| |\()?(rt|git|cd|bring|useradd) |tests/", re.M)
+ELSEWHERE = re.compile(r"^\s*(\w+=\S+ )*(\S+ \| |\()?(rt|git|cd|bring|ledger|draw|useradd) |tests/", re.M)
 
 
 def parts(text):
